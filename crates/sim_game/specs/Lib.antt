@@ -1,0 +1,5 @@
+pub mod Model
+pub mod Resolution
+pub mod Sides
+pub use Rattle.sums.specs.Sums
+pub use Rattle.sums.specs.Quotients

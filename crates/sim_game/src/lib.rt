@@ -1,0 +1,169 @@
+//! Finite two-player zero-sum games in which both players move at once.
+#![tactic(auto)]
+
+ghost use Rattle.std.specs.Prelude.{◌≡◌, ℕ, ◌<◌, ◌≤◌, pos};
+ghost use Rattle.sim_game.specs.Model.{GameModel, IsGame, IsEnd, Reachable};
+ghost use Rattle.sim_game.specs.Resolution.{IsLeastGap, IsResolution};
+
+mod sides;
+
+pub use sides::{end_bound, opening_bound};
+use std::alloc::{AllocError, AllocFailed};
+
+/// How many parts a payoff of 1 has in a bound.
+pub const SCALE: i64 = 1000000;
+
+/// What the weights of the draws of one pair of moves sum to.
+pub const CHANCE: u32 = 360360;
+
+/// There was no memory.
+#[derive(Clone, Copy, PartialEq, Eq, Debug)]
+pub struct NoMemory;
+
+impl From<AllocError> for NoMemory {
+    fn from(_e: AllocError) -> NoMemory {
+        NoMemory
+    }
+}
+
+impl<T: Drop> From<AllocFailed<T>> for NoMemory {
+    fn from(_e: AllocFailed<T>) -> NoMemory {
+        NoMemory
+    }
+}
+
+/// A player.
+#[derive(Clone, Copy, PartialEq, Eq, Debug)]
+pub enum Side {
+    One,
+    Two,
+}
+
+/// A game: a root, and what follows each pair of moves and each draw. A state is the root or what `drawn` makes
+/// of one; no call refuses, and none takes memory.
+pub trait Game: Copy {
+    type State: Copy + Eq;
+
+    /// The game that the calls speak of.
+    ghost model: { Self → GameModel Self.State };
+
+    /// The position itself.
+    fn root(&self) -> Self::State
+        ensures { result ≡ (model self.now).root };
+
+    /// How many moves a side has, numbered from 0: none at an end, else 1 to `width`.
+    fn moves(&self, side: Side, s: Self::State) -> u32
+        requires { Reachable (model self.now) s }
+        ensures { result ≡ (model self.now).moves side s };
+
+    /// The state after both moves, and the first draw where there are several.
+    fn next(&self, s: Self::State, a: u32, b: u32) -> Self::State
+        requires reachable { Reachable (model self.now) s }
+        requires one { a < (model self.now).moves Side.One s }
+        requires two { b < (model self.now).moves Side.Two s }
+        ensures { result ≡ (model self.now).drawn s a b 0 };
+
+    /// What One gets at an end, from `low` to `high`; Two gets its negative.
+    fn payoff(&self, s: Self::State) -> i32
+        requires reachable { Reachable (model self.now) s }
+        requires end { IsEnd (model self.now) s }
+        ensures { result ≡ (model self.now).payoff s };
+
+    /// The rank, 0 to 31: 0 exactly at an end, and lower after each turn.
+    fn rank(&self, s: Self::State) -> u32
+        requires { Reachable (model self.now) s }
+        ensures { result ≡ (model self.now).rank s };
+
+    /// The key, below 2^63. No two states of the game have one key.
+    fn key(&self, s: Self::State) -> u64
+        requires { Reachable (model self.now) s }
+        ensures { result ≡ (model self.now).key s };
+
+    /// The least payoff, at least -4000.
+    fn low(&self) -> i32
+        ensures { result ≡ (model self.now).low };
+
+    /// The greatest payoff, at most 4000.
+    fn high(&self) -> i32
+        ensures { result ≡ (model self.now).high };
+
+    /// An upper limit on the moves of a side, 1 to 32.
+    fn width(&self) -> u32
+        ensures { result ≡ (model self.now).width };
+
+    /// The card, bid or direction of a move.
+    fn label(&self, side: Side, s: Self::State, i: u32) -> u8
+        requires reachable { Reachable (model self.now) s }
+        requires place { i < (model self.now).moves side s }
+        ensures { result ≡ (model self.now).label side s i };
+
+    /// Whether no pair of moves has more than one draw.
+    fn chance_free(&self) -> bool
+        ensures { result ≡ (model self.now).chance_free };
+
+    /// The number of draws after a pair of moves, 1 to 13.
+    fn draws(&self, s: Self::State, a: u32, b: u32) -> u32
+        requires reachable { Reachable (model self.now) s }
+        requires one { a < (model self.now).moves Side.One s }
+        requires two { b < (model self.now).moves Side.Two s }
+        ensures { result ≡ (model self.now).draws s a b };
+
+    /// The weight of a draw, at least 1. The weights after one pair of moves sum to `CHANCE`.
+    fn chance(&self, s: Self::State, a: u32, b: u32, d: u32) -> u32
+        requires reachable { Reachable (model self.now) s }
+        requires one { a < (model self.now).moves Side.One s }
+        requires two { b < (model self.now).moves Side.Two s }
+        requires draw { d < (model self.now).draws s a b }
+        ensures { result ≡ (model self.now).chance s a b d };
+
+    /// The state after both moves and a draw.
+    fn drawn(&self, s: Self::State, a: u32, b: u32, d: u32) -> Self::State
+        requires reachable { Reachable (model self.now) s }
+        requires one { a < (model self.now).moves Side.One s }
+        requires two { b < (model self.now).moves Side.Two s }
+        requires draw { d < (model self.now).draws s a b }
+        ensures { result ≡ (model self.now).drawn s a b d };
+
+    ghost lawful: { (g : Self) → IsGame (model g) };
+}
+
+/// The gap, in millionths of a payoff, that a search with stages of this weight reaches at the root.
+pub fn resolution<G: Game>(g: G, weight: u32) -> i64
+    requires low { 8192 ≤ weight }
+    requires high { weight ≤ 1048576 }
+    ensures { (n : ℕ) × (result ≡ pos n) × IsResolution (G.model g) weight n }
+{
+    let gap = least_gap(g.width(), (g.high() - g.low()).unsigned_abs(), weight);
+    let rounding: u64 = if g.chance_free() { 1 } else { 2 };
+    let rank = g.rank(g.root());
+    (rank as u64 * (gap as u64 + rounding)) as i64
+}
+
+/// The least gap for which the stage law holds at this width and range of payoffs, by bisection.
+fn least_gap(width: u32, range: u32, weight: u32) -> u32
+    requires width { width ≤ 32 }
+    requires range { range ≤ 8000 }
+    requires low { 8192 ≤ weight }
+    requires high { weight ≤ 1048576 }
+    ensures least { IsLeastGap width range weight result }
+    ensures small { result ≤ 1073741824 }
+{
+    let span = range as u128 * SCALE as u128;
+    let need = 2 * width as u128 * span * span;
+    let mut low: u32 = 0;
+    let mut high: u32 = 1073741824;
+    while low < high {
+        let mid = low + (high - low) / 2;
+        if weight as u128 * mid as u128 * mid as u128 >= need {
+            high = mid;
+        } else {
+            low = mid + 1;
+        }
+    }
+    low
+}
+
+/// A game keeps its laws.
+pub fn keeps_laws<G: Game>(_g: &G)
+    ensures { IsGame (G.model _g.now) }
+{}

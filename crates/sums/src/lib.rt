@@ -1,0 +1,38 @@
+//! Sums over the numbers below a bound, products by weights, and quotients, in whole numbers.
+#![tactic(auto)]
+
+ghost use Rattle.std.specs.Prelude.{◌≡◌, ◌*◌, ◌≤◌, pos, neg_ℤ, ◌*ℤ◌, ◌<ℤ◌, unsigned_abs};
+ghost use Rattle.sums.specs.Quotients.{floor_quotient, ceiling_quotient};
+
+/// The greatest weight of a move.
+pub const MOST_WEIGHT: u32 = 1_048_576;
+
+/// The greatest size of a bound, in millionths of a payoff.
+pub const MOST_BOUND: u64 = 4_000_000_000;
+
+/// A weight's part of a sum.
+pub fn weighted(weight: u32, bound: i64) -> i64
+    requires light { weight ≤ 1048576 }
+    requires small { unsigned_abs bound ≤ 4000000000 }
+    ensures value { result ≡ pos weight *ℤ bound }
+    ensures small { unsigned_abs result ≤ 4194304000000000 }
+{
+    i64::from(weight) * bound
+}
+
+/// The quotient by a positive number, rounded down.
+pub fn floor_quotient(x: i64, divisor: u32) -> i64
+    requires { 1 ≤ divisor }
+    ensures { result ≡ floor_quotient divisor x }
+{
+    x.div_euclid(i64::from(divisor))
+}
+
+/// The quotient by a positive number, rounded up.
+pub fn ceiling_quotient(x: i64, divisor: u32) -> i64
+    requires positive { 1 ≤ divisor }
+    requires negatable { neg_ℤ (pos 9223372036854775808) <ℤ x }
+    ensures { result ≡ ceiling_quotient divisor x }
+{
+    -(-x).div_euclid(i64::from(divisor))
+}

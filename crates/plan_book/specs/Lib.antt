@@ -1,0 +1,10 @@
+pub mod Backed
+pub mod Books
+pub mod Children
+pub mod Entries
+pub mod Expected
+pub mod Gathered
+pub mod Plans
+pub mod Serial
+pub mod Sheets
+pub mod Steps

@@ -1,8 +1,22 @@
 //! Plans for games of simultaneous moves, the bounds that they guarantee, and the books that they are made from.
 #![tactic(auto)]
 
+ghost use Rattle.std.specs.Prelude.{◌≡◌, ◌≤◌, ℤ, ◌≤ℤ◌};
+ghost use Rattle.sim_game.specs.Model.{Reachable};
+ghost use Rattle.plan_book.specs.Backed.{IsBacked};
+ghost use Rattle.plan_book.specs.Expected.{Guarantees};
+ghost use Rattle.plan_book.specs.Plans.{Plan};
+ghost use Rattle.plan_book.specs.Serial.{serial_bound};
+ghost use Rattle.plan_book.specs.Sheets.{IsLawful, bound_at, plan_of, root_bound};
+
+mod book;
+mod bounds;
+mod gather;
+
+pub use book::Book;
+pub use bounds::{bound_of, place_of};
 use seq::Seq;
-use sim_game::Side;
+use sim_game::{Game, Side};
 
 /// A bound of a side at the state of a key, in millionths of a payoff, with what proves it: the weights of the own
 /// moves, and the numbers at the children.
@@ -33,3 +47,36 @@ pub struct Sheet {
     pub total: u32,
     pub rows: Seq<SheetRow>,
 }
+
+/// A lawful sheet guarantees its bound at the root against every plan of the other side.
+pub fn sheet_guarantees<G: Game>(_g: &G, _sheet: &Sheet)
+    requires { IsLawful (G.model _g.now) _sheet.now }
+    ensures { let m = G.model _g.now in
+        Guarantees m _sheet.now.side (plan_of _sheet.now) (root_bound m _sheet.now) }
+{}
+
+/// What a plan of One guarantees is at most what a plan of Two guarantees.
+pub fn guarantees_meet<G: Game>(_g: &G)
+    ensures { let m = G.model _g.now in
+        (one two : Plan) (lower upper : ℤ) → 1 ≤ one.total → 1 ≤ two.total → Guarantees m Side.One one lower → Guarantees m Side.Two two upper → lower ≤ℤ upper }
+{}
+
+/// A backed bound of One is at most a backed bound of Two.
+pub fn backed_meet<G: Game>(_g: &G, _s: G::State)
+    requires { Reachable (G.model _g.now) _s }
+    ensures { let m = G.model _g.now in
+        (lower upper : ℤ) → IsBacked m Side.One _s lower → IsBacked m Side.Two _s upper → lower ≤ℤ upper }
+{}
+
+/// The serial bound of a side is backed.
+pub fn serial_backed<G: Game>(_g: &G, _side: Side, _s: G::State)
+    requires { Reachable (G.model _g.now) _s }
+    ensures { IsBacked (G.model _g.now) _side _s (serial_bound (G.model _g.now) _side _s) }
+{}
+
+/// Each bound of a lawful sheet is backed.
+pub fn sheet_backed<G: Game>(_g: &G, _sheet: &Sheet, _s: G::State)
+    requires lawful { IsLawful (G.model _g.now) _sheet.now }
+    requires reachable { Reachable (G.model _g.now) _s }
+    ensures { IsBacked (G.model _g.now) _sheet.now.side _s (bound_at (G.model _g.now) _sheet.now.side _sheet.now.rows _s) }
+{}

@@ -2,12 +2,12 @@
 use Rattle.std.proofs.Common.{◌≡◌, ◌⊎◌, ⊎_elim, ℕ, zero, suc, ◌<◌, ◌≤◌, ℤ, pos, ◌*ℤ◌, ◌≤ℤ◌, ◌<ℤ◌, sym, subst, arith}
 use Rattle.std.proofs.lemmas.Int.{ints, clamps}
 use Rattle.sums.specs.Sums.{sum_below}
-use Rattle.sums.proofs.IntegerLemmas.{int_le_refl, int_le_trans, times_mono, times_cancel}
+use Rattle.sums.proofs.IntegerLemmas.{int_le_refl, int_le_trans, times_mono, times_cancel, times_floor, floor_greatest, times_ceiling, ceiling_least}
 use Rattle.sums.proofs.SumLemmas.{sum_mono}
 use Rattle.sim_game.specs.declared.Side.{Side}
 use Rattle.sim_game.specs.declared.Side.TheVariants.{One, Two}
 use Rattle.sim_game.specs.Model.{GameModel, IsGame, IsTurn, IsEnd, Reachable, bound_scale}
-use Rattle.sim_game.specs.Sides.{other_side, IsNoTighter, IsTighter, better, opening_bound, end_bound, turn_of, draws_of}
+use Rattle.sim_game.specs.Sides.{other_side, IsNoTighter, IsTighter, better, quotient, opening_bound, end_bound, turn_of, draws_of}
 
 -- ---- no tighter
 pub looser_refl : (side : Side) (x : ℤ) → IsNoTighter side x x
@@ -49,6 +49,17 @@ looser_weighted side (suc k) x y h = looser_times side (suc k) x y (h (omega ari
 pub flip_side : (side : Side) (x y : ℤ) → IsNoTighter (other_side side) x y → IsNoTighter side y x
 flip_side One x y h = h
 flip_side Two x y h = h
+
+-- ---- quotients
+-- the quotient, times the divisor, says no more than the number
+pub looser_quotient : (side : Side) (k : ℕ) (x : ℤ) → 0 < k → IsNoTighter side (pos k *ℤ quotient side k x) x
+looser_quotient One k x p = times_floor k x p
+looser_quotient Two k x p = times_ceiling k x p
+
+-- and each bound whose product says no more is no tighter
+pub quotient_tightest : (side : Side) (k : ℕ) (x bound : ℤ) → 0 < k → IsNoTighter side (pos k *ℤ bound) x → IsNoTighter side bound (quotient side k x)
+quotient_tightest One k x bound p h = floor_greatest k x bound p h
+quotient_tightest Two k x bound p h = ceiling_least k x bound p h
 
 -- ---- the better of two
 pub better_cases : (side : Side) (x y : ℤ) → (better side x y ≡ x) ⊎ (better side x y ≡ y)
@@ -119,6 +130,11 @@ worse_is Two x y h = omega (arith, ints, clamps)
 pub better_is : (side : Side) (x y : ℤ) → IsNoTighter side y x → better side x y ≡ x
 better_is One x y h = omega (arith, ints, clamps)
 better_is Two x y h = omega (arith, ints, clamps)
+
+-- and the second where the first is
+pub better_other : (side : Side) (x y : ℤ) → IsNoTighter side x y → better side x y ≡ y
+better_other One x y h = omega (arith, ints, clamps)
+better_other Two x y h = omega (arith, ints, clamps)
 
 -- ---- of a game
 -- the opening bounds are not crossed

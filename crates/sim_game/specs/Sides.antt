@@ -1,6 +1,7 @@
 -- What differs between the two players: whose move is whose, and which way a bound points.
 use Rattle.std.specs.Prelude.{ℕ, ℤ, pos, ◌*ℤ◌, ◌≤ℤ◌, ◌<ℤ◌}
 use Rattle.std.specs.Int.{int_max, int_min}
+use Rattle.sums.specs.Quotients.{floor_quotient, ceiling_quotient}
 use Rattle.sim_game.specs.declared.Side.{Side}
 use Rattle.sim_game.specs.declared.Side.TheVariants.{One, Two}
 use Rattle.sim_game.specs.Model.{GameModel, Turn, bound_scale}
@@ -24,6 +25,11 @@ IsTighter Two bound other = bound <ℤ other
 abbrev pub better : Side → ℤ → ℤ → ℤ
 better One x y = int_max x y
 better Two x y = int_min x y
+
+-- the quotient by a positive number, rounded so that it says no more for the side
+abbrev pub quotient : Side → ℕ → ℤ → ℤ
+quotient One k x = floor_quotient k x
+quotient Two k x = ceiling_quotient k x
 
 -- what holds of every value, by the range of payoffs
 abbrev pub opening_bound : {S : Type 0} → GameModel S → Side → ℤ

@@ -1,10 +1,11 @@
 //! What differs between the two players.
 
-ghost use Rattle.std.specs.Prelude.{◌≡◌, MatchBool};
+ghost use Rattle.std.specs.Prelude.{◌≡◌, ◌≤◌, ◌<ℤ◌, pos, neg_ℤ, MatchBool};
 ghost use Rattle.sim_game.specs.Model.{Reachable, IsEnd};
-ghost use Rattle.sim_game.specs.Sides.{IsNoTighter, IsTighter, better, other_side, opening_bound, end_bound, move_of_one, move_of_two};
+ghost use Rattle.sim_game.specs.Sides.{IsNoTighter, IsTighter, better, quotient, other_side, opening_bound, end_bound, move_of_one, move_of_two};
 
 use crate::{Game, SCALE, Side};
+use sums::{ceiling_quotient, floor_quotient};
 
 impl Side {
     pub fn other(self) -> Side
@@ -33,6 +34,18 @@ impl Side {
         match self {
             Side::One => x.max(y),
             Side::Two => x.min(y),
+        }
+    }
+
+    /// The quotient by a positive number, rounded so that it says no more for the side: down for One, up for Two.
+    pub fn quotient(self, x: i64, divisor: u32) -> i64
+        requires positive { 1 ≤ divisor }
+        requires negatable { neg_ℤ (pos 9223372036854775808) <ℤ x }
+        ensures { result ≡ quotient self divisor x }
+    {
+        match self {
+            Side::One => floor_quotient(x, divisor),
+            Side::Two => ceiling_quotient(x, divisor),
         }
     }
 

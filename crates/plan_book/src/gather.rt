@@ -1,0 +1,208 @@
+//! The states that the best entries of a book reach.
+
+ghost use Rattle.std.specs.Prelude.{◌≡◌, ◌<◌, ◌≤◌, ◌++◌, ◌&&◌, length, IfOk, OnOk, option_and_then, slice_get};
+ghost use Rattle.std.specs.Option.{ForSome};
+ghost use Rattle.std.specs.Ordering.{nat_cmp};
+ghost use Rattle.std.specs.BTreeMap.{get, keys, IsOrdered};
+ghost use Rattle.std.specs.List.{filter_map};
+ghost use Rattle.sim_game.specs.Model.{Reachable};
+ghost use Rattle.plan_book.specs.Children.{children_of_pair, children_of_move, children_of};
+ghost use Rattle.plan_book.specs.Books.{ArePlaces, AreFit, is_tighter, same_side, beats, best_row, row_of, IsBestSheet};
+ghost use Rattle.plan_book.specs.Gathered.{IsGathered};
+ghost use Rattle.plan_book.specs.Sheets.{IsReached};
+ghost use Rattle.sim_game.specs.Sides.{other_side};
+
+use crate::{Entry, Sheet, SheetRow};
+use seq::Seq;
+use sim_game::{Game, NoMemory, Side};
+use std::alloc::Global;
+use std::collections::BTreeMap;
+
+/// Whether a bound is tighter than another.
+fn is_tighter(side: Side, bound: i64, other: i64) -> bool
+    ensures { result ≡ is_tighter side bound other }
+{
+    match side {
+        Side::One => bound > other,
+        Side::Two => bound < other,
+    }
+}
+
+/// Whether an entry is of the side and tighter than the one at the place, if there is one.
+fn is_better(side: Side, entries: &[Entry], place: Option<usize>, e: &Entry) -> bool
+    requires { ForSome place (λ i. i < length entries.now) }
+    ensures { result ≡ (same_side e.now.side side && beats side e.now (option_and_then (slice_get entries.now) place)) }
+{
+    match (e.side, side) {
+        (Side::One, Side::One) | (Side::Two, Side::Two) => match place {
+            Some(i) => is_tighter(side, e.bound, entries[i].bound),
+            None => true,
+        },
+        _ => false,
+    }
+}
+
+/// The places of the best entries of a side, by key.
+pub fn best_places(
+    alloc: Global,
+    entries: &[Entry],
+    side: Side,
+) -> Result<BTreeMap<u64, usize>, NoMemory>
+    ensures { IfOk result (λ places. ArePlaces side entries.now (get nat_cmp places)) }
+{
+    let mut best: BTreeMap<u64, usize> = BTreeMap::new(alloc);
+    for (i, e) in entries.iter().enumerate() {
+        if is_better(side, entries, best.get(&e.key).copied(), e) {
+            best.insert(e.key, i)?;
+        }
+    }
+    Ok(best)
+}
+
+/// Adds the states after an own move and a reply.
+fn add_pair<G: Game>(
+    g: G,
+    side: Side,
+    s: G::State,
+    own: u32,
+    reply: u32,
+    children: &mut Vec<G::State>,
+) -> Result<(), NoMemory>
+    requires reachable { Reachable (G.model g) s }
+    requires own { own < (G.model g).moves side s }
+    requires reply { reply < (G.model g).moves (other_side side) s }
+    ensures { IfOk result (λ _. children.new.items ≡ children.old.items ++ children_of_pair (G.model g) side s own reply) }
+{
+    let a = side.move_of_one(own, reply);
+    let b = side.move_of_two(own, reply);
+    for d in 0..g.draws(s, a, b) {
+        children.push(g.drawn(s, a, b, d))?;
+    }
+    Ok(())
+}
+
+/// Adds the states after an own move.
+fn add_move<G: Game>(
+    g: G,
+    side: Side,
+    s: G::State,
+    own: u32,
+    children: &mut Vec<G::State>,
+) -> Result<(), NoMemory>
+    requires reachable { Reachable (G.model g) s }
+    requires own { own < (G.model g).moves side s }
+    ensures { IfOk result (λ _. children.new.items ≡ children.old.items ++ children_of_move (G.model g) side s own) }
+{
+    for reply in 0..g.moves(side.other(), s) {
+        add_pair(g, side, s, own, reply, children)?;
+    }
+    Ok(())
+}
+
+/// The states after the own moves of positive weight.
+fn children<G: Game>(
+    alloc: Global,
+    g: G,
+    side: Side,
+    weights: &[u32],
+    s: G::State,
+) -> Result<Vec<G::State>, NoMemory>
+    requires reachable { Reachable (G.model g) s }
+    requires weights { length weights.now ≡ (G.model g).moves side s }
+    ensures { IfOk result (λ children. children.items ≡ children_of (G.model g) side weights.now s) }
+{
+    let mut children = Vec::new(alloc);
+    for own in 0..g.moves(side, s) {
+        if weights[own as usize] > 0 {
+            add_move(g, side, s, own, &mut children)?;
+        }
+    }
+    Ok(children)
+}
+
+/// Finds the states with a row that the best entries reach from a state.
+pub fn gather<G: Game>(
+    alloc: Global,
+    g: G,
+    side: Side,
+    entries: &[Entry],
+    best: &BTreeMap<u64, usize>,
+    s: G::State,
+    found: &mut BTreeMap<u64, usize>,
+) -> Result<(), NoMemory>
+    requires reached { IsReached (G.model g) side (best_row side entries.now) s }
+    requires fit { AreFit (G.model g) side entries.now }
+    requires places { ArePlaces side entries.now (get nat_cmp best.now) }
+    ensures { IfOk result (λ _. IsGathered (G.model g) side (best_row side entries.now) s (get nat_cmp found.old) (get nat_cmp found.new)) }
+{
+    let key = g.key(s);
+    let Some(&place) = best.get(&key) else {
+        return Ok(());
+    };
+    if found.contains_key(&key) {
+        return Ok(());
+    }
+    found.insert(key, place)?;
+    let below = children(alloc, g, side, entries[place].weights.as_slice(), s)?;
+    for child in &below {
+        gather(alloc, g, side, entries, best, *child, found)?;
+    }
+    Ok(())
+}
+
+/// The rows of the best entries at the keys found, in key order.
+pub fn rows_of(
+    alloc: Global,
+    side: Side,
+    entries: &[Entry],
+    best: &BTreeMap<u64, usize>,
+    found: &BTreeMap<u64, usize>,
+) -> Result<Vec<SheetRow>, NoMemory>
+    requires { ArePlaces side entries.now (get nat_cmp best.now) }
+    ensures rows { IfOk result (λ rows. rows.items ≡ filter_map (best_row side entries.now) (keys found.now)) }
+    ensures ordered { OnOk result (IsOrdered nat_cmp found.now) }
+{
+    let mut rows = Vec::new(alloc);
+    for key in found.keys() {
+        if let Some(&place) = best.get(key) {
+            rows.push(row_of(alloc, &entries[place])?)?;
+        }
+    }
+    Ok(rows)
+}
+
+/// An entry as a row.
+fn row_of(alloc: Global, e: &Entry) -> Result<SheetRow, NoMemory>
+    ensures { IfOk result (λ row. row ≡ row_of e.now) }
+{
+    let weights = Seq::from_vec(Vec::from_slice(alloc, e.weights.as_slice())?);
+    Ok(SheetRow {
+        key: e.key,
+        bound: e.bound,
+        weights,
+    })
+}
+
+/// The sheet of the best entries.
+pub fn best_sheet<G: Game>(
+    alloc: Global,
+    g: G,
+    side: Side,
+    total: u32,
+    entries: &[Entry],
+) -> Result<Sheet, NoMemory>
+    requires { AreFit (G.model g) side entries.now }
+    ensures side { IfOk result (λ sheet. sheet.side ≡ side) }
+    ensures total { IfOk result (λ sheet. sheet.total ≡ total) }
+    ensures best { IfOk result (λ sheet. IsBestSheet (G.model g) side entries.now sheet.rows) }
+{
+    let best = best_places(alloc, entries, side)?;
+    let mut found: BTreeMap<u64, usize> = BTreeMap::new(alloc);
+    gather(alloc, g, side, entries, &best, g.root(), &mut found)?;
+    let rows = rows_of(alloc, side, entries, &best, &found)?;
+    Ok(Sheet {
+        side,
+        total,
+        rows: Seq::from_vec(rows),
+    })
+}

@@ -1,0 +1,52 @@
+//! The rows of a plain board.
+ghost use Rattle.std.specs.Prelude.{◌≡◌, ℕ, ◌≤◌, ◌<◌, ◌^◌, length, Some, IfSome, IfNone, IfOk, replicate};
+ghost use Rattle.bounds_board.specs.Slots.{IsOther, IsPlace, IsMet, key_in};
+
+use sim_game::Side;
+
+/// A row: its key, or none while it is free, and its two bounds.
+#[derive(Clone, Copy, Drop)]
+pub struct Slot {
+    pub key: Option<u64>,
+    pub lower: i64,
+    pub upper: i64,
+}
+
+/// The first row from the key's home that is free or has the key.
+pub(crate) fn find_place(slots: &[Slot], key: u64) -> Option<u32>
+    requires rows_low { 1 ≤ length slots.now }
+    requires rows_high { length slots.now ≤ 1048576 }
+    ensures some { IfSome result (IsPlace slots.now key) }
+    ensures none { IfNone result ((row : ℕ) → row < length slots.now → IsOther slots.now key row) }
+{
+    let rows = slots.len() as u64;
+    let home = key % rows;
+    for tried in 0..rows {
+        let row = (home + tried) % rows;
+        match slots[row as usize].key {
+            Some(held) => {
+                if held == key {
+                    return Some(row as u32);
+                }
+            }
+            None => return Some(row as u32),
+        }
+    }
+    None
+}
+
+/// The slot with the bound of the side at least as tight as this one.
+pub(crate) fn met(slot: Slot, side: Side, bound: i64) -> Slot
+    ensures { IsMet side bound slot result }
+{
+    match side {
+        Side::One => Slot {
+            lower: side.better(bound, slot.lower),
+            ..slot
+        },
+        Side::Two => Slot {
+            upper: side.better(bound, slot.upper),
+            ..slot
+        },
+    }
+}

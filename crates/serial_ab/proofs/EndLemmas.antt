@@ -1,0 +1,51 @@
+-- How a serial search ends, by the number that was found.
+use Rattle.std.proofs.Common.{◌≡◌, ◌≢◌, ◌≤◌, ℤ, ◌≤ℤ◌, ◌<ℤ◌, sym, subst, ◌∙◌, arith}
+use Rattle.std.proofs.lemmas.Int.{ints}
+use Rattle.sim_game.specs.declared.Side.{Side}
+use Rattle.sim_game.specs.declared.Side.TheVariants.{One, Two}
+use Rattle.sim_game.specs.Model.{GameModel, IsGame, Reachable}
+use Rattle.sim_game.specs.Sides.{IsNoTighter, opening_bound}
+use Rattle.plan_book.specs.Serial.{serial_bound}
+use Rattle.bounds_board.specs.Views.{BoardView}
+use Rattle.serial_ab.specs.declared.windowed.SerialEnd.{SerialEnd}
+use Rattle.serial_ab.specs.declared.windowed.SerialEnd.TheVariants.{Exact, AtLeast, AtMost, Cut}
+use Rattle.serial_ab.specs.Ends.{IsValue, IsPlaced, IsRange, worse_end, better_end}
+use Rattle.serial_ab.specs.Searches.{IsWindow, IsFound}
+use Rattle.serial_ab.proofs.SearchLemmas.{whole_seen}
+
+pub range_window : {S : Type 0} (m : GameModel S) (side : Side) (low high : ℤ) → IsRange m low high → IsWindow m side (worse_end side low high) (better_end side low high)
+range_window m One low high r = record { from = r.from; to = r.to; wide = r.wide }
+range_window m Two low high r = record { from = r.to; to = r.from; wide = r.wide }
+
+both : (x y : ℤ) → x ≤ℤ y → y ≤ℤ x → x ≡ y
+both x y p q = omega (arith, ints)
+
+above : (x y z : ℤ) → x <ℤ y → y ≤ℤ z → x <ℤ z
+above x y z p q = omega (arith, ints)
+
+below : (x y z : ℤ) → x ≤ℤ y → y <ℤ z → x <ℤ z
+below x y z p q = omega (arith, ints)
+
+pub value_of : {S G N : Type 0} (m : GameModel S) (side : Side) (s : S) (low high : ℤ) (v : BoardView G N) (x : ℤ) (end : SerialEnd) → low <ℤ high → IsFound m side s (worse_end side low high) (better_end side low high) v x
+    → IsPlaced low high x end → IsValue low high (serial_bound m side s) end
+value_of m One s low high v x (Exact y) wide found p = (p.0 ∙ both x _ (found.proven p.1) (found.reached p.2), subst (λ (z : ℤ). low <ℤ z) (sym p.0) p.1, subst (λ (z : ℤ). z <ℤ high) (sym p.0) p.2)
+value_of m One s low high v x (AtLeast y) wide found p = (subst (λ (z : ℤ). high ≤ℤ z) (sym p.0) p.1, subst (λ (z : ℤ). z ≤ℤ serial_bound m One s) (sym p.0) (found.proven (above low high x wide p.1)))
+value_of m One s low high v x (AtMost y) wide found p = (subst (λ (z : ℤ). serial_bound m One s ≤ℤ z) (sym p.0) (found.reached (below x low high p.1 wide)), subst (λ (z : ℤ). z ≤ℤ low) (sym p.0) p.1)
+value_of m One s low high v x Cut wide found p = tt
+value_of m Two s low high v x (Exact y) wide found p = (p.0 ∙ both x _ (found.reached p.1) (found.proven p.2), subst (λ (z : ℤ). low <ℤ z) (sym p.0) p.1, subst (λ (z : ℤ). z <ℤ high) (sym p.0) p.2)
+value_of m Two s low high v x (AtLeast y) wide found p = (subst (λ (z : ℤ). high ≤ℤ z) (sym p.0) p.1, subst (λ (z : ℤ). z ≤ℤ serial_bound m Two s) (sym p.0) (found.reached (above low high x wide p.1)))
+value_of m Two s low high v x (AtMost y) wide found p = (subst (λ (z : ℤ). serial_bound m Two s ≤ℤ z) (sym p.0) (found.proven (below x low high p.1 wide)), subst (λ (z : ℤ). z ≤ℤ low) (sym p.0) p.1)
+value_of m Two s low high v x Cut wide found p = tt
+
+pub not_cut : (low high x : ℤ) (end : SerialEnd) → IsPlaced low high x end → end ≢ Cut
+not_cut low high x (Exact y) p e = cc
+not_cut low high x (AtLeast y) p e = cc
+not_cut low high x (AtMost y) p e = cc
+not_cut low high x Cut p e = p
+
+-- over the whole range the bound was seen
+pub whole_on_board : {S G N : Type 0} (m : GameModel S) (game : IsGame m) (side : Side) (s : S) (v : BoardView G N) (x : ℤ) → Reachable m s → 1 ≤ m.rank s → opening_bound m One <ℤ opening_bound m Two
+    → IsFound m side s (worse_end side (opening_bound m One) (opening_bound m Two)) (better_end side (opening_bound m One) (opening_bound m Two)) v x
+    → IsNoTighter side (serial_bound m side s) (v.seen side (m.key s))
+whole_on_board m game One s v x r goes wide found = whole_seen m game One s v x r goes found wide
+whole_on_board m game Two s v x r goes wide found = whole_seen m game Two s v x r goes found wide

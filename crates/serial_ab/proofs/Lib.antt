@@ -1,0 +1,7 @@
+pub mod CountLemmas
+pub mod DrawLemmas
+pub mod EndLemmas
+pub mod EntryLemmas
+pub mod KeptLemmas
+pub mod SearchLemmas
+pub mod ValueLemmas

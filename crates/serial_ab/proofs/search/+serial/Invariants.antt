@@ -1,0 +1,44 @@
+use Rattle.std.proofs.Common.{◌≡◌, ◌<◌, ℕ, pos, ◌+◌, ◌*◌, ◌*ℤ◌, [], ◌∷◌, ◌++◌}
+use Rattle.sums.specs.Sums.{sum_below, count_below}
+use Rattle.sim_game.specs.Sides.{chance_of, child_of}
+use Rattle.plan_book.specs.Serial.{serial_bound, tree_size}
+use Rattle.plan_book.specs.Entries.{concat_below}
+use Rattle.serial_ab.specs.Values.{pair_nodes, move_nodes}
+use Rattle.serial_ab.specs.Searches.{IsKept, IsGoodNumber}
+use Rattle.serial_ab.proofs.SearchLemmas.{MovesSoFar, RepliesSoFar}
+use Rattle.serial_ab.proofs.search.+serial.Given as goal
+
+abbrev pub decreases-search_draws : goal.decreases-search_draws
+decreases-search_draws g l = 5 * (g.G.Game.model l.g).rank l.s
+
+abbrev pub decreases-search_pair : goal.decreases-search_pair
+decreases-search_pair g l = 5 * (g.G.Game.model l.g).rank l.s + 1
+
+abbrev pub decreases-search_move : goal.decreases-search_move
+decreases-search_move g l = 5 * (g.G.Game.model l.g).rank l.s + 2
+
+abbrev pub decreases-search_moves : goal.decreases-search_moves
+decreases-search_moves g l = 5 * (g.G.Game.model l.g).rank l.s + 3
+
+abbrev pub decreases-search_state : goal.decreases-search_state
+decreases-search_state g l = 5 * (g.G.Game.model l.g).rank l.s + 4
+
+abbrev pub invariant-search_draws-loop-d : goal.invariant-search_draws-loop-d
+invariant-search_draws-loop-d g l = record {
+  kept : IsKept (g.G.Game.model l.g) l.side (count_below l.d (λ d. tree_size (g.G.Game.model l.g) (child_of (g.G.Game.model l.g) l.side l.s l.own l.reply d))) (g.B.Bounds.view l.initial.board) (g.B.Bounds.view l.board) l.initial.visits l.visits;
+  summed : l.sum ≡ sum_below l.d (λ d. pos (chance_of (g.G.Game.model l.g) l.side l.s l.own l.reply d) *ℤ serial_bound (g.G.Game.model l.g) l.side (child_of (g.G.Game.model l.g) l.side l.s l.own l.reply d));
+  listed : l.reads.items ≡ l.initial.reads.items ++ concat_below l.d (λ d. serial_bound (g.G.Game.model l.g) l.side (child_of (g.G.Game.model l.g) l.side l.s l.own l.reply d) ∷ []);
+  good : (d : ℕ) → d < l.d → IsGoodNumber (g.G.Game.model l.g) l.side (g.B.Bounds.view l.board) (child_of (g.G.Game.model l.g) l.side l.s l.own l.reply d) (serial_bound (g.G.Game.model l.g) l.side (child_of (g.G.Game.model l.g) l.side l.s l.own l.reply d));
+}
+
+abbrev pub invariant-search_move-loop-reply : goal.invariant-search_move-loop-reply
+invariant-search_move-loop-reply g l = record {
+  kept : IsKept (g.G.Game.model l.g) l.side (count_below l.reply (pair_nodes (g.G.Game.model l.g) l.side l.s l.own)) (g.B.Bounds.view l.initial.board) (g.B.Bounds.view l.board) l.initial.visits l.visits;
+  so_far : RepliesSoFar (g.G.Game.model l.g) l.side l.s l.own l.floor l.better l.reply l.least (g.B.Bounds.view l.board) l.reads.items;
+}
+
+abbrev pub invariant-search_moves-loop-own : goal.invariant-search_moves-loop-own
+invariant-search_moves-loop-own g l = record {
+  kept : IsKept (g.G.Game.model l.g) l.side (count_below l.own (move_nodes (g.G.Game.model l.g) l.side l.s)) (g.B.Bounds.view l.initial.board) (g.B.Bounds.view l.board) l.initial.visits l.visits;
+  so_far : MovesSoFar (g.G.Game.model l.g) l.side l.s l.worse l.better l.own l.value (g.B.Bounds.view l.board);
+}

@@ -1,0 +1,79 @@
+-- What a search finds, and what it keeps.
+use Rattle.std.specs.Prelude.{◌≡◌, ℕ, ◌<◌, ◌≤◌, ℤ, Option, None, Some, Result, Ok, Err, List, [], ◌∷◌, ◌++◌, length}
+use Rattle.sim_game.specs.declared.Side.{Side}
+use Rattle.sim_game.specs.Model.{GameModel}
+use Rattle.plan_book.specs.declared.Entry.{Entry}
+use Rattle.sim_game.specs.Sides.{other_side, IsNoTighter, opening_bound, draws_of, child_of, IsTighter}
+use Rattle.plan_book.specs.Steps.{cell}
+use Rattle.plan_book.specs.Serial.{serial_bound}
+use Rattle.plan_book.specs.Plans.{one_move}
+use Rattle.plan_book.specs.Entries.{IsLawfulEntry, concat_below}
+use Rattle.plan_book.specs.Books.{Grows}
+use Rattle.bounds_board.specs.declared.bounds.BoardFault.{BoardFault}
+use Rattle.bounds_board.specs.declared.bounds.BoardFault.TheVariants.{Full, NoMemory}
+use Rattle.bounds_board.specs.Views.{BoardView, IsLater, IsFull, IsSeenNumber}
+use Rattle.serial_ab.specs.Counts.{VisitsView, Counts}
+use Rattle.serial_ab.specs.Values.{pair_value, move_value}
+
+-- a lawful entry that puts the whole total on one move
+pub record IsPureEntry {S : Type 0} (m : GameModel S) (total : ℕ) (e : Entry) : Type 0 where
+  pub lawful : IsLawfulEntry m total e
+  pub place : ℕ
+  pub pure : e.weights ≡ one_move total (length e.weights) place
+
+-- the board knows no less, only lawful steps by one move were posted, and visits were counted
+pub record IsKept {S G N : Type 0} (m : GameModel S) (side : Side) (most : ℕ) (old new : BoardView G N) (before after : VisitsView) : Type 0 where
+  pub later : IsLater old new
+  pub posted : Grows (IsPureEntry m old.total) old.entries new.entries
+  pub visits : Counts side most before after
+
+-- the window of a side, from its worse end to its better one
+pub record IsWindow {S : Type 0} (m : GameModel S) (side : Side) (worse better : ℤ) : Type 0 where
+  pub from : IsNoTighter side (opening_bound m side) worse
+  pub to : IsNoTighter side better (opening_bound m (other_side side))
+  pub wide : IsTighter side better worse
+
+-- how a search ends: with a number, with no visit left, or with a fault
+abbrev pub Ends : (ℤ → Type 0) → Type 0 → Type 0 → Result (Option ℤ) BoardFault → Type 0
+Ends Found Cut IsBoardFull (Ok (Some x)) = Found x
+Ends Found Cut IsBoardFull (Ok None) = Cut
+Ends Found Cut IsBoardFull (Err Full) = IsBoardFull
+Ends Found Cut IsBoardFull (Err NoMemory) = Unit {0}
+
+-- a claim found each row held by another key
+pub record WasFull {S G N : Type 0} (m : GameModel S) (v : BoardView G N) : Type 0 where
+  pub asked : ℕ
+  pub full : IsFull m v asked
+
+-- above the window's worse end the number is proved and seen; below its better end nothing better is there
+pub record IsFound {S G N : Type 0} (m : GameModel S) (side : Side) (s : S) (worse better : ℤ) (v : BoardView G N) (x : ℤ) : Type 0 where
+  pub proven : IsTighter side x worse → IsNoTighter side x (serial_bound m side s)
+  pub seen : IsTighter side x worse → IsSeenNumber m v side s x
+  pub reached : IsTighter side better x → IsNoTighter side (serial_bound m side s) x
+  pub opened : 1 ≤ m.rank s → IsNoTighter side (opening_bound m side) (v.seen side (m.key s))
+
+-- the same of an own move
+pub record IsMoveFound {S G N : Type 0} (m : GameModel S) (side : Side) (s : S) (own : ℕ) (floor better : ℤ) (v : BoardView G N) (x : ℤ) : Type 0 where
+  pub proven : IsTighter side x floor → IsNoTighter side x (move_value m side s own)
+  pub seen : IsTighter side x floor → IsNoTighter side x (v.seen side (m.key s))
+  pub reached : IsTighter side better x → IsNoTighter side (move_value m side s own) x
+
+-- a number at a child that proves and is seen
+pub record IsGoodNumber {S G N : Type 0} (m : GameModel S) (side : Side) (v : BoardView G N) (s : S) (x : ℤ) : Type 0 where
+  pub proven : IsNoTighter side x (serial_bound m side s)
+  pub seen : IsSeenNumber m v side s x
+
+-- the same of an own move and a reply, with the numbers at the draws
+pub record IsPairFound {S G N : Type 0} (m : GameModel S) (side : Side) (s : S) (own reply : ℕ) (floor ceiling : ℤ) (v : BoardView G N) (before after : List ℤ) (x : ℤ) : Type 0 where
+  pub numbers : ℕ → ℤ
+  pub listed : after ≡ before ++ concat_below (draws_of m side s own reply) (λ d. numbers d ∷ [])
+  pub good : IsTighter side x floor → (d : ℕ) → d < draws_of m side s own reply → IsGoodNumber m side v (child_of m side s own reply d) (numbers d)
+  pub proven : IsTighter side x floor → IsNoTighter side x (cell m side s (λ _ _ d. numbers d) own reply)
+  pub reached : IsTighter side ceiling x → IsNoTighter side (pair_value m side s own reply) x
+
+-- the numbers against the first replies of an own move
+pub record IsReplied {S G N : Type 0} (m : GameModel S) (side : Side) (s : S) (own replies : ℕ) (v : BoardView G N) (reads : List ℤ) (least : ℤ) : Type 0 where
+  pub numbers : ℕ → ℕ → ℤ
+  pub listed : reads ≡ concat_below replies (λ reply. concat_below (draws_of m side s own reply) (λ d. numbers reply d ∷ []))
+  pub good : (reply d : ℕ) → reply < replies → d < draws_of m side s own reply → IsGoodNumber m side v (child_of m side s own reply d) (numbers reply d)
+  pub proven : (reply : ℕ) → reply < replies → IsNoTighter side least (cell m side s (λ _ r d. numbers r d) own reply)

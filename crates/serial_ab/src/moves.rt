@@ -1,0 +1,92 @@
+//! Steps by one move, and the means of numbers at draws.
+ghost use Rattle.std.specs.Prelude.{◌≡◌, ◌<◌, ◌≤◌, ◌++◌, ◌∷◌, [], ℕ, ℤ, pos, neg_ℤ, ◌≤ℤ◌, Some, OnOk, OnErr, IfOk, length};
+ghost use Rattle.sim_game.specs.Model.{Reachable};
+ghost use Rattle.sim_game.specs.Sides.{other_side, IsNoTighter, opening_bound, move_of_one, move_of_two};
+ghost use Rattle.plan_book.specs.Steps.{rounded};
+ghost use Rattle.plan_book.specs.Plans.{one_move};
+ghost use Rattle.plan_book.specs.Books.{Grows};
+ghost use Rattle.bounds_board.specs.Views.{IsLater};
+ghost use Rattle.serial_ab.specs.Searches.{IsReplied, IsPureEntry};
+
+use bounds_board::{BoardFault, Bounds, Row};
+use plan_book::Entry;
+use seq::Seq;
+use sim_game::{Game, Side};
+use std::alloc::Global;
+
+/// Adds a number at the end.
+pub(crate) fn keep(reads: &mut Vec<i64>, number: i64) -> Result<(), BoardFault>
+    ensures ok { OnOk result (reads.new.items ≡ reads.old.items ++ number ∷ []) }
+    ensures err { OnErr result (result ≡ Err BoardFault.NoMemory) }
+{
+    match reads.push(number) {
+        Ok(()) => Ok(()),
+        Err(_) => Err(BoardFault::NoMemory),
+    }
+}
+
+/// All of the total on one move.
+pub(crate) fn pure_weights(
+    alloc: Global,
+    total: u32,
+    count: u32,
+    place: u32,
+) -> Result<Vec<u32>, BoardFault>
+    requires { place < count }
+    ensures ok { IfOk result (λ w. w.items ≡ one_move total count place) }
+    ensures err { OnErr result (result ≡ Err BoardFault.NoMemory) }
+{
+    match Vec::from_elem(alloc, 0, count as usize) {
+        Ok(mut weights) => {
+            weights[place as usize] = total;
+            Ok(weights)
+        }
+        Err(_) => Err(BoardFault::NoMemory),
+    }
+}
+
+/// Posts the step by one move over the numbers at its children, where its bound is tighter than what is read.
+pub(crate) fn post_move<G: Game, B: Bounds<G>>(
+    alloc: Global,
+    g: G,
+    s: G::State,
+    side: Side,
+    own: u32,
+    row: Row,
+    bound: i64,
+    reads: Vec<i64>,
+    board: &mut B,
+) -> Result<(), BoardFault>
+    requires game { (B.view board.old).game ≡ g }
+    requires reachable { Reachable (G.model g) s }
+    requires goes_on { 1 ≤ (G.model g).rank s }
+    requires own_move { own < (G.model g).moves side s }
+    requires row { (B.view board.old).key_at row ≡ Some ((G.model g).key s) }
+    requires low { IsNoTighter side (opening_bound (G.model g) side) bound }
+    requires replied { IsReplied (G.model g) side s own ((G.model g).moves (other_side side) s) (B.view board.old) reads.items bound }
+    ensures later { IsLater (B.view board.old) (B.view board.new) }
+    ensures posted { Grows (IsPureEntry (G.model g) (B.view board.old).total) (B.view board.old).entries (B.view board.new).entries }
+    ensures seen { OnOk result (IsNoTighter side bound ((B.view board.new).seen side ((G.model g).key s))) }
+    ensures err { OnErr result (result ≡ Err BoardFault.NoMemory) }
+{
+    let enclosure = board.read(row);
+    let known = match side {
+        Side::One => enclosure.lower,
+        Side::Two => enclosure.upper,
+    };
+    if !side.is_tighter(bound, known) {
+        return Ok(());
+    }
+    let weights = pure_weights(alloc, board.total(), g.moves(side, s), own)?;
+    let e = Entry {
+        key: g.key(s),
+        side,
+        bound,
+        weights: Seq::from_vec(weights),
+        reads: Seq::from_vec(reads),
+    };
+    match board.post(row, e) {
+        Ok(()) => Ok(()),
+        Err(_) => Err(BoardFault::NoMemory),
+    }
+}

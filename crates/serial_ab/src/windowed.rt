@@ -1,0 +1,90 @@
+//! The serial search and how it ends.
+ghost use Rattle.std.specs.Prelude.{◌≡◌, ◌≢◌, ◌≤◌, ◌<ℤ◌, ◌≤ℤ◌, ℤ, Ok, Err, IfOk};
+ghost use Rattle.sim_game.specs.Model.{Reachable};
+ghost use Rattle.sim_game.specs.declared.Side.TheVariants.{One, Two};
+ghost use Rattle.sim_game.specs.Sides.{IsNoTighter, opening_bound};
+ghost use Rattle.plan_book.specs.Serial.{serial_bound, tree_size};
+ghost use Rattle.serial_ab.specs.Counts.{left_on};
+ghost use Rattle.serial_ab.specs.Ends.{IsValue, IsPlaced, IsRange, worse_end, better_end};
+ghost use Rattle.serial_ab.specs.Searches.{IsKept, WasFull};
+
+use crate::search::search_state;
+use crate::visits::Visits;
+use bounds_board::{BoardFault, Bounds};
+use sim_game::{Game, Side};
+use std::alloc::Global;
+
+/// What a serial search found: the value, a bound of it outside the window, or nothing for want of visits.
+#[derive(Clone, Copy, PartialEq, Eq, Debug, Drop)]
+pub enum SerialEnd {
+    Exact { value: i64 },
+    AtLeast { value: i64 },
+    AtMost { value: i64 },
+    Cut,
+}
+
+/// Searches the game in which the side discloses each move first, and posts the steps that it proves.
+pub fn serial<G: Game, B: Bounds<G>>(
+    alloc: Global,
+    g: G,
+    s: G::State,
+    side: Side,
+    window: (i64, i64),
+    visits: &mut Visits,
+    board: &mut B,
+) -> Result<SerialEnd, BoardFault>
+    requires game { (B.view board.old).game ≡ g }
+    requires reachable { Reachable (G.model g) s }
+    requires window { IsRange (G.model g) window.0 window.1 }
+    ensures kept { IsKept (G.model g) side (tree_size (G.model g) s) (B.view board.old) (B.view board.new) visits.old visits.new }
+    ensures value { IfOk result (IsValue window.0 window.1 (serial_bound (G.model g) side s)) }
+
+    // For want of visits.
+    ensures cut { result ≡ Ok SerialEnd.Cut → left_on side visits.new ≡ 0 }
+    ensures none_left { left_on side visits.old ≡ 0 → result ≡ Ok SerialEnd.Cut }
+    ensures enough { tree_size (G.model g) s ≤ left_on side visits.old → result ≢ Ok SerialEnd.Cut }
+
+    // Over the whole range the bound is on the board.
+    ensures whole { window.0 ≡ opening_bound (G.model g) One → window.1 ≡ opening_bound (G.model g) Two → 1 ≤ (G.model g).rank s
+        → IfOk result (λ end. end ≢ SerialEnd.Cut → IsNoTighter side (serial_bound (G.model g) side s) ((B.view board.new).seen side ((G.model g).key s))) }
+    ensures full { result ≡ Err BoardFault.Full → WasFull (G.model g) (B.view board.new) }
+{
+    let worse = worse(side, window.0, window.1);
+    let better = better(side, window.0, window.1);
+    match search_state(alloc, g, s, side, worse, better, visits, board) {
+        Ok(Some(value)) => Ok(placed(window.0, window.1, value)),
+        Ok(None) => Ok(SerialEnd::Cut),
+        Err(fault) => Err(fault),
+    }
+}
+
+fn worse(side: Side, low: i64, high: i64) -> i64
+    ensures { result ≡ worse_end side low high }
+{
+    match side {
+        Side::One => low,
+        Side::Two => high,
+    }
+}
+
+fn better(side: Side, low: i64, high: i64) -> i64
+    ensures { result ≡ better_end side low high }
+{
+    match side {
+        Side::One => high,
+        Side::Two => low,
+    }
+}
+
+/// Where the number lies against the window.
+fn placed(low: i64, high: i64, value: i64) -> SerialEnd
+    ensures { IsPlaced low high value result }
+{
+    if value >= high {
+        SerialEnd::AtLeast { value }
+    } else if value <= low {
+        SerialEnd::AtMost { value }
+    } else {
+        SerialEnd::Exact { value }
+    }
+}

@@ -33,7 +33,7 @@ step_weights : {S : Type 0} (m : GameModel S) (side : Side) (s : S) (total : ℕ
 step_weights m side s total weights numbers bound step = subst (λ (n : ℕ). count_below n (λ i. get_or weights i 0) ≡ total) step.one_each (count_list weights ∙ step.sums)
 
 -- a number that each child's number is no tighter than bounds the mean
-mean_within : {S : Type 0} (m : GameModel S) → IsGame m → (side : Side) (s : S) (numbers : ℕ → ℕ → ℕ → ℤ) (own reply : ℕ) (limit : ℤ) → Reachable m s → own < m.moves side s → reply < m.moves (other_side side) s
+pub mean_within : {S : Type 0} (m : GameModel S) → IsGame m → (side : Side) (s : S) (numbers : ℕ → ℕ → ℕ → ℤ) (own reply : ℕ) (limit : ℤ) → Reachable m s → own < m.moves side s → reply < m.moves (other_side side) s
     → ((d : ℕ) → d < draws_of m side s own reply → IsNoTighter side (numbers own reply d) limit) → IsNoTighter side (cell m side s numbers own reply) limit
 mean_within m game side s numbers own reply limit r p q h =
     looser_cancel side whole_chance _ _ (omega arith)

@@ -1,9 +1,9 @@
 //! The search: a state, its moves, a move, a pair of moves, its draws.
-ghost use Rattle.std.specs.Prelude.{◌≡◌, ◌<◌, ◌≤◌, ℕ, ℤ, Some, None, Ok};
+ghost use Rattle.std.specs.Prelude.{◌≡◌, ◌+◌, ◌<◌, ◌≤◌, ℕ, ℤ, Some, None, Ok};
 ghost use Rattle.sim_game.specs.Model.{Reachable};
 ghost use Rattle.sim_game.specs.Sides.{other_side, IsNoTighter, opening_bound, move_of_one, move_of_two, draws_of, IsTighter};
 ghost use Rattle.plan_book.specs.Serial.{tree_size};
-ghost use Rattle.serial_ab.specs.Counts.{left_on, IsCut};
+ghost use Rattle.serial_ab.specs.Counts.{spent_on, left_on, IsCut};
 ghost use Rattle.serial_ab.specs.Values.{pair_nodes, move_nodes, inner_nodes};
 ghost use Rattle.serial_ab.specs.Searches.{Ends, IsKept, IsWindow, WasFull, IsFound, IsMoveFound, IsPairFound};
 
@@ -31,6 +31,7 @@ pub(crate) fn search_state<G: Game, B: Bounds<G>>(
     ensures kept { IsKept (G.model g) side (tree_size (G.model g) s) (B.view board.old) (B.view board.new) visits.old visits.new }
     ensures ends { Ends (IsFound (G.model g) side s worse better (B.view board.new)) (IsCut side (tree_size (G.model g) s) visits.old visits.new) (WasFull (G.model g) (B.view board.new)) result }
     ensures none_left { left_on side visits.old ≡ 0 → result ≡ Ok None }
+    ensures entered { 1 ≤ left_on side visits.old → spent_on side visits.old + 1 ≤ spent_on side visits.new }
 {
     if visits.left(side) == 0 {
         return Ok(None);

@@ -1,10 +1,10 @@
 //! The serial search and how it ends.
-ghost use Rattle.std.specs.Prelude.{◌≡◌, ◌≢◌, ◌≤◌, ◌<ℤ◌, ◌≤ℤ◌, ℤ, Ok, Err, IfOk};
+ghost use Rattle.std.specs.Prelude.{◌≡◌, ◌≢◌, ◌+◌, ◌≤◌, ◌<ℤ◌, ◌≤ℤ◌, ℤ, Ok, Err, IfOk};
 ghost use Rattle.sim_game.specs.Model.{Reachable};
 ghost use Rattle.sim_game.specs.declared.Side.TheVariants.{One, Two};
 ghost use Rattle.sim_game.specs.Sides.{IsNoTighter, opening_bound};
 ghost use Rattle.plan_book.specs.Serial.{serial_bound, tree_size};
-ghost use Rattle.serial_ab.specs.Counts.{left_on};
+ghost use Rattle.serial_ab.specs.Counts.{spent_on, left_on};
 ghost use Rattle.serial_ab.specs.Ends.{IsValue, IsPlaced, IsRange, worse_end, better_end};
 ghost use Rattle.serial_ab.specs.Searches.{IsKept, WasFull};
 
@@ -43,6 +43,9 @@ pub fn serial<G: Game, B: Bounds<G>>(
     ensures cut { result ≡ Ok SerialEnd.Cut → left_on side visits.new ≡ 0 }
     ensures none_left { left_on side visits.old ≡ 0 → result ≡ Ok SerialEnd.Cut }
     ensures enough { tree_size (G.model g) s ≤ left_on side visits.old → result ≢ Ok SerialEnd.Cut }
+
+    // The state itself costs a visit, ends too.
+    ensures entered { 1 ≤ left_on side visits.old → spent_on side visits.old + 1 ≤ spent_on side visits.new }
 
     // Over the whole range the bound is on the board.
     ensures whole { window.0 ≡ opening_bound (G.model g) One → window.1 ≡ opening_bound (G.model g) Two → 1 ≤ (G.model g).rank s

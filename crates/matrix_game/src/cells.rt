@@ -1,0 +1,193 @@
+//! The cells of a matrix, what weights pay in them, and its saddles.
+
+ghost use Rattle.std.specs.Prelude.{◌≡◌, ◌↔◌, ℕ, IsTrue, IsOk, IfOk, IfSome, IfNone, ◌+◌, ◌*◌, ◌<◌, ◌≤◌, length, All, unsigned_abs};
+ghost use Rattle.matrix_game.specs.Grid.{IsSaddle, IsFirstSaddle, HasGoodShape, IsSmall, IsFirstLarge, cell_at, column_sum, row_sum, best_reply, row_floor, col_ceiling};
+
+use crate::MOST_MOVES;
+use std::marker::Model;
+use sums::{MOST_BOUND, weighted};
+use thiserror::Error;
+
+/// The payoffs of a game to player one, whose moves are the rows.
+#[derive(Drop)]
+pub struct Matrix {
+    pub(crate) rows: usize,
+    pub(crate) cols: usize,
+    pub(crate) cells: Vec<i64>,
+}
+
+impl Model for Matrix {
+    ghost use Rattle.matrix_game.specs.Grid.{Grid, IsMatrix};
+
+    ghost Value = { Grid };
+
+    ghost view = { λ m. record { rows = m.rows; cols = m.cols; cells = m.cells.items } };
+
+    ghost invariant = { λ m. IsMatrix (record { rows = m.rows; cols = m.cols; cells = m.cells.items }) };
+}
+
+/// Why a list of cells is no matrix.
+#[derive(Clone, Copy, Debug, PartialEq, Eq, Error)]
+pub enum ShapeError {
+    /// A side is 0 or too long, or the cells are not as many as rows times columns.
+    #[error("a side is out of range, or the cells are not as many as rows times columns")]
+    BadShape,
+    /// The first cell whose size is too great.
+    #[error("cell {place} is too large")]
+    CellRange { place: u32 },
+}
+
+// A reply, and what the weights that it answers pay there.
+#[derive(Clone, Copy)]
+pub(crate) struct Reply {
+    pub(crate) col: usize,
+    pub(crate) paid: i64,
+}
+
+impl Matrix {
+    /// The matrix with these cells, which stand row by row.
+    pub fn new(rows: u32, cols: u32, cells: Vec<i64>) -> Result<Matrix, ShapeError>
+        ensures matrix { IfOk result (λ m. m ≡ record { rows = rows; cols = cols; cells = cells.items }) }
+        ensures ok { IsOk result ↔ (HasGoodShape rows cols (length cells.items) × All IsSmall cells.items) }
+        ensures shape { (result ≡ Err ShapeError.BadShape) ↔ (HasGoodShape rows cols (length cells.items) → ⊥) }
+        ensures range { (place : ℕ) →
+            result ≡ Err (ShapeError.CellRange place) → HasGoodShape rows cols (length cells.items) × IsFirstLarge cells.items place }
+    {
+        if rows == 0 || rows > MOST_MOVES || cols == 0 || cols > MOST_MOVES {
+            return Err(ShapeError::BadShape);
+        }
+        if cells.len() != rows as usize * cols as usize {
+            return Err(ShapeError::BadShape);
+        }
+        for (place, cell) in cells.iter().enumerate() {
+            if cell.unsigned_abs() > MOST_BOUND {
+                return Err(ShapeError::CellRange {
+                    place: place as u32,
+                });
+            }
+        }
+        Ok(Matrix {
+            rows: rows as usize,
+            cols: cols as usize,
+            cells,
+        })
+    }
+
+    fn is_saddle(&self, row: usize, col: usize) -> bool
+        requires row_in { row < self.now.rows }
+        requires col_in { col < self.now.cols }
+        ensures { IsTrue result ↔ IsSaddle self.now row col }
+    {
+        let payoff = self.cell(row, col);
+        for other in 0..self.cols {
+            if self.cell(row, other) < payoff {
+                return false;
+            }
+        }
+        for rival in 0..self.rows {
+            if payoff < self.cell(rival, col) {
+                return false;
+            }
+        }
+        true
+    }
+
+    /// The first cell, row by row, that is least in its row and greatest in its column.
+    pub fn saddle(&self) -> Option<(u32, u32)>
+        ensures found { IfSome result (λ place. IsFirstSaddle self.now place.0 place.1) }
+        ensures none { IfNone result ((a b : ℕ) → IsSaddle self.now a b → ⊥) }
+    {
+        for row in 0..self.rows {
+            for col in 0..self.cols {
+                if self.is_saddle(row, col) {
+                    return Some((row as u32, col as u32));
+                }
+            }
+        }
+        None
+    }
+
+    pub(crate) fn cell(&self, row: usize, col: usize) -> i64
+        requires row_in { row < self.now.rows }
+        requires col_in { col < self.now.cols }
+        ensures value { result ≡ cell_at self.now row col }
+        ensures small { unsigned_abs result ≤ 4000000000 }
+    {
+        self.cells[row * self.cols + col]
+    }
+
+    fn column_sum(&self, p: &[u32], col: usize) -> i64
+        requires weights { length p.now ≡ self.now.rows }
+        requires light { All (λ x. x ≤ 1048576) p.now }
+        requires col_in { col < self.now.cols }
+        ensures value { result ≡ column_sum self.now p.now col }
+        ensures bounded { unsigned_abs result ≤ 134217728000000000 }
+    {
+        let mut sum = 0;
+        for row in 0..self.rows {
+            sum += weighted(p[row], self.cell(row, col));
+        }
+        sum
+    }
+
+    fn row_sum(&self, v: &[u32], row: usize) -> i64
+        requires weights { length v.now ≡ self.now.cols }
+        requires light { All (λ x. x ≤ 1048576) v.now }
+        requires row_in { row < self.now.rows }
+        ensures value { result ≡ row_sum self.now v.now row }
+    {
+        let mut sum = 0;
+        for col in 0..self.cols {
+            sum += weighted(v[col], self.cell(row, col));
+        }
+        sum
+    }
+
+    pub(crate) fn best_reply(&self, p: &[u32]) -> Reply
+        requires weights { length p.now ≡ self.now.rows }
+        requires light { All (λ x. x ≤ 1048576) p.now }
+        ensures col { result.col ≡ best_reply self.now p.now }
+        ensures paid { result.paid ≡ row_floor self.now p.now }
+        ensures col_in { result.col < self.now.cols }
+        ensures bounded { unsigned_abs result.paid ≤ 134217728000000000 }
+    {
+        let cols = self.cols;
+        let mut reply = Reply {
+            col: 0,
+            paid: self.column_sum(p, 0),
+        };
+        for col in 1..cols {
+            let paid = self.column_sum(p, col);
+            if paid < reply.paid {
+                reply = Reply { col, paid };
+            }
+        }
+        reply
+    }
+
+    /// The least that the weights `p` of the rows pay in a column.
+    pub fn row_floor(&self, p: &[u32]) -> i64
+        requires weights { length p.now ≡ self.now.rows }
+        requires light { All (λ x. x ≤ 1048576) p.now }
+        ensures { result ≡ row_floor self.now p.now }
+    {
+        self.best_reply(p).paid
+    }
+
+    /// The greatest that the weights `v` of the columns pay in a row.
+    pub fn col_ceiling(&self, v: &[u32]) -> i64
+        requires weights { length v.now ≡ self.now.cols }
+        requires light { All (λ x. x ≤ 1048576) v.now }
+        ensures { result ≡ col_ceiling self.now v.now }
+    {
+        let rows = self.rows;
+        let mut best = self.row_sum(v, 0);
+        for row in 1..rows {
+            let sum = self.row_sum(v, row);
+            if best < sum {
+                best = sum;
+            }
+        }
+        best
+    }
+}

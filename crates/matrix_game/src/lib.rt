@@ -1,0 +1,30 @@
+//! Matrix games with two players and whole payoffs, solved by regret matching plus against best replies.
+#![tactic(auto)]
+
+ghost use Rattle.matrix_game.specs.Rounds.{ResolutionLaw, StageLaw};
+
+mod budget;
+mod cells;
+mod rounds;
+mod stage;
+
+pub use budget::Turns;
+pub use cells::{Matrix, ShapeError};
+pub use stage::{StageError, StagePlans};
+
+/// The greatest number of rows and of columns.
+pub const MOST_MOVES: u32 = 32;
+
+/// Over enough rounds the square of the gap between ceiling and floor is at most twice the rows times the weight,
+/// times the square of what two cells differ by.
+pub fn stage_law()
+    ensures { StageLaw }
+{}
+
+/// The same as a difference, at a resolution that is fine enough for what two cells differ by.
+pub fn resolution_law()
+    ensures { ResolutionLaw }
+{}
+
+#[cfg(test)]
+mod tests;

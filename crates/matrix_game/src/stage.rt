@@ -1,0 +1,112 @@
+//! The solver: weights of the rows and of the columns, for one turn.
+
+ghost use Rattle.std.specs.Prelude.{◌≡◌, ◌↔◌, IfOk, OnOk, OnErr, ◌*◌, ◌<◌, ◌≤◌, unsigned_abs};
+ghost use Rattle.matrix_game.specs.Grid.{row_floor, col_ceiling};
+ghost use Rattle.matrix_game.specs.Rounds.{all_on, IsStage, IsWeighted, HasSmallGap, HasResolution};
+ghost use Rattle.matrix_game.specs.Budget.{left_of, after_turn};
+
+use crate::budget::Turns;
+use crate::cells::Matrix;
+use crate::rounds::Solution;
+use seq::Seq;
+use std::alloc::{AllocError, Global};
+
+/// Weights of the rows and of the columns, with what they secure and concede.
+#[derive(Drop)]
+pub struct StagePlans {
+    /// The weights of the rows.
+    pub p: Seq<u32>,
+    /// The weights of the columns.
+    pub v: Seq<u32>,
+    /// What `p` secures against each column.
+    pub low: i64,
+    /// What `v` concedes to each row.
+    pub high: i64,
+}
+
+/// Why a matrix was not solved.
+#[derive(Clone, Copy, Debug, PartialEq, Eq)]
+pub enum StageError {
+    /// No turn is left.
+    Spent,
+    NoMemory,
+}
+
+impl Matrix {
+    // Pure at the first saddle, else by rounds.
+    fn weights(&self, alloc: Global, weight: u32) -> Result<Solution, AllocError>
+        requires some { 1 ≤ weight }
+        requires light { weight ≤ 1048576 }
+        ensures stage { IfOk result (λ r. IsStage self.now weight r.p.items r.v.items) }
+        ensures p { IfOk result (λ r. IsWeighted self.now.rows weight r.p.items) }
+        ensures v { IfOk result (λ r. IsWeighted self.now.cols weight r.v.items) }
+        ensures gap { IfOk result
+            (λ r. HasSmallGap self.now weight (row_floor self.now r.p.items) (col_ceiling self.now r.v.items)) }
+        ensures resolution { IfOk result
+            (λ r. HasResolution self.now weight (row_floor self.now r.p.items) (col_ceiling self.now r.v.items)) }
+        ensures small_low { IfOk result (λ r. unsigned_abs (row_floor self.now r.p.items) ≤ 4000000000 * weight) }
+        ensures small_high { IfOk result (λ r. unsigned_abs (col_ceiling self.now r.v.items) ≤ 4000000000 * weight) }
+    {
+        let rows = self.rows;
+        let cols = self.cols;
+        let weights = match self.saddle() {
+            Some((row, col)) => {
+                let p = all_on(alloc, rows, row as usize, weight)?;
+                let v = all_on(alloc, cols, col as usize, weight)?;
+                Solution { p, v }
+            }
+            None => self.rounds(alloc, weight)?,
+        };
+        Ok(weights)
+    }
+
+    /// Solves the matrix by weights that sum to `total`, for one turn.
+    pub fn solve(
+        &self,
+        alloc: Global,
+        total: u32,
+        turns: &mut Turns,
+    ) -> Result<StagePlans, StageError>
+        requires some { 1 ≤ total }
+        requires light { total ≤ 1048576 }
+        ensures plans { IfOk result (λ plans. IsStage self.now total plans.p plans.v) }
+        ensures low { IfOk result (λ plans. plans.low ≡ row_floor self.now plans.p) }
+        ensures high { IfOk result (λ plans. plans.high ≡ col_ceiling self.now plans.v) }
+        ensures p { IfOk result (λ plans. IsWeighted self.now.rows total plans.p) }
+        ensures v { IfOk result (λ plans. IsWeighted self.now.cols total plans.v) }
+        ensures small_low { IfOk result (λ plans. unsigned_abs plans.low ≤ 4000000000 * total) }
+        ensures small_high { IfOk result (λ plans. unsigned_abs plans.high ≤ 4000000000 * total) }
+        ensures gap { IfOk result (λ plans. HasSmallGap self.now total plans.low plans.high) }
+        ensures resolution { IfOk result (λ plans. HasResolution self.now total plans.low plans.high) }
+
+        ensures spent { (result ≡ Err StageError.Spent) ↔ (left_of turns.old ≡ 0) }
+        ensures ok { OnOk result (turns.new ≡ after_turn turns.old) }
+        ensures err { OnErr result (turns.new ≡ turns.old) }
+    {
+        if turns.left() == 0 {
+            return Err(StageError::Spent);
+        }
+        let Ok(weights) = self.weights(alloc, total) else {
+            return Err(StageError::NoMemory);
+        };
+        turns.spend();
+        let low = self.row_floor(&weights.p);
+        let high = self.col_ceiling(&weights.v);
+        Ok(StagePlans {
+            p: Seq::from_vec(weights.p),
+            v: Seq::from_vec(weights.v),
+            low,
+            high,
+        })
+    }
+}
+
+// All of the weight at one place.
+fn all_on(alloc: Global, len: usize, at: usize, weight: u32) -> Result<Vec<u32>, AllocError>
+    requires { at < len }
+    ensures { IfOk result (λ weights. weights.items ≡ all_on len at weight) }
+{
+    let mut weights = vec![in alloc; 0u32; len]?;
+    weights[at] = weight;
+    Ok(weights)
+}

@@ -1,2 +1,3 @@
+pub mod FullLemmas
 pub mod PlainLemmas
 pub mod ViewLemmas

@@ -1,5 +1,5 @@
 -- A game of two players who move at once, as plain functions over any type of states.
-use Rattle.std.specs.Prelude.{◌≡◌, ℕ, ◌<◌, ◌≤◌, ◌^◌, ℤ, pos, neg_ℤ, ◌≤ℤ◌, Bool, IsTrue, List, [], ◌∷◌}
+use Rattle.std.specs.Prelude.{◌≡◌, ◌≢◌, ℕ, ◌<◌, ◌≤◌, ◌^◌, ℤ, pos, neg_ℤ, ◌≤ℤ◌, Bool, IsTrue, List, [], ◌∷◌}
 use Rattle.sim_game.specs.declared.Side.{Side}
 use Rattle.sim_game.specs.declared.Side.TheVariants.{One, Two}
 use Rattle.sums.specs.Sums.{count_below}
@@ -62,6 +62,10 @@ pub record Reachable {S : Type 0} (m : GameModel S) (s : S) : Type 0 where
   pub history : List Turn
   pub legal : IsHistory m m.root history
   pub leads : after_history m m.root history ≡ s
+
+-- the game has at most so many reachable states, the root and ends included: any that differ are no more
+pub record HasAtMost {S : Type 0} (m : GameModel S) (most : ℕ) : Type 0 where
+  pub few : (count : ℕ) (states : ℕ → S) → ((i : ℕ) → i < count → Reachable m (states i)) → ((i j : ℕ) → i < j → j < count → states i ≢ states j) → count ≤ most
 
 abbrev pub IsEnd : {S : Type 0} → GameModel S → S → Type 0
 IsEnd m s = m.rank s ≡ 0

@@ -1,21 +1,21 @@
 -- The walk over a list of cards that packs them and looks for a repeat.
-use Rattle.std.proofs.Common.{◌≡◌, ℕ, zero, suc, ◌+◌, ◌-◌, ◌*◌, ◌/◌, ◌%◌, ◌^◌, ◌<◌, ◌≤◌, ◌≢◌, Bool, true, false, ◌||◌, cond, eqb, ltb, List, [], ◌∷◌, ◌++◌, length, get_or, take, drop, replicate, Option, Some, None, position, refl, sym, ap, ◌∙◌, subst, inl, inr, arith, rules}
+use Rattle.std.proofs.Common.{◌≡◌, ℕ, zero, suc, ◌+◌, ◌-◌, ◌*◌, ◌/◌, ◌%◌, ◌^◌, ◌<◌, ◌≤◌, ◌≢◌, Bool, true, false, ◌||◌, cond, eqb, ltb, List, [], ◌∷◌, ◌++◌, length, get_or, take, drop, replicate, Some, None, position, refl, sym, ap, ◌∙◌, subst, inl, inr, arith}
 use Rattle.std.proofs.Math.Nat.{pow-succ', mul-le-mul_left}
 use Rattle.std.proofs.Math.Pow.{pow-lt}
 use Rattle.std.proofs.lemmas.Bool.{cases_lt, cases_eq, lt-ltb, ltb-false, ne_eqb, eq-eqb, or_parts, or_right}
-use Rattle.std.proofs.lemmas.List.{take_at, take_all, drop_all, take_more, drop_more}
+use Rattle.std.proofs.lemmas.List.{length-drop, take_at, take_all, drop_all, take_more, drop_more}
 use Rattle.std.proofs.lemmas.List.Elements.{All-from_get_or}
 use Rattle.std.proofs.lemmas.List.Folds.{list_any_more}
 use Rattle.std.proofs.lemmas.List.Sums.{fails_before_first}
-use Rattle.std.proofs.lemmas.Nat.{or_lt, or_disjoint, one_shl, pow_pos}
+use Rattle.std.proofs.lemmas.Nat.{and_le_l, or_lt, or_disjoint, one_shl, pow_pos}
 use Rattle.std.proofs.lemmas.Nat.Bits.{bit_at-suc, bit_at_lowest, bit_at_or, bit_at-pow_same, bit_at-pow_other, bit_at-lt, bit_at-zero, and_pow}
-use Rattle.std.specs.Int.{bit_at}
+use Rattle.std.specs.Int.{bit_at, trailing_zeros, w16}
 use Rattle.std.specs.Int.RustNames.{unsigned_abs}
 use Rattle.std.specs.Int.Bits.{bit_and, bit_or}
 use Rattle.std.specs.Int.Count.{ones, ones_step}
 use Rattle.std.specs.List.{All, list_any, position_or_len}
 use Rattle.goofspiel.specs.Cards.{members, cards, rising}
-use Rattle.goofspiel.specs.CardLaws.{filter_agrees, members_count}
+use Rattle.goofspiel.specs.CardLaws.{filter_agrees, members_count, members_lowest}
 use Rattle.goofspiel.specs.declared.Setting.{Setting}
 use Rattle.goofspiel.specs.Position.{is_outside, repeat_after, prizes_of, IsPosition}
 
@@ -59,6 +59,10 @@ ones_more (suc k) n h =
 or_last : (a b : Bool) → b ≡ false → (a || b) ≡ a
 or_last true b h = refl
 or_last false b h = h
+
+ones_none : ones 0 ≡ 0
+unfolding ones
+ones_none = refl
 
 -- the first `count` cards of the hand differ, and are packed
 pub record IsGathered (hand : List ℕ) (count packed : ℕ) : Type 0 where
@@ -157,3 +161,29 @@ position_of g prizes one two one_count two_count count array inside score =
       prize_high = subst (All (λ prize. prize ≤ 100)) (sym same) (All-from_get_or (λ prize. prize ≤ 100) prizes 0 (λ i l. (number_inside 1 100 prizes i inside l).1));
       score_small = score;
     }
+
+-- ---- the walk over a hand to the card at a place
+-- the lowest cards of the hand, this many, are gone
+pub record IsDropped (hand count rest : ℕ) : Type 0 where
+  pub small : rest < 2 ^ 13
+  pub is : cards rest ≡ drop count (cards hand)
+
+pub none_dropped : (hand : ℕ) → hand < 2 ^ 13 → IsDropped hand 0 hand
+none_dropped hand h = record { small = h; is = refl }
+
+-- a card is left
+left_over : (hand count rest : ℕ) → count < length (cards hand) → IsDropped hand count rest → 0 < rest
+left_over hand count rest l d =
+    let some : length (cards rest) ≡ length (cards hand) - count = ap length d.is ∙ length-drop count (cards hand) in
+    elim (cases_lt 0 rest) [
+      | inl left ↦ left
+      | inr none ↦ let zero_left : rest ≡ 0 = omega arith in absurd (omega (arith, some, members_count 13 1 rest d.small, ap ones zero_left, ones_none))
+    ]
+
+-- the lowest card that is left is the one at the place
+pub next_card : (hand count rest : ℕ) → count < length (cards hand) → IsDropped hand count rest → (0 < rest) × (1 + trailing_zeros w16 rest ≡ get_or (cards hand) count 0) × IsDropped hand (count + 1) (bit_and rest (rest - 1))
+next_card hand count rest l d =
+    let left = left_over hand count rest l d in
+    let split : (1 + trailing_zeros w16 rest) ∷ cards (bit_and rest (rest - 1)) ≡ get_or (cards hand) count 0 ∷ drop (count + 1) (cards hand) =
+    sym (members_lowest 13 1 16 rest (omega arith) left d.small) ∙ d.is ∙ drop_more (cards hand) count 0 l in
+    (left, ap (λ (xs : List ℕ). get_or xs 0 0) split, record { small = omega (arith, d.small, and_le_l rest (rest - 1)); is = ap (drop 1) split })

@@ -1,16 +1,18 @@
 -- A packed hand and its list say the same.
-use Rattle.std.proofs.Common.{◌≡◌, ℕ, zero, suc, ◌+◌, ◌-◌, ◌*◌, ◌/◌, ◌%◌, ◌^◌, ◌<◌, ◌≤◌, Bool, true, false, cond, eqb, List, [], ◌∷◌, length, get_or, refl, sym, ap, subst, ◌∙◌, inl, inr, arith, add-one}
+use Rattle.std.proofs.Common.{◌≡◌, ℕ, zero, suc, ◌+◌, ◌-◌, ◌*◌, ◌/◌, ◌%◌, ◌^◌, ◌<◌, ◌≤◌, Bool, cond, eqb, List, [], ◌∷◌, length, get_or, refl, sym, ap, subst, ◌∙◌, inl, inr, arith, add-one}
 use Rattle.std.proofs.Math.Nat.{pow-succ'}
-use Rattle.std.proofs.lemmas.Bool.{cases_lt, ne_eqb, eq-eqb}
+use Rattle.std.proofs.lemmas.Bool.{cases_lt}
+use Rattle.std.proofs.lemmas.List.Edits.{length-remove}
+use Rattle.std.proofs.lemmas.List.Elements.{All-from_get_or}
 use Rattle.std.proofs.lemmas.List.Sums.{sum_by-cons}
 use Rattle.std.proofs.lemmas.Nat.{and_block, ones-le}
 use Rattle.std.proofs.lemmas.Nat.Bits.{bit_at_lowest, bit_at-suc}
 use Rattle.std.specs.Int.{bit_at}
 use Rattle.std.specs.Int.Bits.{bit_and, and_self, and_zero_l, and_zero_r}
 use Rattle.std.specs.Int.Count.{ones, ones_step, count_trailing_zeros}
-use Rattle.std.specs.List.{filter, range_with_len, remove, sum_by}
+use Rattle.std.specs.List.{All, filter, range_with_len, remove, sum_by}
 use Rattle.std.specs.List.Sorted.{IsStrictlyIncreasing}
-use Rattle.goofspiel.specs.Cards.{members, cards}
+use Rattle.goofspiel.specs.Cards.{members, cards, packed}
 
 -- ---- a packed set by halves: its lowest digit, and the others
 -- two tests that agree on a range keep the same numbers of it
@@ -225,3 +227,38 @@ members_packed (suc n) low m l = by_halves (λ (k : ℕ). k < 2 ^ suc n → pack
     let whole : 2 ^ (low - low) + packed_from low xs ≡ 2 * h + 1 = omega (arith, one_digit low, twice, rest) in
     ap (packed_from low) (members_odd n low h) ∙ packed_cons low low xs ∙ whole)
     m l
+
+-- ---- the same of a hand
+pub cards_packed : (hand : ℕ) → hand < 2 ^ 13 → packed (cards hand) ≡ hand
+cards_packed hand h = members_packed 13 1 hand h
+
+pub cards_increase : (hand : ℕ) → IsStrictlyIncreasing (cards hand)
+cards_increase hand = rising_increases 1 (cards hand) (members_rising 13 1 hand)
+
+-- what holds of the card at place `i`, and of the hand without it
+pub record IsBid (hand i : ℕ) : Type 0 where
+  pub low : 1 ≤ get_or (cards hand) i 0
+  pub high : get_or (cards hand) i 0 ≤ 13
+  pub held : 2 ^ (get_or (cards hand) i 0 - 1) ≤ hand
+  pub rest : packed (remove (cards hand) i) ≡ hand - 2 ^ (get_or (cards hand) i 0 - 1)
+  pub again : cards (packed (remove (cards hand) i)) ≡ remove (cards hand) i
+  pub count : length (remove (cards hand) i) + 1 ≡ length (cards hand)
+  pub small : packed (remove (cards hand) i) < 2 ^ 13
+
+pub card_bid : (hand i : ℕ) → hand < 2 ^ 13 → i < length (cards hand) → IsBid hand i
+card_bid hand i h place =
+    let t = members_taken 13 1 hand i place in
+    let rest = hand - 2 ^ (get_or (cards hand) i 0 - 1) in
+    let cleared : packed (remove (cards hand) i) ≡ rest = subst (λ (xs : List ℕ). packed xs ≡ rest) t.left (cards_packed rest (omega arith)) in
+    record {
+      low = t.first;
+      high = omega (arith, t.last);
+      held = t.held;
+      rest = cleared;
+      again = ap cards cleared ∙ t.left;
+      count = length-remove (cards hand) i place;
+      small = omega (arith, cleared);
+    }
+
+pub cards_hand : (hand : ℕ) → hand < 2 ^ 13 → All (λ card. (1 ≤ card) × (card ≤ 13)) (cards hand)
+cards_hand hand h = All-from_get_or (λ card. (1 ≤ card) × (card ≤ 13)) (cards hand) 0 (λ i l. let bid = card_bid hand i h l in (bid.low, bid.high))

@@ -105,7 +105,8 @@ pub(crate) fn prize_array(prizes: &[u8]) -> [u8; 13]
 /// The sum of the prizes.
 pub(crate) fn prize_sum(prizes: &[u8]) -> u32
     requires { length prizes.now ≤ 13 }
-    ensures { result ≡ sum prizes.now }
+    ensures is { result ≡ sum prizes.now }
+    ensures small { result ≤ 3315 }
 {
     let mut sum: u32 = 0;
     for prize in prizes {

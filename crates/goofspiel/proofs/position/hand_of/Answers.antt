@@ -1,4 +1,4 @@
-use Rattle.std.proofs.Common.{arith, ℕ, ◌+◌, ◌-◌, ◌^◌, ◌<◌, ◌≡◌, get_or, ap, subst, sym, length}
+use Rattle.std.proofs.Common.{arith, ℕ, ◌+◌, ◌-◌, ◌<◌, ◌≡◌, get_or, ap, subst, sym, length}
 use Rattle.std.proofs.lemmas.Nat.{one_shl}
 use Rattle.std.specs.Int.Bits.{bit_or}
 use Rattle.goofspiel.specs.declared.GoofspielError.TheVariants.{CardTwice}

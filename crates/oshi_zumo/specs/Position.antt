@@ -1,5 +1,5 @@
 -- Which positions of Oshi-Zumo are played, and the first fault of the others.
-use Rattle.std.specs.Prelude.{ℕ, ◌≤◌, unsigned_abs, Bool, ◌||◌, ◌==◌, nat_lt, if◌then◌else◌, Option, Some, None}
+use Rattle.std.specs.Prelude.{◌≤◌, unsigned_abs, ◌||◌, ◌==◌, nat_lt, if◌then◌else◌, Option, Some, None}
 use Rattle.oshi_zumo.specs.declared.Setting.{Setting}
 use Rattle.oshi_zumo.specs.declared.OshiError.{OshiError}
 use Rattle.oshi_zumo.specs.declared.OshiError.TheVariants.{SizeRange, CoinRange, LeastRange, PlaceRange}

@@ -1,6 +1,21 @@
 //! Goofspiel: two players bid their cards for prizes.
 #![tactic(auto)]
 
+ghost use Rattle.std.specs.Prelude.{◌≡◌, ◌<◌, ◌≤◌, ◌^◌, length, remove, slice_index, sum, unsigned_abs, MatchResult, None, Some};
+ghost use Rattle.goofspiel.specs.Cards.{cards, packed};
+ghost use Rattle.goofspiel.specs.Laws.{goofspiel_is_game};
+ghost use Rattle.goofspiel.specs.Position.{first_fault, prizes_of, IsPosition, IsSettingOf};
+ghost use Rattle.goofspiel.specs.Rules.{goofspiel_game, high_of, low_of, won, KeepsRules};
+
+mod position;
+
+use position::{
+    check_cards, check_lengths, check_prizes, check_score, hand_of, prize_array, prize_sum,
+};
+use sim_game::{CHANCE, Game, Side};
+use state_key::{Key, put};
+use thiserror::Error;
+
 /// What a player gets at an end.
 #[derive(Clone, Copy, PartialEq, Eq, Debug)]
 pub enum Pay {
@@ -9,3 +24,268 @@ pub enum Pay {
     /// The score's sign.
     Win,
 }
+
+/// The hands of both sides, packed, and the score: One's prizes less Two's. In a packed hand the lowest digit
+/// stands for card 1, and that of each card held is 1.
+#[derive(Clone, Copy, PartialEq, Eq, Debug)]
+pub struct State {
+    pub one: u16,
+    pub two: u16,
+    pub score: i32,
+}
+
+/// What a position holds: the packed hands, the score, the pay, and `count` prizes with zeros behind them.
+#[derive(Clone, Copy, PartialEq, Eq, Debug)]
+pub struct Setting {
+    pub one: u16,
+    pub two: u16,
+    pub score: i32,
+    pub pay: Pay,
+    pub count: u8,
+    pub prizes: [u8; 13],
+}
+
+/// A position of the game.
+#[derive(Clone, Copy, PartialEq, Eq, Debug)]
+pub struct Goofspiel {
+    pub setting: Setting,
+    low: i32,
+    high: i32,
+    ghost valid: { IsPosition setting },
+    ghost low_is: { low ≡ low_of setting.pay setting.score (sum (prizes_of setting)) },
+    ghost high_is: { high ≡ high_of setting.pay setting.score (sum (prizes_of setting)) },
+}
+
+/// Why there is no such position. Places are numbered from 0.
+#[derive(Clone, Copy, PartialEq, Eq, Debug, Error)]
+pub enum GoofspielError {
+    #[error("the card at place {place} of a hand is not 1 to 13")]
+    CardRange { side: Side, place: u32 },
+    #[error("the card {card} stands twice in a hand")]
+    CardTwice { side: Side, card: u8 },
+    #[error("{one} cards, {two} cards and {prizes} prizes are not equally many")]
+    Lengths { one: u32, two: u32, prizes: u32 },
+    #[error("the prize at place {place} is not 1 to 100")]
+    PrizeRange { place: u32 },
+    #[error("the score is not -1000 to 1000")]
+    ScoreRange,
+}
+
+impl Goofspiel {
+    /// The position with these cards, prizes in the order in which they are bid for, and score. An error names the
+    /// first rule that is broken, with places numbered from 0: a card is 1 to 13, One's cards before Two's; no card
+    /// stands twice in a hand, One's before Two's; both hands and the prizes have one length; a prize is 1 to 100;
+    /// the score is -1000 to 1000.
+    pub fn new(
+        one: &[u8],
+        two: &[u8],
+        prizes: &[u8],
+        score: i32,
+        pay: Pay,
+    ) -> Result<Goofspiel, GoofspielError>
+        requires one { length one.now < 2 ^ 31 }
+        requires two { length two.now < 2 ^ 31 }
+        requires prizes { length prizes.now < 2 ^ 31 }
+        ensures { MatchResult result
+            (λ game. (first_fault one.now two.now prizes.now score ≡ None) × IsSettingOf one.now two.now prizes.now score pay game.setting)
+            (λ fault. first_fault one.now two.now prizes.now score ≡ Some fault) }
+    {
+        check_cards(Side::One, one)?;
+        check_cards(Side::Two, two)?;
+        let one_hand = hand_of(Side::One, one)?;
+        let two_hand = hand_of(Side::Two, two)?;
+        check_lengths(one, two, prizes)?;
+        check_prizes(prizes)?;
+        check_score(score)?;
+        let setting = Setting {
+            one: one_hand,
+            two: two_hand,
+            score,
+            pay,
+            count: prizes.len() as u8,
+            prizes: prize_array(prizes),
+        };
+        let total = prize_sum(prizes);
+        Ok(Goofspiel {
+            setting,
+            low: least_payoff(pay, score, total),
+            high: greatest_payoff(pay, score, total),
+        })
+    }
+}
+
+/// How many cards a hand has.
+#[inline]
+fn size(hand: u16) -> u32
+    requires { hand < 2 ^ 13 }
+    ensures { result ≡ length (cards hand) }
+{
+    hand.count_ones()
+}
+
+/// The card at a place of a hand.
+#[inline]
+fn card_at(hand: u16, place: u32) -> u8
+    requires small { hand < 2 ^ 13 }
+    requires place { place < length (cards hand) }
+    ensures { result ≡ slice_index (cards hand) place }
+{
+    let mut rest = hand;
+    for _ in 0..place {
+        rest &= rest - 1;
+    }
+    rest.trailing_zeros() as u8 + 1
+}
+
+/// The card at a place of a hand, and the hand without it.
+#[inline]
+fn bid(hand: u16, place: u32) -> (u8, u16)
+    requires small { hand < 2 ^ 13 }
+    requires place { place < length (cards hand) }
+    ensures card { result.0 ≡ slice_index (cards hand) place }
+    ensures rest { result.1 ≡ packed (remove (cards hand) place) }
+{
+    let card = card_at(hand, place);
+    (card, hand - (1 << (card - 1)))
+}
+
+/// What a prize adds to the score.
+#[inline]
+fn change(one: u8, two: u8, prize: u8) -> i32
+    ensures is { result ≡ won one two prize }
+    ensures small { unsigned_abs result ≤ 255 }
+{
+    if one > two {
+        prize as i32
+    } else if one < two {
+        -(prize as i32)
+    } else {
+        0
+    }
+}
+
+/// The least payoff from a score, where the prizes have this sum.
+fn least_payoff(pay: Pay, score: i32, total: u32) -> i32
+    requires score { unsigned_abs score ≤ 1000 }
+    requires total { total ≤ 3315 }
+    ensures { result ≡ low_of pay score total }
+{
+    match pay {
+        Pay::Margin => score - total as i32,
+        Pay::Win => -1,
+    }
+}
+
+/// The greatest payoff from a score, where the prizes have this sum.
+fn greatest_payoff(pay: Pay, score: i32, total: u32) -> i32
+    requires score { unsigned_abs score ≤ 1000 }
+    requires total { total ≤ 3315 }
+    ensures { result ≡ high_of pay score total }
+{
+    match pay {
+        Pay::Margin => score + total as i32,
+        Pay::Win => 1,
+    }
+}
+
+impl Game for Goofspiel {
+    type State = State;
+
+    ghost model = { λ game. goofspiel_game game.setting };
+
+    fn root(&self) -> State {
+        State {
+            one: self.setting.one,
+            two: self.setting.two,
+            score: self.setting.score,
+        }
+    }
+
+    #[inline]
+    fn moves(&self, side: Side, s: State) -> u32 {
+        match side {
+            Side::One => size(s.one),
+            Side::Two => size(s.two),
+        }
+    }
+
+    #[inline]
+    fn next(&self, s: State, a: u32, b: u32) -> State {
+        let gone = self.setting.count as u32 - size(s.one);
+        let prize = self.setting.prizes[gone as usize];
+        let (card_one, one) = bid(s.one, a);
+        let (card_two, two) = bid(s.two, b);
+        State {
+            one,
+            two,
+            score: s.score + change(card_one, card_two, prize),
+        }
+    }
+
+    #[inline]
+    fn payoff(&self, s: State) -> i32 {
+        match self.setting.pay {
+            Pay::Margin => s.score,
+            Pay::Win => s.score.signum(),
+        }
+    }
+
+    #[inline]
+    fn rank(&self, s: State) -> u32 {
+        size(s.one)
+    }
+
+    #[inline]
+    fn key(&self, s: State) -> u64 {
+        let hands = put(put(Key(0), s.one as u64, 13), s.two as u64, 13);
+        put(hands, (s.score + 2300) as u64, 13).0
+    }
+
+    #[inline]
+    fn low(&self) -> i32 {
+        self.low
+    }
+
+    #[inline]
+    fn high(&self) -> i32 {
+        self.high
+    }
+
+    fn width(&self) -> u32 {
+        1.max(size(self.setting.one))
+    }
+
+    fn label(&self, side: Side, s: State, i: u32) -> u8 {
+        match side {
+            Side::One => card_at(s.one, i),
+            Side::Two => card_at(s.two, i),
+        }
+    }
+
+    #[inline]
+    fn chance_free(&self) -> bool {
+        true
+    }
+
+    #[inline]
+    fn draws(&self, _s: State, _a: u32, _b: u32) -> u32 {
+        1
+    }
+
+    #[inline]
+    fn chance(&self, _s: State, _a: u32, _b: u32, _d: u32) -> u32 {
+        CHANCE
+    }
+
+    #[inline]
+    fn drawn(&self, s: State, a: u32, b: u32, _d: u32) -> State {
+        self.next(s, a, b)
+    }
+
+    ghost lawful = { λ game. goofspiel_is_game game.setting game.valid };
+}
+
+/// The states stand for hands of cards and a score, and every call answers by the rules on these.
+pub fn keeps_rules(_game: &Goofspiel)
+    ensures { KeepsRules _game.now.setting }
+{}

@@ -1,0 +1,29 @@
+use Rattle.std.proofs.Common.{refl, ap, length}
+use Rattle.std.proofs.lemmas.List.{nil_from_length}
+use Rattle.goofspiel.specs.CardLaws.{cards_increase, cards_hand}
+use Rattle.goofspiel.specs.Laws.{sound, one_bid, two_bid, same_hands, goofspiel_is_game}
+use Rattle.goofspiel.specs.Rules.{deal_of}
+use Rattle.goofspiel.proofs.keeps_rules.Goals as goal
+
+pub returns : goal.returns
+returns c =
+    let g = c.args._game.now.setting in
+    let p = c.args._game.now.valid in
+    record {
+      root = refl;
+      is_deal = λ s r. let here = sound g p s r in record {
+        one_hand = (cards_increase s.one, cards_hand s.one here.one_small);
+        two_hand = (cards_increase s.two, cards_hand s.two here.two_small);
+        one_length = here.same_count;
+      };
+      follows = λ s t r turn. let here = sound g p s r in same_hands _ _ (one_bid g p s t here turn).again (two_bid g p s t here turn).again refl;
+      moves = λ side s. refl;
+      label = λ side s i. refl;
+      rank = λ s. refl;
+      ends = λ s. (nil_from_length (deal_of s).one, ap length);
+      payoff = λ s. refl;
+      low = refl;
+      high = refl;
+      width = refl;
+      same_deal = λ s t r r' e. ap deal_of ((goofspiel_is_game g p).same_key s t r r' e);
+    }

@@ -1,0 +1,115 @@
+-- The rules of Goofspiel, on two hands of cards and a score.
+use Rattle.std.specs.Prelude.{◌≡◌, ◌↔◌, ℕ, ◌+◌, ◌-◌, ◌*◌, ◌≤◌, ◌^◌, max, ℤ, pos, neg_ℤ, ◌+ℤ◌, ◌-ℤ◌, unsigned_abs, true, nat_lt, if◌then◌else◌, List, [], length, slice_index, remove, sum, All}
+use Rattle.std.specs.Int.{int_signum}
+use Rattle.std.specs.List.Sorted.{IsStrictlyIncreasing}
+use Rattle.sim_game.specs.declared.Side.{Side}
+use Rattle.sim_game.specs.declared.Side.TheVariants.{One, Two}
+use Rattle.sim_game.specs.Model.{GameModel, Turn, IsTurn, IsEnd, Reachable, after_turn, whole_chance}
+use Rattle.goofspiel.specs.declared.Pay.{Pay}
+use Rattle.goofspiel.specs.declared.Pay.TheVariants.{Margin, Win}
+use Rattle.goofspiel.specs.declared.Setting.{Setting}
+use Rattle.goofspiel.specs.declared.State.{State}
+use Rattle.goofspiel.specs.Cards.{cards, packed}
+use Rattle.goofspiel.specs.Position.{prizes_of}
+
+-- ---- the rules
+-- what the players hold, rising, and the score: One's prizes less Two's
+pub record Deal : Type 0 where
+  pub one : List ℕ
+  pub two : List ℕ
+  pub score : ℤ
+
+abbrev pub IsHand : List ℕ → Type 0
+IsHand hand = IsStrictlyIncreasing hand × All (λ card. (1 ≤ card) × (card ≤ 13)) hand
+
+-- two rising hands of one length
+pub record IsDeal (d : Deal) : Type 0 where
+  pub one_hand : IsHand d.one
+  pub two_hand : IsHand d.two
+  pub one_length : length d.one ≡ length d.two
+
+abbrev pub hand_of : Side → Deal → List ℕ
+hand_of One d = d.one
+hand_of Two d = d.two
+
+-- what a prize adds to the score where One bids `one` and Two bids `two`: the higher card takes it, a tie discards it
+abbrev pub won : ℕ → ℕ → ℕ → ℤ
+won one two prize =
+    if nat_lt two one then pos prize else
+    if nat_lt one two then neg_ℤ (pos prize) else
+    pos 0
+
+-- with m prizes and k cards left, the prize at place m - k is bid for
+abbrev pub next_prize : List ℕ → Deal → ℕ
+next_prize prizes d = slice_index prizes (length prizes - length d.one)
+
+-- each side bids the card at a place of its hand, and both cards are gone
+abbrev pub after_bids : List ℕ → Deal → ℕ → ℕ → Deal
+after_bids prizes d one two = record {
+  one = remove d.one one;
+  two = remove d.two two;
+  score = d.score +ℤ won (slice_index d.one one) (slice_index d.two two) (next_prize prizes d);
+}
+
+abbrev pub pay_of : Pay → ℤ → ℤ
+pay_of Margin score = score
+pay_of Win score = int_signum score
+
+-- the least and the greatest payoff from a score, with prizes of this sum
+abbrev pub low_of : Pay → ℤ → ℕ → ℤ
+low_of Margin score total = score -ℤ pos total
+low_of Win score total = neg_ℤ (pos 1)
+
+abbrev pub high_of : Pay → ℤ → ℕ → ℤ
+high_of Margin score total = score +ℤ pos total
+high_of Win score total = pos 1
+
+-- One's hand, Two's hand and the score plus 2300, in 13 digits each
+abbrev pub key_of : Deal → ℕ
+key_of d = (packed d.one * 2 ^ 13 + packed d.two) * 2 ^ 13 + unsigned_abs (d.score +ℤ pos 2300)
+
+-- ---- the game
+-- the deal that a state stands for
+abbrev pub deal_of : State → Deal
+deal_of s = record { one = cards s.one; two = cards s.two; score = s.score }
+
+-- the state that stands for a deal
+abbrev pub state_of : Deal → State
+state_of d = record { one = packed d.one; two = packed d.two; score = d.score }
+
+abbrev pub first_state : Setting → State
+first_state g = record { one = g.one; two = g.two; score = g.score }
+
+abbrev pub goofspiel_game : Setting → GameModel State
+goofspiel_game g = record {
+  root = first_state g;
+  moves = λ side s. length (hand_of side (deal_of s));
+  draws = λ s one two. 1;
+  chance = λ s one two draw. whole_chance;
+  drawn = λ s one two draw. state_of (after_bids (prizes_of g) (deal_of s) one two);
+  payoff = λ s. pay_of g.pay s.score;
+  rank = λ s. length (deal_of s).one;
+  key = λ s. key_of (deal_of s);
+  label = λ side s i. slice_index (hand_of side (deal_of s)) i;
+  low = low_of g.pay g.score (sum (prizes_of g));
+  high = high_of g.pay g.score (sum (prizes_of g));
+  width = max 1 (length (cards g.one));
+  chance_free = true;
+}
+
+-- the states stand for deals, and each call answers by the rules on them
+pub record KeepsRules (g : Setting) : Type 0 where
+  pub root : deal_of (goofspiel_game g).root ≡ record { one = cards g.one; two = cards g.two; score = g.score }
+  pub is_deal : (s : State) → Reachable (goofspiel_game g) s → IsDeal (deal_of s)
+  pub follows : (s : State) (t : Turn) → Reachable (goofspiel_game g) s → IsTurn (goofspiel_game g) s t
+      → deal_of (after_turn (goofspiel_game g) s t) ≡ after_bids (prizes_of g) (deal_of s) t.one t.two
+  pub moves : (side : Side) (s : State) → (goofspiel_game g).moves side s ≡ length (hand_of side (deal_of s))
+  pub label : (side : Side) (s : State) (i : ℕ) → (goofspiel_game g).label side s i ≡ slice_index (hand_of side (deal_of s)) i
+  pub rank : (s : State) → (goofspiel_game g).rank s ≡ length (deal_of s).one
+  pub ends : (s : State) → IsEnd (goofspiel_game g) s ↔ ((deal_of s).one ≡ [])
+  pub payoff : (s : State) → (goofspiel_game g).payoff s ≡ pay_of g.pay (deal_of s).score
+  pub low : (goofspiel_game g).low ≡ low_of g.pay g.score (sum (prizes_of g))
+  pub high : (goofspiel_game g).high ≡ high_of g.pay g.score (sum (prizes_of g))
+  pub width : (goofspiel_game g).width ≡ max 1 (length (cards g.one))
+  pub same_deal : (s t : State) → Reachable (goofspiel_game g) s → Reachable (goofspiel_game g) t
+      → (goofspiel_game g).key s ≡ (goofspiel_game g).key t → deal_of s ≡ deal_of t

@@ -1,0 +1,15 @@
+use Rattle.std.proofs.Common.{arith, ◌≡◌, slice_index, false, refl}
+use Rattle.std.proofs.lemmas.Int.{ints}
+use Rattle.sim_game.specs.declared.Side.TheVariants.{One, Two}
+use Rattle.oshi_zumo.specs.Rules.{bids, is_over}
+use Rattle.oshi_zumo.specs.Laws.{sound, same_state, open_bids, moves_open}
+use Rattle.oshi_zumo.proofs.OshiZumoGame.next.Goals as goal
+
+pub returns : goal.returns
+returns c =
+    let g = c.args.self.now.setting in
+    let over : is_over g c.args.s ≡ false = moves_open _ _ _ c.requires.one in
+    let one : c.bid-one.result ≡ slice_index (bids g One c.args.s) c.args.a = rw (open_bids g One c.args.s over) c.bid-one.ensures.is in
+    let two : c.bid-two.result ≡ slice_index (bids g Two c.args.s) c.args.b = rw (open_bids g Two c.args.s over) c.bid-two.ensures.is in
+    let here = sound g c.args.self.now.valid c.args.s c.requires.reachable in
+    rw (← one, ← two, ← c.push.ensures.is) (same_state _ _ (omega (arith, ints, here.near, c.push.ensures.small, c.args.self.now.valid.size_high)) refl refl)

@@ -1,0 +1,23 @@
+-- Which positions of Oshi-Zumo are played, and the first fault of the others.
+use Rattle.std.specs.Prelude.{◌≤◌, unsigned_abs, ◌||◌, ◌==◌, nat_lt, if◌then◌else◌, Option, Some, None}
+use Rattle.oshi_zumo.specs.declared.Setting.{Setting}
+use Rattle.oshi_zumo.specs.declared.OshiError.{OshiError}
+use Rattle.oshi_zumo.specs.declared.OshiError.TheVariants.{SizeRange, CoinRange, LeastRange, PlaceRange}
+
+-- the first rule that is broken
+abbrev pub first_fault : Setting → Option OshiError
+first_fault g =
+    if nat_lt 8 g.size then Some SizeRange else
+    if nat_lt 31 g.one || nat_lt 31 g.two then Some CoinRange else
+    if (g.least == 0) || nat_lt 31 g.least then Some LeastRange else
+    if nat_lt g.size (unsigned_abs g.place) then Some PlaceRange else
+    None
+
+-- the setting can be played
+pub record IsPosition (g : Setting) : Type 0 where
+  pub size_high : g.size ≤ 8
+  pub one_high : g.one ≤ 31
+  pub two_high : g.two ≤ 31
+  pub least_low : 1 ≤ g.least
+  pub least_high : g.least ≤ 31
+  pub on_board : unsigned_abs g.place ≤ g.size

@@ -1,0 +1,89 @@
+-- The rules of Oshi-Zumo, on the wrestler's place and the coins of both sides.
+use Rattle.std.specs.Prelude.{◌≡◌, ◌⊎◌, ◌↔◌, ℕ, ◌+◌, ◌-◌, ◌*◌, ◌/◌, ◌<◌, ◌≤◌, ◌^◌, max, ℤ, pos, neg_ℤ, ◌+ℤ◌, unsigned_abs, Bool, true, ◌||◌, ◌&&◌, nat_lt, if◌then◌else◌, List, [], ◌∷◌, length, slice_index}
+use Rattle.std.specs.Int.{int_signum}
+use Rattle.std.specs.List.{range_with_len}
+use Rattle.sim_game.specs.declared.Side.{Side}
+use Rattle.sim_game.specs.declared.Side.TheVariants.{One, Two}
+use Rattle.sim_game.specs.Model.{GameModel, Turn, IsTurn, IsEnd, Reachable, after_turn, whole_chance}
+use Rattle.oshi_zumo.specs.declared.Setting.{Setting}
+use Rattle.oshi_zumo.specs.declared.State.{State}
+
+-- ---- the rules
+abbrev pub coins_of : Side → State → ℕ
+coins_of One s = s.one
+coins_of Two s = s.two
+
+-- the wrestler is off the board
+abbrev pub is_off : Setting → State → Bool
+is_off g s = nat_lt g.size (unsigned_abs s.place)
+
+-- the wrestler is off, or neither side has the least bid
+abbrev pub is_over : Setting → State → Bool
+is_over g s = is_off g s || (nat_lt s.one g.least && nat_lt s.two g.least)
+
+-- what a side with these coins may bid: the least bid up to its coins, or 0 alone where it has too few
+abbrev pub bids_from : ℕ → ℕ → List ℕ
+bids_from least coins = if nat_lt coins least then 0 ∷ [] else range_with_len least (coins + 1 - least)
+
+-- what a side may bid; nothing at an end
+abbrev pub bids : Setting → Side → State → List ℕ
+bids g side s = if is_over g s then [] else bids_from g.least (coins_of side s)
+
+-- the higher bidder pushes the wrestler one place toward the other side, and a tie moves nothing
+abbrev pub push_of : ℕ → ℕ → ℤ
+push_of one two =
+    if nat_lt two one then pos 1 else
+    if nat_lt one two then neg_ℤ (pos 1) else
+    pos 0
+
+-- both bids are paid
+abbrev pub after_bids : State → ℕ → ℕ → State
+after_bids s one two = record { place = s.place +ℤ push_of one two; one = s.one - one; two = s.two - two }
+
+-- how many least bids the richer side can still pay
+abbrev pub rank_of : Setting → State → ℕ
+rank_of g s = if is_off g s then 0 else max (s.one / g.least) (s.two / g.least)
+
+-- the place plus 16, One's coins and Two's coins, in 5 digits each
+abbrev pub key_of : State → ℕ
+key_of s = (unsigned_abs (s.place +ℤ pos 16) * 2 ^ 5 + s.one) * 2 ^ 5 + s.two
+
+-- ---- the game
+abbrev pub first_state : Setting → State
+first_state g = record { place = g.place; one = g.one; two = g.two }
+
+abbrev pub oshi_zumo_game : Setting → GameModel State
+oshi_zumo_game g = record {
+  root = first_state g;
+  moves = λ side s. length (bids g side s);
+  draws = λ s one two. 1;
+  chance = λ s one two draw. whole_chance;
+  drawn = λ s one two draw. after_bids s (slice_index (bids g One s) one) (slice_index (bids g Two s) two);
+  payoff = λ s. int_signum s.place;
+  rank = rank_of g;
+  key = key_of;
+  label = λ side s i. slice_index (bids g side s) i;
+  low = neg_ℤ (pos 1);
+  high = pos 1;
+  width = max 1 (max (g.one + 1 - g.least) (g.two + 1 - g.least));
+  chance_free = true;
+}
+
+-- each call answers by the rules on the place and the coins
+pub record KeepsRules (g : Setting) : Type 0 where
+  pub root : (oshi_zumo_game g).root ≡ record { place = g.place; one = g.one; two = g.two }
+  pub moves : (side : Side) (s : State) → (oshi_zumo_game g).moves side s ≡ length (bids g side s)
+  pub label : (side : Side) (s : State) (i : ℕ) → (oshi_zumo_game g).label side s i ≡ slice_index (bids g side s) i
+  -- a bid can be paid
+  pub paid : (side : Side) (s : State) (i : ℕ) → Reachable (oshi_zumo_game g) s → i < length (bids g side s) → slice_index (bids g side s) i ≤ coins_of side s
+  pub follows : (s : State) (t : Turn) → Reachable (oshi_zumo_game g) s → IsTurn (oshi_zumo_game g) s t
+      → after_turn (oshi_zumo_game g) s t ≡ after_bids s (slice_index (bids g One s) t.one) (slice_index (bids g Two s) t.two)
+  -- an end is where the wrestler is off, or where neither side has the least bid
+  pub ends : (s : State) → Reachable (oshi_zumo_game g) s → IsEnd (oshi_zumo_game g) s ↔ ((g.size < unsigned_abs s.place) ⊎ ((s.one < g.least) × (s.two < g.least)))
+  pub payoff : (s : State) → (oshi_zumo_game g).payoff s ≡ int_signum s.place
+  pub rank : (s : State) → (oshi_zumo_game g).rank s ≡ rank_of g s
+  pub low : (oshi_zumo_game g).low ≡ neg_ℤ (pos 1)
+  pub high : (oshi_zumo_game g).high ≡ pos 1
+  pub width : (oshi_zumo_game g).width ≡ max 1 (max (g.one + 1 - g.least) (g.two + 1 - g.least))
+  pub same_state : (s t : State) → Reachable (oshi_zumo_game g) s → Reachable (oshi_zumo_game g) t
+      → (oshi_zumo_game g).key s ≡ (oshi_zumo_game g).key t → s ≡ t

@@ -1,0 +1,252 @@
+//! Oshi-Zumo: two players bid coins to push a wrestler off the board.
+#![tactic(auto)]
+
+ghost use Rattle.std.specs.Prelude.{◌≡◌, ◌<◌, ◌≤◌, length, slice_index, unsigned_abs, MatchResult};
+ghost use Rattle.oshi_zumo.specs.declared.Setting.{Setting};
+ghost use Rattle.oshi_zumo.specs.Laws.{oshi_zumo_is_game};
+ghost use Rattle.oshi_zumo.specs.Position.{first_fault, IsPosition};
+ghost use Rattle.oshi_zumo.specs.Rules.{bids_from, coins_of, is_off, is_over, oshi_zumo_game, push_of, KeepsRules};
+
+use sim_game::{CHANCE, Game, Side};
+use state_key::{Key, put};
+use thiserror::Error;
+
+/// The wrestler's place and the coins of both sides. With a board of size K the places on it are -K to K; One pushes
+/// toward K, Two toward -K.
+#[derive(Clone, Copy, PartialEq, Eq, Debug)]
+pub struct State {
+    pub place: i8,
+    pub one: u8,
+    pub two: u8,
+}
+
+/// What a position holds: the size of the board, the coins of both sides, the least bid and the wrestler's place.
+#[derive(Clone, Copy, PartialEq, Eq, Debug)]
+pub struct Setting {
+    pub size: u8,
+    pub one: u8,
+    pub two: u8,
+    pub least: u8,
+    pub place: i8,
+}
+
+/// A position of the game.
+#[derive(Clone, Copy, PartialEq, Eq, Debug)]
+pub struct OshiZumo {
+    pub setting: Setting,
+    ghost valid: { IsPosition setting },
+}
+
+/// Why there is no such position.
+#[derive(Clone, Copy, PartialEq, Eq, Debug, Error)]
+pub enum OshiError {
+    #[error("the size is above 8")]
+    SizeRange,
+    #[error("a side has more than 31 coins")]
+    CoinRange,
+    #[error("the least bid is not 1 to 31")]
+    LeastRange,
+    #[error("the place is off the board")]
+    PlaceRange,
+}
+
+impl OshiZumo {
+    /// The position with these numbers. An error names the first rule that is broken: the size is at most 8; each
+    /// side has at most 31 coins; the least bid is 1 to 31; the place is -size to size.
+    pub fn new(size: u8, one: u8, two: u8, least: u8, place: i8) -> Result<OshiZumo, OshiError>
+        ensures { let g : Setting = record { size = size; one = one; two = two; least = least; place = place } in
+            MatchResult result (λ game. (first_fault g ≡ None) × (game.setting ≡ g)) (λ fault. first_fault g ≡ Some fault) }
+    {
+        if size > 8 {
+            return Err(OshiError::SizeRange);
+        }
+        if one > 31 || two > 31 {
+            return Err(OshiError::CoinRange);
+        }
+        if least == 0 || least > 31 {
+            return Err(OshiError::LeastRange);
+        }
+        if place.unsigned_abs() > size {
+            return Err(OshiError::PlaceRange);
+        }
+        let setting = Setting {
+            size,
+            one,
+            two,
+            least,
+            place,
+        };
+        Ok(OshiZumo { setting })
+    }
+}
+
+impl Setting {
+    /// Whether the wrestler is off the board.
+    #[inline]
+    fn is_off(self, s: State) -> bool
+        ensures { result ≡ is_off self s }
+    {
+        s.place.unsigned_abs() > self.size
+    }
+
+    /// Whether the wrestler is off the board or neither side has the least bid.
+    #[inline]
+    fn is_over(self, s: State) -> bool
+        ensures { result ≡ is_over self s }
+    {
+        self.is_off(s) || (s.one < self.least && s.two < self.least)
+    }
+
+    /// How many bids a side with these coins has.
+    #[inline]
+    fn bid_count(self, coins: u8) -> u32
+        ensures { result ≡ length (bids_from self.least coins) }
+    {
+        if coins < self.least {
+            1
+        } else {
+            coins as u32 + 1 - self.least as u32
+        }
+    }
+
+    /// The bid of this number of a side with these coins.
+    #[inline]
+    fn bid(self, coins: u8, i: u32) -> u8
+        requires { i < length (bids_from self.least coins) }
+        ensures is { result ≡ slice_index (bids_from self.least coins) i }
+        ensures paid { result ≤ coins }
+    {
+        if coins < self.least {
+            0
+        } else {
+            self.least + i as u8
+        }
+    }
+}
+
+/// The coins of a side.
+#[inline]
+fn coins(side: Side, s: State) -> u8
+    ensures { result ≡ coins_of side s }
+{
+    match side {
+        Side::One => s.one,
+        Side::Two => s.two,
+    }
+}
+
+/// How far these bids move the wrestler.
+#[inline]
+fn push(one: u8, two: u8) -> i8
+    ensures is { result ≡ push_of one two }
+    ensures small { unsigned_abs result ≤ 1 }
+{
+    if one > two {
+        1
+    } else if one < two {
+        -1
+    } else {
+        0
+    }
+}
+
+impl Game for OshiZumo {
+    type State = State;
+
+    ghost model = { λ game. oshi_zumo_game game.setting };
+
+    fn root(&self) -> State {
+        State {
+            place: self.setting.place,
+            one: self.setting.one,
+            two: self.setting.two,
+        }
+    }
+
+    #[inline]
+    fn moves(&self, side: Side, s: State) -> u32 {
+        if self.setting.is_over(s) {
+            0
+        } else {
+            self.setting.bid_count(coins(side, s))
+        }
+    }
+
+    #[inline]
+    fn next(&self, s: State, a: u32, b: u32) -> State {
+        let one = self.setting.bid(s.one, a);
+        let two = self.setting.bid(s.two, b);
+        State {
+            place: s.place + push(one, two),
+            one: s.one - one,
+            two: s.two - two,
+        }
+    }
+
+    #[inline]
+    fn payoff(&self, s: State) -> i32 {
+        s.place.signum() as i32
+    }
+
+    #[inline]
+    fn rank(&self, s: State) -> u32 {
+        if self.setting.is_off(s) {
+            0
+        } else {
+            (s.one.max(s.two) / self.setting.least) as u32
+        }
+    }
+
+    #[inline]
+    fn key(&self, s: State) -> u64 {
+        let place = put(Key(0), (s.place + 16) as u64, 5);
+        put(put(place, s.one as u64, 5), s.two as u64, 5).0
+    }
+
+    #[inline]
+    fn low(&self) -> i32 {
+        -1
+    }
+
+    #[inline]
+    fn high(&self) -> i32 {
+        1
+    }
+
+    fn width(&self) -> u32 {
+        let least = self.setting.least as u32;
+        1.max((self.setting.one as u32 + 1).saturating_sub(least))
+            .max((self.setting.two as u32 + 1).saturating_sub(least))
+    }
+
+    fn label(&self, side: Side, s: State, i: u32) -> u8 {
+        self.setting.bid(coins(side, s), i)
+    }
+
+    #[inline]
+    fn chance_free(&self) -> bool {
+        true
+    }
+
+    #[inline]
+    fn draws(&self, _s: State, _a: u32, _b: u32) -> u32 {
+        1
+    }
+
+    #[inline]
+    fn chance(&self, _s: State, _a: u32, _b: u32, _d: u32) -> u32 {
+        CHANCE
+    }
+
+    #[inline]
+    fn drawn(&self, s: State, a: u32, b: u32, _d: u32) -> State {
+        self.next(s, a, b)
+    }
+
+    ghost lawful = { λ game. oshi_zumo_is_game game.setting game.valid };
+}
+
+/// Every call answers by the rules on the place and the coins.
+pub fn keeps_rules(_game: &OshiZumo)
+    ensures { KeepsRules _game.now.setting }
+{}

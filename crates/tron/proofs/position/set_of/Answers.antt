@@ -1,0 +1,10 @@
+use Rattle.std.proofs.Common.{arith, List, ℕ, sym, subst, get_or}
+use Rattle.std.proofs.lemmas.List.{take_more}
+use Rattle.tron.specs.Cells.{with_cell, IsSetOf}
+use Rattle.tron.specs.CellLaws.{set_more}
+use Rattle.tron.proofs.position.set_of.Goals as goal
+
+pub loop-cell-preserved : goal.loop-cell-preserved
+loop-cell-preserved c =
+    let cells = c.args.cells.now in
+    rw (c.with_cell-taken.ensures, take_more cells c.loop-cell.cell-index 0 c.loop-cell-test.true) (set_more _ c.loop-cell.taken (get_or cells c.loop-cell.cell-index 0) c.loop-cell.invariant)

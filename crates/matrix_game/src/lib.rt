@@ -6,6 +6,7 @@ ghost use Rattle.matrix_game.specs.Rounds.{ResolutionLaw, StageLaw};
 mod budget;
 mod cells;
 mod rounds;
+mod shares;
 mod stage;
 
 pub use budget::Turns;

@@ -4,6 +4,7 @@ ghost use Rattle.std.specs.Prelude.{◌≡◌, IfOk, ◌+◌, ◌*◌, ◌/◌, 
 ghost use Rattle.matrix_game.specs.Rounds.{mixture_of, positive_part, raised_regrets, regret_of, rounds, best_mixture, reply_counts};
 
 use crate::cells::{Matrix, Reply};
+use crate::shares::mix;
 use std::alloc::{AllocError, Global};
 use sums::weighted;
 
@@ -96,43 +97,5 @@ fn raised(regret: u128, gain: i64) -> u128
     requires { regret < 2 ^ 100 }
     ensures { result ≡ positive_part (pos regret +ℤ gain) }
 {
-    regret.saturating_add_signed(i128::from(gain))
-}
-
-// The sum of the weights.
-fn total_weight(weights: &[u32]) -> u32
-    requires { sum weights.now < 2 ^ 32 }
-    ensures { result ≡ sum weights.now }
-{
-    weights.iter().sum()
-}
-
-// A row's share of the weight, by its part in all regrets.
-fn share(weight: u32, regret: u128, all: u128) -> u32
-    requires light { weight ≤ 1048576 }
-    requires part { regret ≤ all }
-    requires room { all < 2 ^ 107 }
-    ensures { result ≡ weight * regret / all }
-{
-    if all == 0 {
-        0
-    } else {
-        (u128::from(weight) * regret / all) as u32
-    }
-}
-
-// Writes the weight shared out by the regrets.
-fn mix(weight: u32, regrets: &[u128], p: &mut [u32])
-    requires same { length p.old ≡ length regrets.now }
-    requires some { 0 < length regrets.now }
-    requires light { weight ≤ 1048576 }
-    requires room { sum regrets.now < 2 ^ 107 }
-    ensures { p.new ≡ mixture_of weight regrets.now }
-{
-    let all: u128 = regrets.iter().sum();
-    for (row, regret) in regrets.iter().enumerate() {
-        p[row] = share(weight, *regret, all);
-    }
-    let given = total_weight(p);
-    p[0] += weight - given;
+    (regret as i128 + i128::from(gain)).max(0) as u128
 }

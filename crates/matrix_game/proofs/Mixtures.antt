@@ -1,5 +1,5 @@
 -- The lists of the definitions, read by index.
-use Rattle.std.proofs.Common.{◌≡◌, ℕ, zero, suc, ◌+◌, ◌-◌, ◌*◌, ◌/◌, ◌<◌, ◌≤◌, max, sym, refl, ap, ◌∙◌, arith, List, [], ◌∷◌, sum, sum_by, length, get_or, take, replicate, cond, inl, inr}
+use Rattle.std.proofs.Common.{◌≡◌, ℕ, zero, suc, ◌+◌, ◌-◌, ◌*◌, ◌/◌, ◌<◌, ◌≤◌, ◌≢◌, max, sym, refl, ap, ◌∙◌, arith, List, [], ◌∷◌, sum, sum_by, length, get_or, map, take, replicate, cond, inl, inr}
 use Rattle.std.proofs.Math.Seq.{take-length}
 use Rattle.std.proofs.Math.ListN.{set}
 use Rattle.std.proofs.lemmas.Grind.{same_number_lists}
@@ -7,8 +7,10 @@ use Rattle.std.proofs.lemmas.List.{get_or-map, length-map, get_or-replicate, len
 use Rattle.std.proofs.lemmas.Bool.{cases_eq, cases_lt, eq-eqb, ne_eqb}
 use Rattle.std.proofs.Math.Nat.{div-zero, zero-div}
 use Rattle.std.proofs.lemmas.List.Sums.{sum_by_more, get_or-le-sum_by}
+use Rattle.std.specs.List.{range_with_len}
+use Rattle.std.proofs.lemmas.List.FromFn.{fill_by_all, length-map-range_with_len, get_or-map-range_with_len}
 use Rattle.sums.specs.Sums.{count_below}
-use Rattle.sums.proofs.CountLemmas.{count_same, count_constant, count_first}
+use Rattle.sums.proofs.CountLemmas.{count_same, count_constant, count_first, count_more}
 use Rattle.matrix_game.proofs.Potential.{AddsToFirst, share_of, shares-le, weight_by_shares}
 use Rattle.matrix_game.specs.Rounds.{shares, add_to_first, mixture_of}
 
@@ -23,6 +25,10 @@ sum_by-total f xs d = ap (λ l. sum_by f l) (sym (take-length xs)) ∙ sum_by-ta
 
 pub sum-total : (xs : List ℕ) → sum xs ≡ count_below (length xs) (λ k. get_or xs k 0)
 sum-total xs = sum_by-total (λ x. x) xs 0
+
+-- the number of an element of a list
+pub number_at : {X : Type 0} (f : X → ℕ) (xs : List X) (k : ℕ) (x : X) → k < length xs → x ≡ get_or xs k x → get_or (map f xs) k 0 ≡ f x
+number_at f xs k x h e = get_or-map f xs k x 0 h ∙ ap f (sym e)
 
 length-add_to_first : (x : ℕ) (xs : List ℕ) → length (add_to_first x xs) ≡ length xs
 length-add_to_first x [] = refl
@@ -47,7 +53,7 @@ shares_of_none w q e =
     (λ k b. let c : k < length q = omega arith in
     get_or-map (λ r. w * r / sum q) q k 0 0 c ∙ ap (λ s. w * get_or q k 0 / s) e ∙ div-zero (w * get_or q k 0) ∙ sym (get_or-replicate (length q) k 0 0 c))
 
-sum-zeros : (n : ℕ) → sum (replicate n 0) ≡ 0
+pub sum-zeros : (n : ℕ) → sum (replicate n 0) ≡ 0
 sum-zeros n =
     sum-total (replicate n 0) ∙ ap (λ k. count_below k (λ a. get_or (replicate n 0) a 0)) (length-replicate n 0)
     ∙ count_same n (λ a. get_or (replicate n 0) a 0) (λ a. 0) (λ a h. get_or-replicate n a 0 0 h) ∙ (let z = count_constant n 0 in omega (arith, z))
@@ -195,3 +201,45 @@ shared_all w all q p left ea h same shared =
           let s : k ≡ suc (k - 1) = omega arith in
           get_or-set_other p 0 k left 0 z ∙ shared.written k (omega arith) in_q ∙ part_of-share n w all q k ea refl in_q ∙ ap f s ∙ sym (adds.others (k - 1) (omega arith)) ∙ ap (λ i. get_or (mixture_of w q) i 0) (sym s)
     ])
+
+-- ---- a list as a loop makes it from a function of the index
+pub sum-made : (f : ℕ → ℕ) (n : ℕ) → sum (map f (range_with_len 0 n)) ≡ count_below n f
+sum-made f n =
+    sum-total (map f (range_with_len 0 n)) ∙ ap (λ k. count_below k (λ a. get_or (map f (range_with_len 0 n)) a 0)) (length-map-range_with_len f 0 n)
+    ∙ count_same n (λ a. get_or (map f (range_with_len 0 n)) a 0) f (λ a h. get_or-map-range_with_len f 0 n a a 0 h (omega arith))
+
+-- the rows below a row have their new numbers, and their sum is known
+pub record IsMade (f : ℕ → ℕ) (old new : List ℕ) (row all : ℕ) : Type 0 where
+  pub made : (k : ℕ) → k < row → get_or new k 0 ≡ f k
+  pub others : (k : ℕ) → row ≤ k → get_or new k 0 ≡ get_or old k 0
+  pub summed : all ≡ count_below row f
+
+pub none_made : (f : ℕ → ℕ) (old : List ℕ) (all : ℕ) → all ≡ 0 → IsMade f old old 0 all
+none_made f old all e = record {
+  made = λ k h. absurd (omega arith);
+  others = λ k h. refl;
+  summed = e;
+}
+
+pub made_more : (f : ℕ → ℕ) (old new after : List ℕ) (row all next x : ℕ) → row < length new → after ≡ set new row x → x ≡ f row → next ≡ all + x → IsMade f old new row all → IsMade f old after (row + 1) next
+made_more f old new after row all next x h ea ex en made =
+    rw ea (record {
+      made = λ k l. elim (cases_eq k row) [
+        | inl s ↦ ap (λ i. get_or (set new row x) i 0) s ∙ get_or-set_same new row x 0 h ∙ ex ∙ ap f (sym s)
+        | inr o ↦ get_or-set_other new row k x 0 o ∙ made.made k (omega arith)
+      ];
+      others = λ k l. let o : k ≢ row = omega arith in get_or-set_other new row k x 0 o ∙ made.others k (omega arith);
+      summed = omega (arith, count_more row f, made.summed);
+    })
+
+-- a row that is not made yet has its old number
+pub not_made : {X : Type 0} (number : X → ℕ) (f : ℕ → ℕ) (old : List ℕ) (xs : List X) (row all : ℕ) (x : X) → IsMade f old (map number xs) row all → row < length xs → x ≡ get_or xs row x → get_or old row 0 ≡ number x
+not_made number f old xs row all x made h e = sym (made.others row (omega arith)) ∙ number_at number xs row x h e
+
+-- what is summed so far, with one more, is at most the sum of all
+pub made-le : (f : ℕ → ℕ) (old new : List ℕ) (row all n : ℕ) → row < n → IsMade f old new row all → all + f row ≤ sum (map f (range_with_len 0 n))
+made-le f old new row all n h made = omega (arith, made.summed, count_longer (row + 1) n f (omega arith), count_more row f, sum-made f n)
+
+pub all_made : (f : ℕ → ℕ) (old new : List ℕ) (row all n : ℕ) → length new ≡ n → row ≡ n → IsMade f old new row all → (new ≡ map f (range_with_len 0 n)) × (all ≡ sum new)
+all_made f old new row all n e end made =
+    let is = fill_by_all f new n 0 e (λ k l. made.made k (omega arith)) in (is, made.summed ∙ ap (λ k. count_below k f) end ∙ sym (ap sum is ∙ sum-made f n))

@@ -95,3 +95,9 @@ pub record IsMatrix (m : Grid) : Type 0 where
 -- no two cells differ by more than d
 abbrev pub IsSpread : Grid → ℕ → Type 0
 IsSpread m d = (i j : ℕ) → i < length m.cells → j < length m.cells → slice_index_or m.cells i (pos 0) ≤ℤ (slice_index_or m.cells j (pos 0) +ℤ pos d)
+
+-- the regrets of w rounds, each gained with the weight w, together stay below the limit, by a bound on what two cells differ by
+pub record HasRoom (m : Grid) (w limit : ℕ) : Type 0 where
+  pub spread : ℕ
+  pub is_spread : IsSpread m spread
+  pub fits : m.rows * (w * (w * spread)) < limit

@@ -5,6 +5,7 @@ ghost use Rattle.matrix_game.specs.Rounds.{ResolutionLaw, StageLaw};
 
 mod budget;
 mod cells;
+mod regrets;
 mod rounds;
 mod shares;
 mod stage;

@@ -10,9 +10,10 @@ use Rattle.std.proofs.lemmas.List.Sums.{get_or-le-sum_by}
 use borrow.Author.Differences.{up, down}
 use Rattle.sums.specs.Sums.{count_below}
 use Rattle.sums.proofs.CountLemmas.{square_cancel, count_same, count_constant}
+use Rattle.matrix_game.proofs.FirstLemmas.{first_least-below, first_least-le, first_greatest-below, first_greatest-le}
 use Rattle.matrix_game.proofs.Potential.{IsWithin, next_regret}
 use Rattle.matrix_game.proofs.Gap.{IsRun, paid_of, row_gap-le, count_of, is_equal, is_equal-same, is_equal-other, picks_one, total_by_counts, weak_duality}
-use Rattle.matrix_game.proofs.Lifting.{IsLifted, lifted_sum, positive_part-lifted, first_least-below, first_least-le, first_greatest-below, first_greatest-le}
+use Rattle.matrix_game.proofs.Lifting.{IsLifted, lifted_sum, positive_part-lifted}
 use Rattle.matrix_game.proofs.Mixtures.{sum_by-total, mixture_of-adds, total-mixture_of}
 use Rattle.matrix_game.specs.Grid.{Grid, cell_at, column_sum, row_sum, first_greatest, best_reply, row_floor, col_ceiling, IsSaddle, IsShaped, IsSpread}
 use Rattle.matrix_game.specs.Rounds.{mixture_of, positive_part, regret_of, regrets_before, Round, round_at, rounds, mixture_at, best_mixture, reply_counts, all_on, pure, mixed, ResolutionLaw, StageLaw}

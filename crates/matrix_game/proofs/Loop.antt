@@ -9,18 +9,13 @@ use Rattle.std.proofs.lemmas.List.{get_or-set_other, get_or-set_same, length-set
 use Rattle.std.proofs.lemmas.List.Elements.{All-from_get_or}
 use Rattle.sums.specs.Sums.{count_below}
 use Rattle.sums.proofs.CountLemmas.{count_mono, count_constant, count_term}
+use Rattle.matrix_game.proofs.FirstLemmas.{first_greatest-below, first_greatest-one, first_greatest-takes, first_greatest-keeps, same_greatest}
 use Rattle.matrix_game.proofs.Potential.{paid_above}
 use Rattle.matrix_game.proofs.Gap.{count_of, is_equal-same, is_equal-other}
-use Rattle.matrix_game.proofs.Lifting.{first_greatest-below}
 use Rattle.matrix_game.proofs.Mixtures.{sum-total, sum-zeros, length-mixture_of, total-mixture_of}
-use Rattle.matrix_game.proofs.Sums.{first_greatest-one, first_greatest-takes, first_greatest-keeps}
 use Rattle.matrix_game.proofs.Law.{mixture_before, reply_before, weight_before, length-regrets_before, regret_start, regret_step, lifted_at, lifted_at-within, reply_before-below, length-rounds, mixture_at-rounds, get_or-reply_counts, length-reply_counts}
 use Rattle.matrix_game.specs.Grid.{Grid, IsShaped, IsMatrix, IsSpread, HasRoom, row_floor, best_reply, first_greatest}
-use Rattle.matrix_game.specs.Rounds.{mixture_of, raised_regret, raised_regrets, regrets_before, rounds, mixture_at, best_mixture, reply_counts}
-
--- a row's regret after a round
-abbrev pub raised_at : Grid → ℕ → List ℕ → ℕ → ℤ → ℕ → ℕ
-raised_at m w q b paid a = raised_regret m w (get_or q a 0) b paid a
+use Rattle.matrix_game.specs.Rounds.{mixture_of, raised_regrets, regrets_before, rounds, mixture_at, best_mixture, reply_counts}
 
 -- what is secured by the mixture of each round
 abbrev pub floor_before : Grid → ℕ → ℕ → ℤ
@@ -194,17 +189,6 @@ round_keeps m w t regrets all counts best new_regrets new_all mixture low paid r
     }
 
 -- ---- after the last round
-same_greatest : (n : ℕ) (f g : ℕ → ℤ) → ((t : ℕ) → t < n → f t ≡ g t) → first_greatest n f ≡ first_greatest n g
-same_greatest zero f g h = refl
-same_greatest (suc zero) f g h = first_greatest-one f ∙ sym (first_greatest-one g)
-same_greatest (suc (suc n)) f g h =
-    let before = same_greatest (suc n) f g (λ t l. h t (omega arith)) in
-    let i = first_greatest (suc n) g in
-    let below = first_greatest-below (suc n) g (omega arith) in
-    ap (λ k. cond (int_lt (f k) (f (suc n))) (suc n) k) before
-    ∙ ap (λ z. cond (int_lt z (f (suc n))) (suc n) i) (h i (omega arith))
-    ∙ ap (λ z. cond (int_lt (g i) z) (suc n) i) (h (suc n) (omega arith))
-
 pub best_mixture_is : (m : Grid) (w : ℕ) → 0 < w → best_mixture m (rounds m w) ≡ mixture_before m w (first_greatest w (floor_before m w))
 unfolding best_mixture
 best_mixture_is m w h =

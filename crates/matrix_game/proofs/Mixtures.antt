@@ -30,6 +30,11 @@ sum-total xs = sum_by-total (λ x. x) xs 0
 pub number_at : {X : Type 0} (f : X → ℕ) (xs : List X) (k : ℕ) (x : X) → k < length xs → x ≡ get_or xs k x → get_or (map f xs) k 0 ≡ f x
 number_at f xs k x h e = get_or-map f xs k x 0 h ∙ ap f (sym e)
 
+pub number-le : {X : Type 0} (f : X → ℕ) (xs : List X) (k : ℕ) (x : X) → k < length xs → x ≡ get_or xs k x → f x ≤ sum (map f xs)
+number-le f xs k x h e =
+    let listed : k < length (map f xs) = omega (arith, length-map xs f) in
+    omega (arith, number_at f xs k x h e, get_or-le-sum_by (λ n. n) (map f xs) k 0 listed)
+
 length-add_to_first : (x : ℕ) (xs : List ℕ) → length (add_to_first x xs) ≡ length xs
 length-add_to_first x [] = refl
 length-add_to_first x (y ∷ ys) = refl
@@ -231,10 +236,6 @@ made_more f old new after row all next x h ea ex en made =
       others = λ k l. let o : k ≢ row = omega arith in get_or-set_other new row k x 0 o ∙ made.others k (omega arith);
       summed = omega (arith, count_more row f, made.summed);
     })
-
--- a row that is not made yet has its old number
-pub not_made : {X : Type 0} (number : X → ℕ) (f : ℕ → ℕ) (old : List ℕ) (xs : List X) (row all : ℕ) (x : X) → IsMade f old (map number xs) row all → row < length xs → x ≡ get_or xs row x → get_or old row 0 ≡ number x
-not_made number f old xs row all x made h e = sym (made.others row (omega arith)) ∙ number_at number xs row x h e
 
 -- what is summed so far, with one more, is at most the sum of all
 pub made-le : (f : ℕ → ℕ) (old new : List ℕ) (row all n : ℕ) → row < n → IsMade f old new row all → all + f row ≤ sum (map f (range_with_len 0 n))

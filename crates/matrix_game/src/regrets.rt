@@ -11,14 +11,15 @@ pub(crate) trait Regret: Copy {
     /// What all regrets together stay below.
     ghost limit: { ℕ };
 
+    /// No regret.
     fn none() -> Self
         ensures { number result ≡ 0 };
 
     fn wide(self) -> u128
         ensures { result ≡ number self };
 
-    /// About the number without so many of its lowest bits.
-    fn without_lowest(self, bits: u32) -> u64;
+    /// The number without its lowest bits, so many as make it fit. Only an estimate rests on it, so nothing is promised.
+    fn top(self, drop: u32) -> u64;
 
     fn plus(self, other: Self) -> Self
         requires { number self + number other < limit }
@@ -51,7 +52,7 @@ impl Regret for u64 {
         u128::from(self)
     }
 
-    fn without_lowest(self, _bits: u32) -> u64 {
+    fn top(self, _drop: u32) -> u64 {
         self
     }
 
@@ -82,8 +83,8 @@ impl Regret for u128 {
         self
     }
 
-    fn without_lowest(self, bits: u32) -> u64 {
-        (self.wrapping_shr(bits) & u128::from(u64::MAX)) as u64
+    fn top(self, drop: u32) -> u64 {
+        (self.wrapping_shr(drop) & u128::from(u64::MAX)) as u64
     }
 
     fn plus(self, other: u128) -> u128 {

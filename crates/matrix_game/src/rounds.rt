@@ -1,6 +1,6 @@
 //! Regret matching plus over whole numbers, each round against a best reply.
 
-ghost use Rattle.std.specs.Prelude.{◌≡◌, IsTrue, IfOk, ◌^◌, ◌<◌, ◌≤◌, length, map, sum, replicate, unsigned_abs};
+ghost use Rattle.std.specs.Prelude.{◌≡◌, IsTrue, IfOk, ◌^◌, ◌<◌, ◌≤◌, length, map, slice_index, sum, replicate, unsigned_abs};
 ghost use Rattle.matrix_game.specs.Grid.{HasRoom, IsSpread};
 ghost use Rattle.matrix_game.specs.Rounds.{raised_regret, raised_regrets, rounds, best_mixture, reply_counts};
 
@@ -8,7 +8,6 @@ use crate::cells::{Matrix, Reply};
 use crate::regrets::Regret;
 use crate::shares::mix;
 use std::alloc::{AllocError, Global};
-use sums::weighted;
 
 // Weights of the rows and of the columns.
 #[derive(Drop)]
@@ -18,22 +17,23 @@ pub(crate) struct Solution {
 }
 
 impl Matrix {
-    // A row's regret after a round: raised by what that row alone would have gained over what was paid, and never below 0.
-    fn raised<R: Regret>(&self, weight: u32, reply: Reply, row: usize, regret: R) -> R
+    // A row's regret after a round: raised by what that row alone would have gained over what was paid, and cut at 0.
+    fn raised<R: Regret>(&self, weight: u32, reply: Reply, regrets: &[R], row: usize) -> R
+        requires each { length regrets.now ≡ self.now.rows }
         requires light { weight ≤ 1048576 }
         requires row_in { row < self.now.rows }
         requires col_in { reply.col < self.now.cols }
         requires bounded { unsigned_abs reply.paid ≤ 134217728000000000 }
-        requires held { R.number regret < R.limit }
-        requires room { raised_regret self.now weight (R.number regret) reply.col reply.paid row < R.limit }
-        ensures { R.number result ≡ raised_regret self.now weight (R.number regret) reply.col reply.paid row }
+        requires held { slice_index (map R.number regrets.now) row < R.limit }
+        requires room { raised_regret self.now weight (map R.number regrets.now) reply.col reply.paid row < R.limit }
+        ensures { R.number result ≡ raised_regret self.now weight (map R.number regrets.now) reply.col reply.paid row }
     {
-        regret.raised(weighted(weight, self.cell(row, reply.col)) - reply.paid)
+        regrets[row].raised(self.weighted(weight, row, reply.col) - reply.paid)
     }
 
     // Raises the regrets by a round, and sums them.
     fn raise<R: Regret>(&self, weight: u32, reply: Reply, regrets: &mut [R]) -> R
-        requires weights { length regrets.old ≡ self.now.rows }
+        requires each { length regrets.old ≡ self.now.rows }
         requires light { weight ≤ 1048576 }
         requires col_in { reply.col < self.now.cols }
         requires bounded { unsigned_abs reply.paid ≤ 134217728000000000 }
@@ -44,7 +44,7 @@ impl Matrix {
     {
         let mut all = R::none();
         for row in 0..self.rows {
-            let regret = self.raised(weight, reply, row, regrets[row]);
+            let regret = self.raised(weight, reply, regrets, row);
             regrets[row] = regret;
             all = all.plus(regret);
         }
@@ -65,13 +65,14 @@ impl Matrix {
         (high - low) as u64
     }
 
-    // Whether the regrets fit 64 bits in as many rounds as the weight.
+    // Whether the regrets fit 64 bits in as many rounds as the weight: in each a regret rises by at most the weight
+    // times the spread.
     fn is_narrow(&self, weight: u32) -> bool
         requires light { weight ≤ 1048576 }
         ensures { IsTrue result → HasRoom self.now weight (2 ^ 63) }
     {
-        let regret = u128::from(weight) * u128::from(weight) * u128::from(self.spread());
-        self.rows as u128 * regret < 1 << 63
+        let greatest = u128::from(weight) * u128::from(weight) * u128::from(self.spread());
+        self.rows as u128 * greatest < 1 << 63
     }
 
     // Plays as many rounds as the weight, from no regrets and no counts.
@@ -93,6 +94,7 @@ impl Matrix {
         ensures best { best.new ≡ best_mixture self.now (rounds self.now weight) }
         ensures counts { counts.new ≡ reply_counts self.now (rounds self.now weight) }
     {
+        // A read of a field, from which the proof knows the shape.
         let _rows = self.rows;
         let mut all = R::none();
         let mut low = 0;

@@ -10,9 +10,10 @@ use Rattle.std.proofs.lemmas.List.Sums.{get_or-le-sum_by}
 use borrow.Author.Differences.{up, down}
 use Rattle.sums.specs.Sums.{count_below}
 use Rattle.sums.proofs.CountLemmas.{square_cancel, count_same, count_constant}
+use Rattle.matrix_game.proofs.FirstLemmas.{first_least-below, first_least-le, first_greatest-below, first_greatest-le}
 use Rattle.matrix_game.proofs.Potential.{IsWithin, next_regret}
 use Rattle.matrix_game.proofs.Gap.{IsRun, paid_of, row_gap-le, count_of, is_equal, is_equal-same, is_equal-other, picks_one, total_by_counts, weak_duality}
-use Rattle.matrix_game.proofs.Lifting.{IsLifted, lifted_sum, positive_part-lifted, first_least-below, first_least-le, first_greatest-below, first_greatest-le}
+use Rattle.matrix_game.proofs.Lifting.{IsLifted, lifted_sum, positive_part-lifted}
 use Rattle.matrix_game.proofs.Mixtures.{sum_by-total, mixture_of-adds, total-mixture_of}
 use Rattle.matrix_game.specs.Grid.{Grid, cell_at, column_sum, row_sum, first_greatest, best_reply, row_floor, col_ceiling, IsSaddle, IsShaped, IsSpread}
 use Rattle.matrix_game.specs.Rounds.{mixture_of, positive_part, regret_of, regrets_before, Round, round_at, rounds, mixture_at, best_mixture, reply_counts, all_on, pure, mixed, ResolutionLaw, StageLaw}
@@ -71,7 +72,7 @@ reply_before-below m w t s = first_least-below m.cols (column_sum m (mixture_bef
 pub weight_before : (m : Grid) (w t : ℕ) → IsShaped m → count_below m.rows (λ a. get_or (mixture_before m w t) a 0) ≡ w
 weight_before m w t s = total-mixture_of m.rows w (regrets_before m w t) (length-regrets_before m w t) (omega (arith, s.some_row))
 
-regret_step : (m : Grid) (w t a : ℕ) → IsShaped m → a < m.rows
+pub regret_step : (m : Grid) (w t a : ℕ) → IsShaped m → a < m.rows
     → get_or (regrets_before m w (suc t)) a 0 ≡ next_regret m.rows w (λ c. get_or (regrets_before m w t) c 0) (λ c. get_or (mixture_before m w t) c 0) (λ c. lifted_at m c (reply_before m w t)) a
 unfolding regrets_before
 regret_step m w t a s h =
@@ -83,7 +84,7 @@ regret_step m w t a s h =
     ∙ positive_part-lifted (get_or q a 0) w (shift_of m) (cell_at m a b) (column_sum m p b) (lifted_at m a b) (count_below m.rows (λ c. get_or p c 0 * lifted_at m c b))
     (lifted_at-is m a b s h k) (paid_lifted m w b p s k (weight_before m w t s))
 
-regret_start : (m : Grid) (w a : ℕ) → a < m.rows → get_or (regrets_before m w 0) a 0 ≡ 0
+pub regret_start : (m : Grid) (w a : ℕ) → a < m.rows → get_or (regrets_before m w 0) a 0 ≡ 0
 unfolding regrets_before
 regret_start m w a h = get_or-replicate m.rows a 0 0 h
 

@@ -1,14 +1,16 @@
 -- The lists of the definitions, read by index.
-use Rattle.std.proofs.Common.{◌≡◌, ℕ, zero, suc, ◌+◌, ◌-◌, ◌*◌, ◌/◌, ◌<◌, ◌≤◌, sym, refl, ap, ◌∙◌, arith, List, [], ◌∷◌, sum, sum_by, length, get_or, take, replicate, cond, inl, inr}
+use Rattle.std.proofs.Common.{◌≡◌, ℕ, zero, suc, ◌+◌, ◌-◌, ◌*◌, ◌/◌, ◌<◌, ◌≤◌, ◌≢◌, max, sym, refl, ap, ◌∙◌, arith, List, [], ◌∷◌, sum, sum_by, length, get_or, map, take, replicate, cond, inl, inr}
 use Rattle.std.proofs.Math.Seq.{take-length}
 use Rattle.std.proofs.Math.ListN.{set}
 use Rattle.std.proofs.lemmas.Grind.{same_number_lists}
-use Rattle.std.proofs.lemmas.List.{get_or-map, length-map, get_or-replicate, length-replicate}
-use Rattle.std.proofs.lemmas.Bool.{cases_eq, eq-eqb, ne_eqb}
-use Rattle.std.proofs.Math.Nat.{div-zero}
-use Rattle.std.proofs.lemmas.List.Sums.{sum_by_more}
+use Rattle.std.proofs.lemmas.List.{get_or-map, length-map, get_or-replicate, length-replicate, get_or-set_other, get_or-set_same, length-set}
+use Rattle.std.proofs.lemmas.Bool.{cases_eq, cases_lt, eq-eqb, ne_eqb}
+use Rattle.std.proofs.Math.Nat.{div-zero, zero-div}
+use Rattle.std.proofs.lemmas.List.Sums.{sum_by_more, get_or-le-sum_by}
+use Rattle.std.specs.List.{range_with_len}
+use Rattle.std.proofs.lemmas.List.FromFn.{fill_by_all, length-map-range_with_len, get_or-map-range_with_len}
 use Rattle.sums.specs.Sums.{count_below}
-use Rattle.sums.proofs.CountLemmas.{count_same, count_constant}
+use Rattle.sums.proofs.CountLemmas.{count_same, count_constant, count_first, count_more}
 use Rattle.matrix_game.proofs.Potential.{AddsToFirst, share_of, shares-le, weight_by_shares}
 use Rattle.matrix_game.specs.Rounds.{shares, add_to_first, mixture_of}
 
@@ -23,6 +25,15 @@ sum_by-total f xs d = ap (λ l. sum_by f l) (sym (take-length xs)) ∙ sum_by-ta
 
 pub sum-total : (xs : List ℕ) → sum xs ≡ count_below (length xs) (λ k. get_or xs k 0)
 sum-total xs = sum_by-total (λ x. x) xs 0
+
+-- the number of an element of a list
+pub number_at : {X : Type 0} (f : X → ℕ) (xs : List X) (k : ℕ) (x : X) → k < length xs → x ≡ get_or xs k x → get_or (map f xs) k 0 ≡ f x
+number_at f xs k x h e = get_or-map f xs k x 0 h ∙ ap f (sym e)
+
+pub number-le : {X : Type 0} (f : X → ℕ) (xs : List X) (k : ℕ) (x : X) → k < length xs → x ≡ get_or xs k x → f x ≤ sum (map f xs)
+number-le f xs k x h e =
+    let listed : k < length (map f xs) = omega (arith, length-map xs f) in
+    omega (arith, number_at f xs k x h e, get_or-le-sum_by (λ n. n) (map f xs) k 0 listed)
 
 length-add_to_first : (x : ℕ) (xs : List ℕ) → length (add_to_first x xs) ≡ length xs
 length-add_to_first x [] = refl
@@ -47,7 +58,7 @@ shares_of_none w q e =
     (λ k b. let c : k < length q = omega arith in
     get_or-map (λ r. w * r / sum q) q k 0 0 c ∙ ap (λ s. w * get_or q k 0 / s) e ∙ div-zero (w * get_or q k 0) ∙ sym (get_or-replicate (length q) k 0 0 c))
 
-sum-zeros : (n : ℕ) → sum (replicate n 0) ≡ 0
+pub sum-zeros : (n : ℕ) → sum (replicate n 0) ≡ 0
 sum-zeros n =
     sum-total (replicate n 0) ∙ ap (λ k. count_below k (λ a. get_or (replicate n 0) a 0)) (length-replicate n 0)
     ∙ count_same n (λ a. get_or (replicate n 0) a 0) (λ a. 0) (λ a h. get_or-replicate n a 0 0 h) ∙ (let z = count_constant n 0 in omega (arith, z))
@@ -101,29 +112,135 @@ weight_of (suc n) w q p h a =
 pub total-mixture_of : (n w : ℕ) (q : List ℕ) → length q ≡ n → 0 < n → count_below n (λ a. get_or (mixture_of w q) a 0) ≡ w
 total-mixture_of n w q e h = weight_of n w (λ k. get_or q k 0) (λ a. get_or (mixture_of w q) a 0) h (mixture_of-adds n w q e h)
 
--- ---- the mixture as a loop writes it
-shares_written : (w all : ℕ) (q p : List ℕ) → all ≡ sum q → length p ≡ length q → ((k : ℕ) → k < length q → get_or p k 0 ≡ w * get_or q k 0 / all) → p ≡ shares w q
-shares_written w all q p e l h =
-    same_number_lists p (shares w q) (l ∙ sym (length-map q (λ r. w * r / sum q)))
-    (λ k b. let c : k < length q = omega arith in h k c ∙ ap (λ s. w * get_or q k 0 / s) e ∙ sym (get_or-map (λ r. w * r / sum q) q k 0 0 c))
+-- ---- the mixture as a loop writes it, from the second row on
+count_longer : (n m : ℕ) (f : ℕ → ℕ) → n ≤ m → count_below n f ≤ count_below m f
+count_longer n zero f h = let e : n ≡ 0 = omega arith in rw e (omega arith)
+count_longer n (suc m) f h =
+    elim (cases_lt m n) [
+      | inl l ↦ let e : n ≡ suc m = omega arith in rw e (omega arith)
+      | inr l ↦ omega (arith, count_longer n m f l)
+    ]
 
-pub sum-shares-le : (w : ℕ) (q : List ℕ) → sum (shares w q) ≤ w
-sum-shares-le w q = omega (arith, sum-shares (length q) w q refl, shares-le (length q) w (λ k. get_or q k 0))
+-- a row's share, by a sum of the regrets that is 1 where there is none
+abbrev pub part_of : ℕ → ℕ → List ℕ → ℕ → ℕ
+part_of w all q k = w * get_or q k 0 / all
 
--- the sum of the shares written is at most the weight
-pub sum-written-le : (w all : ℕ) (q p : List ℕ) → all ≡ sum q → length p ≡ length q → ((k : ℕ) → k < length q → get_or p k 0 ≡ w * get_or q k 0 / all) → sum p ≤ w
-sum-written-le w all q p e l h = rw (shares_written w all q p e l h) (sum-shares-le w q)
+none_of : (w d : ℕ) → w * 0 / d ≡ 0
+none_of w d = let e : w * 0 ≡ 0 = omega arith in ap (λ x. x / d) e ∙ zero-div d
 
-add_to_first-set : (x : ℕ) (xs : List ℕ) → 0 < length xs → set xs 0 (get_or xs 0 0 + x) ≡ add_to_first x xs
-add_to_first-set x [] h = absurd (omega arith)
-add_to_first-set x (y ∷ ys) h = refl
+part_of-share : (n w all : ℕ) (q : List ℕ) (k : ℕ) → all ≡ max (sum q) 1 → length q ≡ n → k < n → part_of w all q k ≡ share_of n w (λ a. get_or q a 0) k
+part_of-share n w all q k ea e h =
+    let s : sum q ≡ count_below n (λ a. get_or q a 0) = sum-total q ∙ ap (λ i. count_below i (λ a. get_or q a 0)) e in
+    elim (cases_eq (sum q) 0) [
+      | inl z ↦ let none : get_or q k 0 ≡ 0 = omega (arith, get_or-le-sum_by (λ x. x) q k 0 (omega arith)) in
+          ap (λ x. w * x / all) none ∙ none_of w all ∙ sym (ap (λ x. w * x / count_below n (λ a. get_or q a 0)) none ∙ none_of w (count_below n (λ a. get_or q a 0)))
+      | inr z ↦ let is : all ≡ sum q = omega arith in ap (λ d. w * get_or q k 0 / d) (is ∙ s)
+    ]
 
--- with what is missing added to the first row it is the mixture
-pub mixture_of-written : (w all given : ℕ) (q p : List ℕ) → all ≡ sum q → length p ≡ length q → 0 < length q → ((k : ℕ) → k < length q → get_or p k 0 ≡ w * get_or q k 0 / all) → given ≡ sum p
-    → set p 0 (get_or p 0 0 + (w - given)) ≡ mixture_of w q
-mixture_of-written w all given q p e l some h g =
-    let is = shares_written w all q p e l h in
-    add_to_first-set (w - given) p (omega arith)
-    ∙ ap (λ x. add_to_first (w - x) p) g
-    ∙ ap (λ ys. add_to_first (w - sum ys) ys) is
-    ∙ sym (mixture_of-filled w q)
+later_parts : (n w all r : ℕ) (q : List ℕ) → all ≡ max (sum q) 1 → length q ≡ n → r < n
+    → share_of n w (λ a. get_or q a 0) 0 + count_below r (λ k. part_of w all q (suc k)) ≡ count_below (suc r) (share_of n w (λ a. get_or q a 0))
+later_parts n w all r q ea e h =
+    let f = share_of n w (λ a. get_or q a 0) in
+    let same = count_same r (λ k. part_of w all q (suc k)) (λ k. f (suc k)) (λ k l. part_of-share n w all q (suc k) ea e (omega arith)) in
+    omega (arith, same, count_first r f)
+
+-- the shares of the later rows are at most the weight
+later_parts-le : (n w all r : ℕ) (q : List ℕ) → all ≡ max (sum q) 1 → length q ≡ n → r < n → count_below r (λ k. part_of w all q (suc k)) ≤ w
+later_parts-le n w all r q ea e h =
+    let f = share_of n w (λ a. get_or q a 0) in
+    omega (arith, later_parts n w all r q ea e h, count_longer (suc r) n f (omega arith), shares-le n w (λ a. get_or q a 0))
+
+-- the rows after the first, and below a row, have their shares, and so much of the weight is left
+pub record IsShared (w all row : ℕ) (q p : List ℕ) (left : ℕ) : Type 0 where
+  pub written : (k : ℕ) → 1 ≤ k → k < row → get_or p k 0 ≡ part_of w all q k
+  pub left_over : left + count_below (row - 1) (λ k. part_of w all q (suc k)) ≡ w
+
+pub none_shared : (w all : ℕ) (q p : List ℕ) → IsShared w all 1 q p w
+none_shared w all q p = record {
+  written = λ k l h. absurd (omega arith);
+  left_over = let e : 1 - 1 ≡ 0 = omega arith in rw e (omega arith);
+}
+
+one_more : (w all r : ℕ) (q : List ℕ) → count_below (suc r) (λ k. part_of w all q (suc k)) ≡ count_below r (λ k. part_of w all q (suc k)) + part_of w all q (suc r)
+one_more w all r q = refl
+
+pub share_left : (w all row : ℕ) (q p : List ℕ) (left : ℕ) → all ≡ max (sum q) 1 → 1 ≤ row → row < length q → IsShared w all row q p left → part_of w all q row ≤ left
+share_left w all row q p left ea l h shared =
+    let r = row - 1 in
+    let e : row ≡ suc r = omega arith in
+    let below = later_parts-le (length q) w all row q ea refl h in
+    let split : count_below row (λ k. part_of w all q (suc k)) ≡ count_below r (λ k. part_of w all q (suc k)) + part_of w all q row =
+    ap (λ n. count_below n (λ k. part_of w all q (suc k))) e ∙ one_more w all r q ∙ ap (λ n. count_below r (λ k. part_of w all q (suc k)) + part_of w all q n) (sym e) in
+    omega (arith, below, split, shared.left_over)
+
+pub shared_more : (w all row : ℕ) (q p : List ℕ) (left share : ℕ) → all ≡ max (sum q) 1 → 1 ≤ row → row < length q → length p ≡ length q → share ≡ part_of w all q row → IsShared w all row q p left
+    → IsShared w all (row + 1) q (set p row share) (left - share)
+shared_more w all row q p left share ea l h same es shared =
+    let r = row - 1 in
+    let e : row ≡ suc r = omega arith in
+    let e1 : row + 1 - 1 ≡ suc r = omega arith in
+    let le = share_left w all row q p left ea l h shared in
+    record {
+      written = λ k a b. elim (cases_eq k row) [
+        | inl s ↦ let in_p : row < length p = omega arith in ap (λ i. get_or (set p row share) i 0) s ∙ get_or-set_same p row share 0 in_p ∙ es ∙ ap (part_of w all q) (sym s)
+        | inr o ↦ get_or-set_other p row k share 0 o ∙ shared.written k a (omega arith)
+      ];
+      left_over = let part = ap (part_of w all q) e in rw e1 (omega (arith, shared.left_over, es, le, part));
+    }
+
+-- with what is left given to the first row it is the mixture
+pub shared_all : (w all : ℕ) (q p : List ℕ) (left : ℕ) → all ≡ max (sum q) 1 → 0 < length q → length p ≡ length q → IsShared w all (length q) q p left → set p 0 left ≡ mixture_of w q
+shared_all w all q p left ea h same shared =
+    let n = length q in
+    let f = share_of n w (λ a. get_or q a 0) in
+    let adds = mixture_of-adds n w q refl h in
+    let r = n - 1 in
+    let e : n ≡ suc r = omega arith in
+    let parts = later_parts n w all r q ea refl (omega arith) in
+    let whole = ap (λ i. count_below i f) e in
+    same_number_lists (set p 0 left) (mixture_of w q) (length-set p 0 left ∙ same ∙ sym (length-mixture_of w q))
+    (λ k b. elim (cases_eq k 0) [
+      | inl z ↦ let in_p : 0 < length p = omega arith in
+          ap (λ i. get_or (set p 0 left) i 0) z ∙ get_or-set_same p 0 left 0 in_p ∙ omega (arith, shared.left_over, parts, whole, shares-le n w (λ a. get_or q a 0), adds.first) ∙ ap (λ i. get_or (mixture_of w q) i 0) (sym z)
+      | inr z ↦ let in_q : k < n = omega (arith, length-set p 0 left) in
+          let s : k ≡ suc (k - 1) = omega arith in
+          get_or-set_other p 0 k left 0 z ∙ shared.written k (omega arith) in_q ∙ part_of-share n w all q k ea refl in_q ∙ ap f s ∙ sym (adds.others (k - 1) (omega arith)) ∙ ap (λ i. get_or (mixture_of w q) i 0) (sym s)
+    ])
+
+-- ---- a list as a loop makes it from a function of the index
+pub sum-made : (f : ℕ → ℕ) (n : ℕ) → sum (map f (range_with_len 0 n)) ≡ count_below n f
+sum-made f n =
+    sum-total (map f (range_with_len 0 n)) ∙ ap (λ k. count_below k (λ a. get_or (map f (range_with_len 0 n)) a 0)) (length-map-range_with_len f 0 n)
+    ∙ count_same n (λ a. get_or (map f (range_with_len 0 n)) a 0) f (λ a h. get_or-map-range_with_len f 0 n a a 0 h (omega arith))
+
+-- the rows below a row have their new numbers, and their sum is known
+pub record IsMade (f : ℕ → ℕ) (old new : List ℕ) (row all : ℕ) : Type 0 where
+  pub made : (k : ℕ) → k < row → get_or new k 0 ≡ f k
+  pub others : (k : ℕ) → row ≤ k → get_or new k 0 ≡ get_or old k 0
+  pub summed : all ≡ count_below row f
+
+pub none_made : (f : ℕ → ℕ) (old : List ℕ) (all : ℕ) → all ≡ 0 → IsMade f old old 0 all
+none_made f old all e = record {
+  made = λ k h. absurd (omega arith);
+  others = λ k h. refl;
+  summed = e;
+}
+
+pub made_more : (f : ℕ → ℕ) (old new after : List ℕ) (row all next x : ℕ) → row < length new → after ≡ set new row x → x ≡ f row → next ≡ all + x → IsMade f old new row all → IsMade f old after (row + 1) next
+made_more f old new after row all next x h ea ex en made =
+    rw ea (record {
+      made = λ k l. elim (cases_eq k row) [
+        | inl s ↦ ap (λ i. get_or (set new row x) i 0) s ∙ get_or-set_same new row x 0 h ∙ ex ∙ ap f (sym s)
+        | inr o ↦ get_or-set_other new row k x 0 o ∙ made.made k (omega arith)
+      ];
+      others = λ k l. let o : k ≢ row = omega arith in get_or-set_other new row k x 0 o ∙ made.others k (omega arith);
+      summed = omega (arith, count_more row f, made.summed);
+    })
+
+-- what is summed so far, with one more, is at most the sum of all
+pub made-le : (f : ℕ → ℕ) (old new : List ℕ) (row all n : ℕ) → row < n → IsMade f old new row all → all + f row ≤ sum (map f (range_with_len 0 n))
+made-le f old new row all n h made = omega (arith, made.summed, count_longer (row + 1) n f (omega arith), count_more row f, sum-made f n)
+
+pub all_made : (f : ℕ → ℕ) (old new : List ℕ) (row all n : ℕ) → length new ≡ n → row ≡ n → IsMade f old new row all → (new ≡ map f (range_with_len 0 n)) × (all ≡ sum new)
+all_made f old new row all n e end made =
+    let is = fill_by_all f new n 0 e (λ k l. made.made k (omega arith)) in (is, made.summed ∙ ap (λ k. count_below k f) end ∙ sym (ap sum is ∙ sum-made f n))

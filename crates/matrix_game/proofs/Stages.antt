@@ -11,7 +11,7 @@ use Rattle.std.proofs.lemmas.List.Sums.{get_or-le-sum_by}
 use Rattle.std.proofs.lemmas.List.Elements.{All-from_get_or}
 use Rattle.std.proofs.lemmas.List.FromFn.{length-map-range_with_len}
 use Rattle.sums.specs.Sums.{count_below}
-use Rattle.matrix_game.proofs.Lifting.{first_least-below, first_greatest-below}
+use Rattle.matrix_game.proofs.FirstLemmas.{first_least-below, first_greatest-below}
 use Rattle.matrix_game.proofs.Mixtures.{sum-total, length-mixture_of}
 use Rattle.matrix_game.proofs.Law.{weight_before, length-regrets_before, total-reply_counts, length-reply_counts, get_or-all_on, weight-all_on}
 use Rattle.matrix_game.proofs.Loop.{floor_before, best_mixture_is}

@@ -1,5 +1,5 @@
 -- Matrix games: the cells, what weights pay, and saddles.
-use Rattle.std.specs.Prelude.{◌≡◌, ℕ, zero, suc, ◌+◌, ◌*◌, ◌<◌, ◌≤◌, List, length, slice_index, slice_index_or, ℤ, pos, ◌+ℤ◌, ◌*ℤ◌, ◌≤ℤ◌, int_lt, unsigned_abs, if◌then◌else◌}
+use Rattle.std.specs.Prelude.{◌≡◌, ℕ, zero, suc, ◌+◌, ◌*◌, ◌<◌, ◌≤◌, List, length, slice_index, slice_index_or, ℤ, pos, neg_ℤ, ◌+ℤ◌, ◌*ℤ◌, ◌≤ℤ◌, int_lt, unsigned_abs, if◌then◌else◌}
 use Rattle.sums.specs.Sums.{sum_below}
 
 -- the payoffs of a game to player one, row by row
@@ -29,13 +29,9 @@ abbrev pub first_least : ℕ → (ℕ → ℤ) → ℕ
 first_least zero f = 0
 first_least (suc n) f = lesser_at f (first_least n f) n
 
-abbrev pub greater_at : (ℕ → ℤ) → ℕ → ℕ → ℕ
-greater_at f i j = if int_lt (f i) (f j) then j else i
-
 -- the first place below n at which f is greatest
 abbrev pub first_greatest : ℕ → (ℕ → ℤ) → ℕ
-first_greatest zero f = 0
-first_greatest (suc n) f = greater_at f (first_greatest n f) n
+first_greatest n f = first_least n (λ i. neg_ℤ (f i))
 
 -- the first column in which the weights p of the rows pay least
 abbrev pub best_reply : Grid → List ℕ → ℕ
@@ -95,3 +91,9 @@ pub record IsMatrix (m : Grid) : Type 0 where
 -- no two cells differ by more than d
 abbrev pub IsSpread : Grid → ℕ → Type 0
 IsSpread m d = (i j : ℕ) → i < length m.cells → j < length m.cells → slice_index_or m.cells i (pos 0) ≤ℤ (slice_index_or m.cells j (pos 0) +ℤ pos d)
+
+-- the regrets of w rounds, each gained with the weight w, together stay below the limit, by a bound on what two cells differ by
+pub record HasRoom (m : Grid) (w limit : ℕ) : Type 0 where
+  pub spread : ℕ
+  pub is_spread : IsSpread m spread
+  pub fits : m.rows * (w * (w * spread)) < limit

@@ -1,6 +1,6 @@
 //! The cells of a matrix, what weights pay in them, and its saddles.
 
-ghost use Rattle.std.specs.Prelude.{◌≡◌, ◌↔◌, ℕ, IsTrue, IsOk, IfOk, IfSome, IfNone, ◌+◌, ◌*◌, ◌<◌, ◌≤◌, length, All, unsigned_abs};
+ghost use Rattle.std.specs.Prelude.{◌≡◌, ◌↔◌, ℕ, IsTrue, IsOk, IfOk, IfSome, IfNone, ◌+◌, ◌*◌, ◌<◌, ◌≤◌, length, All, pos, ◌*ℤ◌, unsigned_abs};
 ghost use Rattle.matrix_game.specs.Grid.{IsSaddle, IsFirstSaddle, HasGoodShape, IsSmall, IsFirstLarge, cell_at, column_sum, row_sum, best_reply, row_floor, col_ceiling};
 
 use crate::MOST_MOVES;
@@ -116,6 +116,17 @@ impl Matrix {
         self.cells[row * self.cols + col]
     }
 
+    // A cell's part of a sum.
+    pub(crate) fn weighted(&self, weight: u32, row: usize, col: usize) -> i64
+        requires light { weight ≤ 1048576 }
+        requires row_in { row < self.now.rows }
+        requires col_in { col < self.now.cols }
+        ensures value { result ≡ pos weight *ℤ cell_at self.now row col }
+        ensures small { unsigned_abs result ≤ 4194304000000000 }
+    {
+        weighted(weight, self.cell(row, col))
+    }
+
     fn column_sum(&self, p: &[u32], col: usize) -> i64
         requires weights { length p.now ≡ self.now.rows }
         requires light { All (λ x. x ≤ 1048576) p.now }
@@ -125,7 +136,7 @@ impl Matrix {
     {
         let mut sum = 0;
         for row in 0..self.rows {
-            sum += weighted(p[row], self.cell(row, col));
+            sum += self.weighted(p[row], row, col);
         }
         sum
     }
@@ -138,7 +149,7 @@ impl Matrix {
     {
         let mut sum = 0;
         for col in 0..self.cols {
-            sum += weighted(v[col], self.cell(row, col));
+            sum += self.weighted(v[col], row, col);
         }
         sum
     }

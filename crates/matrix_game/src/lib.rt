@@ -5,7 +5,9 @@ ghost use Rattle.matrix_game.specs.Rounds.{ResolutionLaw, StageLaw};
 
 mod budget;
 mod cells;
+mod regrets;
 mod rounds;
+mod shares;
 mod stage;
 
 pub use budget::Turns;

@@ -1,11 +1,13 @@
 //! Regret matching plus over whole numbers, each round against a best reply.
 
-ghost use Rattle.std.specs.Prelude.{◌≡◌, IfOk, ◌+◌, ◌*◌, ◌/◌, ◌^◌, ◌<◌, ◌≤◌, length, All, sum, replicate, pos, ◌+ℤ◌, unsigned_abs};
-ghost use Rattle.matrix_game.specs.Rounds.{mixture_of, positive_part, raised_regrets, regret_of, rounds, best_mixture, reply_counts};
+ghost use Rattle.std.specs.Prelude.{◌≡◌, IsTrue, IfOk, ◌^◌, ◌<◌, ◌≤◌, length, map, slice_index, sum, replicate, unsigned_abs};
+ghost use Rattle.matrix_game.specs.Grid.{HasRoom, IsSpread};
+ghost use Rattle.matrix_game.specs.Rounds.{raised_regret, raised_regrets, rounds, best_mixture, reply_counts};
 
 use crate::cells::{Matrix, Reply};
+use crate::regrets::Regret;
+use crate::shares::mix;
 use std::alloc::{AllocError, Global};
-use sums::weighted;
 
 // Weights of the rows and of the columns.
 #[derive(Drop)]
@@ -15,61 +17,96 @@ pub(crate) struct Solution {
 }
 
 impl Matrix {
-    // What a row alone would have gained, with the whole weight, over what was paid.
-    fn regret(&self, weight: u32, reply: Reply, row: usize) -> i64
+    // A row's regret after a round: raised by what that row alone would have gained over what was paid, and cut at 0.
+    fn raised<R: Regret>(&self, weight: u32, reply: Reply, regrets: &[R], row: usize) -> R
+        requires each { length regrets.now ≡ self.now.rows }
         requires light { weight ≤ 1048576 }
         requires row_in { row < self.now.rows }
         requires col_in { reply.col < self.now.cols }
         requires bounded { unsigned_abs reply.paid ≤ 134217728000000000 }
-        ensures value { result ≡ regret_of self.now weight reply.col reply.paid row }
-        ensures small { unsigned_abs result ≤ 2 ^ 57 }
+        requires held { slice_index (map R.number regrets.now) row < R.limit }
+        requires room { raised_regret self.now weight (map R.number regrets.now) reply.col reply.paid row < R.limit }
+        ensures { R.number result ≡ raised_regret self.now weight (map R.number regrets.now) reply.col reply.paid row }
     {
-        weighted(weight, self.cell(row, reply.col)) - reply.paid
+        regrets[row].raised(self.weighted(weight, row, reply.col) - reply.paid)
     }
 
-    // Adds to each row's regret what that row alone would have gained over what was paid.
-    fn raise(&self, weight: u32, reply: Reply, regrets: &mut [u128])
-        requires weights { length regrets.old ≡ self.now.rows }
+    // Raises the regrets by a round, and sums them.
+    fn raise<R: Regret>(&self, weight: u32, reply: Reply, regrets: &mut [R]) -> R
+        requires each { length regrets.old ≡ self.now.rows }
         requires light { weight ≤ 1048576 }
         requires col_in { reply.col < self.now.cols }
         requires bounded { unsigned_abs reply.paid ≤ 134217728000000000 }
-        requires room { All (λ x. x < 2 ^ 100) regrets.old }
-        ensures { regrets.new ≡ raised_regrets self.now weight regrets.old reply.col reply.paid }
+        requires held { sum (map R.number regrets.old) < R.limit }
+        requires room { sum (raised_regrets self.now weight (map R.number regrets.old) reply.col reply.paid) < R.limit }
+        ensures regrets { map R.number regrets.new ≡ raised_regrets self.now weight (map R.number regrets.old) reply.col reply.paid }
+        ensures all { R.number result ≡ sum (map R.number regrets.new) }
     {
+        let mut all = R::none();
         for row in 0..self.rows {
-            regrets[row] = raised(regrets[row], self.regret(weight, reply, row));
+            let regret = self.raised(weight, reply, regrets, row);
+            regrets[row] = regret;
+            all = all.plus(regret);
         }
+        all
+    }
+
+    // What two cells differ by at most.
+    fn spread(&self) -> u64
+        ensures spread { IsSpread self.now result }
+        ensures small { result ≤ 8000000000 }
+    {
+        let mut low = self.cells[0];
+        let mut high = low;
+        for cell in &self.cells {
+            low = low.min(*cell);
+            high = high.max(*cell);
+        }
+        (high - low) as u64
+    }
+
+    // Whether the regrets fit 64 bits in as many rounds as the weight: in each a regret rises by at most the weight
+    // times the spread.
+    fn is_narrow(&self, weight: u32) -> bool
+        requires light { weight ≤ 1048576 }
+        ensures { IsTrue result → HasRoom self.now weight (2 ^ 63) }
+    {
+        let greatest = u128::from(weight) * u128::from(weight) * u128::from(self.spread());
+        self.rows as u128 * greatest < 1 << 63
     }
 
     // Plays as many rounds as the weight, from no regrets and no counts.
-    fn play(
+    fn play<R: Regret>(
         &self,
         weight: u32,
-        regrets: &mut [u128],
+        regrets: &mut [R],
         mixture: &mut [u32],
         best: &mut [u32],
         counts: &mut [u32],
     )
         requires some { 1 ≤ weight }
         requires light { weight ≤ 1048576 }
-        requires regrets { regrets.old ≡ replicate self.now.rows 0 }
+        requires room { HasRoom self.now weight R.limit }
+        requires regrets { map R.number regrets.old ≡ replicate self.now.rows 0 }
         requires mixture { length mixture.old ≡ self.now.rows }
         requires best { best.old ≡ replicate self.now.rows 0 }
         requires counts { counts.old ≡ replicate self.now.cols 0 }
         ensures best { best.new ≡ best_mixture self.now (rounds self.now weight) }
         ensures counts { counts.new ≡ reply_counts self.now (rounds self.now weight) }
     {
+        // A read of a field, from which the proof knows the shape.
         let _rows = self.rows;
+        let mut all = R::none();
         let mut low = 0;
         for round in 0..weight {
-            mix(weight, regrets, mixture);
+            mix(weight, regrets, all, mixture);
             let reply = self.best_reply(mixture);
             counts[reply.col] += 1;
             if round == 0 || low < reply.paid {
                 low = reply.paid;
                 best.copy_from_slice(mixture);
             }
-            self.raise(weight, reply, regrets);
+            all = self.raise(weight, reply, regrets);
         }
     }
 
@@ -82,57 +119,16 @@ impl Matrix {
     {
         let rows = self.rows;
         let cols = self.cols;
-        let mut regrets = vec![in alloc; 0u128; rows]?;
         let mut mixture = vec![in alloc; 0u32; rows]?;
         let mut p = vec![in alloc; 0u32; rows]?;
         let mut v = vec![in alloc; 0u32; cols]?;
-        self.play(weight, &mut regrets, &mut mixture, &mut p, &mut v);
+        if self.is_narrow(weight) {
+            let mut regrets = vec![in alloc; 0u64; rows]?;
+            self.play(weight, &mut regrets, &mut mixture, &mut p, &mut v);
+        } else {
+            let mut regrets = vec![in alloc; 0u128; rows]?;
+            self.play(weight, &mut regrets, &mut mixture, &mut p, &mut v);
+        }
         Ok(Solution { p, v })
     }
-}
-
-// A regret after a round, never below 0.
-fn raised(regret: u128, gain: i64) -> u128
-    requires { regret < 2 ^ 100 }
-    ensures { result ≡ positive_part (pos regret +ℤ gain) }
-{
-    regret.saturating_add_signed(i128::from(gain))
-}
-
-// The sum of the weights.
-fn total_weight(weights: &[u32]) -> u32
-    requires { sum weights.now < 2 ^ 32 }
-    ensures { result ≡ sum weights.now }
-{
-    weights.iter().sum()
-}
-
-// A row's share of the weight, by its part in all regrets.
-fn share(weight: u32, regret: u128, all: u128) -> u32
-    requires light { weight ≤ 1048576 }
-    requires part { regret ≤ all }
-    requires room { all < 2 ^ 107 }
-    ensures { result ≡ weight * regret / all }
-{
-    if all == 0 {
-        0
-    } else {
-        (u128::from(weight) * regret / all) as u32
-    }
-}
-
-// Writes the weight shared out by the regrets.
-fn mix(weight: u32, regrets: &[u128], p: &mut [u32])
-    requires same { length p.old ≡ length regrets.now }
-    requires some { 0 < length regrets.now }
-    requires light { weight ≤ 1048576 }
-    requires room { sum regrets.now < 2 ^ 107 }
-    ensures { p.new ≡ mixture_of weight regrets.now }
-{
-    let all: u128 = regrets.iter().sum();
-    for (row, regret) in regrets.iter().enumerate() {
-        p[row] = share(weight, *regret, all);
-    }
-    let given = total_weight(p);
-    p[0] += weight - given;
 }

@@ -1,31 +1,60 @@
-use Rattle.std.proofs.Common.{◌≡◌, ◌<◌, ℕ, ◌≢◌, ◌∙◌, pos, ◌+ℤ◌, get_or, length, arith, w64, FitsSigned, ap}
-use Rattle.std.proofs.lemmas.Int.{ints, to_z-of_z}
-use Rattle.std.proofs.lemmas.List.{get_or-set_other}
-use Rattle.std.proofs.lemmas.List.Edits.{fill_by_more}
-use Rattle.std.proofs.lemmas.List.FromFn.{fill_by_all}
+use Rattle.std.proofs.Common.{◌≡◌, arith, map, length, pos, ◌+ℤ◌, ap, ◌∙◌, ℕ, List}
+use Rattle.std.proofs.lemmas.List.{length-map, map-set}
 use Rattle.matrix_game.specs.Grid.{Grid}
-use Rattle.matrix_game.specs.Rounds.{positive_part, regret_of}
+use Rattle.matrix_game.specs.Rounds.{positive_part, regret_of, raised_regret}
+use Rattle.matrix_game.proofs.Mixtures.{none_made, made_more, made-le, all_made}
 use Rattle.matrix_game.proofs.cells.Matrix.raise.Goals as goal
 
-pub loop-row-preserved : goal.loop-row-preserved
-loop-row-preserved c =
+pub loop-row-init : goal.loop-row-init
+loop-row-init g c =
+    let q : List ℕ = map g.R.Regret.number c.args.regrets.now in
+    none_made (raised_regret c.args.self.now c.args.weight q c.args.reply.col c.args.reply.paid) q (g.R.Regret.number c.none-all.result) c.none-all.ensures
+
+pub raised-regret-requires-clause-room : goal.raised-regret-requires-clause-room
+raised-regret-requires-clause-room g c =
+    let number = g.R.Regret.number in
+    let q : List ℕ = map number c.args.regrets.now in
     let row = c.loop-row.row in
     let rows = ap (λ (m : Grid). m.rows) c.self.view_is in
-    let now : ℕ → ℕ = λ k. positive_part (pos (get_or c.args.regrets.now k 0) +ℤ regret_of c.args.self.now c.args.weight c.args.reply.col c.args.reply.paid k) in
-    let fits : FitsSigned w64 c.regret.result = omega (arith, ints) in
-    let gain = to_z-of_z w64 c.regret.result fits ∙ c.regret.ensures.value in
-    let raised : c.raised.result ≡ now row =
-    c.raised.ensures
-    ∙ ap (λ z. positive_part (pos (get_or c.loop-row.regrets row 0) +ℤ z)) gain
-    ∙ ap (λ x. positive_part (pos x +ℤ regret_of c.args.self.now c.args.weight c.args.reply.col c.args.reply.paid row)) (c.loop-row.invariant.others row (omega arith)) in
-    let in_row : row < length c.loop-row.regrets = omega arith in
-    record {
-      raised = rw raised (fill_by_more now c.loop-row.regrets row 0 in_row c.loop-row.invariant.raised);
-      others = λ k l. let ne : k ≢ row = omega arith in get_or-set_other c.loop-row.regrets row k c.raised.result 0 ne ∙ c.loop-row.invariant.others k (omega arith);
-    }
+    let f = raised_regret c.args.self.now c.args.weight q c.args.reply.col c.args.reply.paid in
+    let same = ap (λ x. positive_part (pos x +ℤ regret_of c.args.self.now c.args.weight c.args.reply.col c.args.reply.paid row)) (c.loop-row.invariant.others row (omega arith)) in
+    omega (arith, same, made-le f q (map number c.loop-row.regrets) row (number c.loop-row.all) c.args.self.now.rows (omega arith) c.loop-row.invariant, c.requires.room)
 
-pub returns : goal.returns
-returns c =
-    let now : ℕ → ℕ = λ k. positive_part (pos (get_or c.args.regrets.now k 0) +ℤ regret_of c.args.self.now c.args.weight c.args.reply.col c.args.reply.paid k) in
+pub plus-all-requires : goal.plus-all-requires
+plus-all-requires g c =
+    let number = g.R.Regret.number in
+    let q : List ℕ = map number c.args.regrets.now in
+    let row = c.loop-row.row in
     let rows = ap (λ (m : Grid). m.rows) c.self.view_is in
-    fill_by_all now c.loop-row.regrets c.args.self.now.rows 0 (omega arith) (λ k l. c.loop-row.invariant.raised k (omega arith))
+    let f = raised_regret c.args.self.now c.args.weight q c.args.reply.col c.args.reply.paid in
+    let same = ap (λ x. positive_part (pos x +ℤ regret_of c.args.self.now c.args.weight c.args.reply.col c.args.reply.paid row)) (c.loop-row.invariant.others row (omega arith)) in
+    omega (arith, same, c.raised-regret.ensures, made-le f q (map number c.loop-row.regrets) row (number c.loop-row.all) c.args.self.now.rows (omega arith) c.loop-row.invariant, c.requires.room)
+
+pub loop-row-preserved : goal.loop-row-preserved
+loop-row-preserved g c =
+    let number = g.R.Regret.number in
+    let q : List ℕ = map number c.args.regrets.now in
+    let row = c.loop-row.row in
+    let rows = ap (λ (m : Grid). m.rows) c.self.view_is in
+    let f = raised_regret c.args.self.now c.args.weight q c.args.reply.col c.args.reply.paid in
+    let same = ap (λ x. positive_part (pos x +ℤ regret_of c.args.self.now c.args.weight c.args.reply.col c.args.reply.paid row)) (c.loop-row.invariant.others row (omega arith)) in
+    made_more f q (map number c.loop-row.regrets) _ row (number c.loop-row.all) (number c.plus-all.result) (number c.raised-regret.result) (omega (arith, length-map c.loop-row.regrets number))
+    (map-set number c.loop-row.regrets row c.raised-regret.result) (c.raised-regret.ensures ∙ same) c.plus-all.ensures c.loop-row.invariant
+
+pub returns-clause-regrets : goal.returns-clause-regrets
+returns-clause-regrets g c =
+    let number = g.R.Regret.number in
+    let q : List ℕ = map number c.args.regrets.now in
+    let rows = ap (λ (m : Grid). m.rows) c.self.view_is in
+    let f = raised_regret c.args.self.now c.args.weight q c.args.reply.col c.args.reply.paid in
+    let end : c.loop-row.row ≡ c.args.self.now.rows = omega arith in
+    (all_made f q (map number c.loop-row.regrets) c.loop-row.row (number c.loop-row.all) c.args.self.now.rows (omega (arith, length-map c.loop-row.regrets number)) end c.loop-row.invariant).0
+
+pub returns-clause-all : goal.returns-clause-all
+returns-clause-all g c =
+    let number = g.R.Regret.number in
+    let q : List ℕ = map number c.args.regrets.now in
+    let rows = ap (λ (m : Grid). m.rows) c.self.view_is in
+    let f = raised_regret c.args.self.now c.args.weight q c.args.reply.col c.args.reply.paid in
+    let end : c.loop-row.row ≡ c.args.self.now.rows = omega arith in
+    (all_made f q (map number c.loop-row.regrets) c.loop-row.row (number c.loop-row.all) c.args.self.now.rows (omega (arith, length-map c.loop-row.regrets number)) end c.loop-row.invariant).1

@@ -45,6 +45,11 @@ pub record IsFull {S G N : Type 0} (m : GameModel S) (v : BoardView G N) (asked 
   pub apart : (row other key : ℕ) → v.key_at row ≡ Some key → v.key_at other ≡ Some key → row ≡ other
   pub named : (row key : ℕ) → v.key_at row ≡ Some key → IsInnerKey m key
 
+-- a claim found each row held by another key
+pub record WasFull {S G N : Type 0} (m : GameModel S) (v : BoardView G N) : Type 0 where
+  pub asked : ℕ
+  pub full : IsFull m v asked
+
 -- a number at a state that an entry may rest on
 pub data IsSeenNumber {S G N : Type 0} (m : GameModel S) (v : BoardView G N) (side : Side) (s : S) (x : ℤ) : Type 0 where
   by_end : IsEnd m s → x ≡ end_bound m s → IsSeenNumber m v side s x

@@ -1,7 +1,51 @@
--- The states that a worker has finished.
-use Rattle.std.specs.Prelude.{ℕ, Bool, List}
+-- The states that a worker has finished, and when a state counts as finished.
+use Rattle.std.specs.Prelude.{◌≡◌, ◌≢◌, ℕ, ◌+◌, ◌*◌, ◌<◌, ◌≤◌, ℤ, pos, ◌+ℤ◌, ◌≤ℤ◌, ◌<ℤ◌, Bool, true, cond, List, ◌++◌, length, slice_index, All}
+use Rattle.sim_game.specs.declared.Side.TheVariants.{One, Two}
+use Rattle.sim_game.specs.Model.{GameModel, Reachable}
+use Rattle.sim_game.specs.Resolution.{IsStageGap}
+use Rattle.bounds_board.specs.Views.{BoardView}
 
 -- the keys in order of addition, and whether some claim found the board full
 pub record FinishedView : Type 0 where
   pub keys : List ℕ
   pub was_full : Bool
+
+-- the bounds seen at the key are at most so far apart
+abbrev pub IsWithin : {G N : Type 0} → BoardView G N → ℕ → ℤ → Type 0
+IsWithin v key gap = v.seen Two key ≤ℤ (v.seen One key +ℤ gap)
+
+-- they are further apart
+abbrev pub IsBeyond : {G N : Type 0} → BoardView G N → ℕ → ℤ → Type 0
+IsBeyond v key gap = (v.seen One key +ℤ gap) <ℤ v.seen Two key
+
+-- the gap of a state of this rank that the stages of its turns reach: a stage's gap and the roundings, for each rank
+abbrev pub rank_gap : {S : Type 0} → GameModel S → ℕ → ℕ → ℕ
+rank_gap m stage rank = rank * (stage + 1 + cond m.chance_free 0 1)
+
+-- the bounds seen at the state are as close as its rank allows
+abbrev pub IsClose : {S G N : Type 0} → GameModel S → ℕ → BoardView G N → S → Type 0
+IsClose m total v s = (stage : ℕ) → IsStageGap m total stage → IsWithin v (m.key s) (pos (rank_gap m stage (m.rank s)))
+
+-- the key is that of a reachable state that is no end, of a rank below the limit, whose bounds are as close as its rank allows
+pub record IsFinished {S G N : Type 0} (m : GameModel S) (total : ℕ) (v : BoardView G N) (limit key : ℕ) : Type 0 where
+  pub state : S
+  pub reachable : Reachable m state
+  pub goes_on : 1 ≤ m.rank state
+  pub below : m.rank state < limit
+  pub is_key : m.key state ≡ key
+  pub close : IsClose m total v state
+
+-- no key stands twice
+abbrev pub AreApart : List ℕ → Type 0
+AreApart keys = (i j : ℕ) → i < j → j < length keys → slice_index keys i ≢ slice_index keys j
+
+pub record AreFinished {S G N : Type 0} (m : GameModel S) (total : ℕ) (v : BoardView G N) (keys : List ℕ) : Type 0 where
+  pub each : All (IsFinished m total v 32) keys
+  pub apart : AreApart keys
+
+-- keys were added at the end, each of a finished state of a rank below the limit, and a full board stays in mind
+pub record IsExtended {S G N : Type 0} (m : GameModel S) (total : ℕ) (v : BoardView G N) (limit : ℕ) (old new : FinishedView) : Type 0 where
+  pub more : List ℕ
+  pub joins : new.keys ≡ old.keys ++ more
+  pub each : All (IsFinished m total v limit) more
+  pub full : old.was_full ≡ true → new.was_full ≡ true

@@ -11,7 +11,7 @@ use Rattle.plan_book.specs.Entries.{IsLawfulEntry, concat_below}
 use Rattle.plan_book.specs.Books.{Grows}
 use Rattle.bounds_board.specs.declared.bounds.BoardFault.{BoardFault}
 use Rattle.bounds_board.specs.declared.bounds.BoardFault.TheVariants.{Full, NoMemory}
-use Rattle.bounds_board.specs.Views.{BoardView, IsLater, IsFull, IsSeenNumber}
+use Rattle.bounds_board.specs.Views.{BoardView, IsLater, IsSeenNumber}
 use Rattle.serial_ab.specs.Counts.{VisitsView, Counts}
 use Rattle.serial_ab.specs.Values.{pair_value, move_value}
 
@@ -39,11 +39,6 @@ Ends Found Cut IsBoardFull (Ok (Some x)) = Found x
 Ends Found Cut IsBoardFull (Ok None) = Cut
 Ends Found Cut IsBoardFull (Err Full) = IsBoardFull
 Ends Found Cut IsBoardFull (Err NoMemory) = Unit {0}
-
--- a claim found each row held by another key
-pub record WasFull {S G N : Type 0} (m : GameModel S) (v : BoardView G N) : Type 0 where
-  pub asked : ℕ
-  pub full : IsFull m v asked
 
 -- above the window's worse end the number is proved and seen; below its better end nothing better is there
 pub record IsFound {S G N : Type 0} (m : GameModel S) (side : Side) (s : S) (worse better : ℤ) (v : BoardView G N) (x : ℤ) : Type 0 where

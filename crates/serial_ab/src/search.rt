@@ -5,7 +5,8 @@ ghost use Rattle.sim_game.specs.Sides.{other_side, IsNoTighter, opening_bound, m
 ghost use Rattle.plan_book.specs.Serial.{tree_size};
 ghost use Rattle.serial_ab.specs.Counts.{spent_on, left_on, IsCut};
 ghost use Rattle.serial_ab.specs.Values.{pair_nodes, move_nodes, inner_nodes};
-ghost use Rattle.serial_ab.specs.Searches.{Ends, IsKept, IsWindow, WasFull, IsFound, IsMoveFound, IsPairFound};
+ghost use Rattle.bounds_board.specs.Views.{WasFull};
+ghost use Rattle.serial_ab.specs.Searches.{Ends, IsKept, IsWindow, IsFound, IsMoveFound, IsPairFound};
 
 use crate::moves::{keep, post_move};
 use crate::visits::Visits;

@@ -6,7 +6,8 @@ ghost use Rattle.sim_game.specs.Sides.{IsNoTighter, opening_bound};
 ghost use Rattle.plan_book.specs.Serial.{serial_bound, tree_size};
 ghost use Rattle.serial_ab.specs.Counts.{spent_on, left_on};
 ghost use Rattle.serial_ab.specs.Ends.{IsValue, IsPlaced, IsRange, worse_end, better_end};
-ghost use Rattle.serial_ab.specs.Searches.{IsKept, WasFull};
+ghost use Rattle.bounds_board.specs.Views.{WasFull};
+ghost use Rattle.serial_ab.specs.Searches.{IsKept};
 
 use crate::search::search_state;
 use crate::visits::Visits;

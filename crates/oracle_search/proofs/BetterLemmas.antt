@@ -1,0 +1,58 @@
+-- What one part of a search after another leaves on the board.
+use Rattle.std.proofs.Common.{◌≡◌, ℕ, ◌≤◌, ℤ, ◌≤ℤ◌, List, ◌++◌, w64, to_z, of_z, refl, ap, subst, sym, ◌∙◌}
+use Rattle.std.proofs.lemmas.Int.{to_z-of_z}
+use Rattle.std.proofs.lemmas.List.Elements.{All-weaker}
+use Rattle.sim_game.specs.declared.Side.{Side}
+use Rattle.sim_game.specs.declared.Side.TheVariants.{One, Two}
+use Rattle.sim_game.specs.Model.{GameModel, IsGame, Reachable}
+use Rattle.sim_game.specs.Sides.{IsNoTighter}
+use Rattle.sim_game.proofs.SideLemmas.{looser_trans, looser_left, looser_right}
+use Rattle.plan_book.specs.declared.Entry.{Entry}
+use Rattle.plan_book.specs.Backed.{IsBacked}
+use Rattle.plan_book.specs.Entries.{IsLawfulEntry}
+use Rattle.plan_book.specs.Books.{Grows}
+use Rattle.plan_book.specs.Serial.{serial_bound}
+use Rattle.plan_book.proofs.BackedLemmas.{backed_meet}
+use Rattle.plan_book.proofs.SerialLemmas.{serial_backed}
+use Rattle.bounds_board.specs.Views.{BoardView, IsLater, IsRead, IsEnclosure}
+use Rattle.bounds_board.proofs.PlainLemmas.{range_fits}
+use Rattle.bounds_board.proofs.ViewLemmas.{later_refl, later_trans}
+use Rattle.serial_ab.specs.Counts.{VisitsView}
+use Rattle.serial_ab.specs.Searches.{IsPureEntry, IsKept}
+use Rattle.serial_ab.proofs.KeptLemmas.{grows_none, grows_after}
+use Rattle.oracle_search.specs.Searches.{IsBetter}
+
+pub grows_weaker : (P Q : Entry → Type 0) (xs ys : List Entry) → ((e : Entry) → P e → Q e) → Grows P xs ys → Grows Q xs ys
+grows_weaker P Q xs ys f p = record { more = p.more; joins = p.joins; each = All-weaker P Q f p.more p.each }
+
+module _ {S G N : Type 0} (m : GameModel S) (total : ℕ) where
+  pub better_refl : (v : BoardView G N) → IsBetter m total v v
+  better_refl v = record { later = later_refl v; posted = grows_none (IsLawfulEntry m total) v.entries v.entries refl }
+
+  pub better_trans : (u v w : BoardView G N) → IsBetter m total u v → IsBetter m total v w → IsBetter m total u w
+  better_trans u v w p q = record {
+    later = later_trans u v w p.later q.later;
+    posted = grows_after (IsLawfulEntry m total) u.entries v.entries w.entries p.posted q.posted;
+  }
+
+  -- a part that posts nothing
+  pub better_quiet : (u v : BoardView G N) → IsLater u v → v.entries ≡ u.entries → IsBetter m total u v
+  better_quiet u v later same = record { later = later; posted = grows_none (IsLawfulEntry m total) u.entries v.entries same }
+
+-- a serial search
+pub better_serial : {S G N : Type 0} (m : GameModel S) (side : Side) (most : ℕ) (u v : BoardView G N) (x y : VisitsView) → IsKept m side most u v x y → IsBetter m u.total u v
+better_serial m side most u v x y kept = record {
+  later = kept.later;
+  posted = grows_weaker (IsPureEntry m u.total) (IsLawfulEntry m u.total) u.entries v.entries (λ e p. p.lawful) kept.posted;
+}
+
+-- numbers of one word are one number
+pub enclosure_met : {S : Type 0} (m : GameModel S) (game : IsGame m) (s : S) (lower upper : ℤ) → IsEnclosure m lower upper s → of_z w64 lower ≡ of_z w64 upper → lower ≡ upper
+enclosure_met m game s lower upper both met =
+    sym (to_z-of_z w64 lower (range_fits m game lower both.lower_low both.lower_high)) ∙ ap (to_z w64) met ∙ to_z-of_z w64 upper (range_fits m game upper both.upper_low both.upper_high)
+
+-- where both bounds are one number, each is as tight as pure plans can make it
+pub serial_met : {S G N : Type 0} (m : GameModel S) (game : IsGame m) (s : S) (v : BoardView G N) (lower upper : ℤ) → Reachable m s → IsEnclosure m lower upper s → IsRead v lower upper (m.key s) → of_z w64 lower ≡ of_z w64 upper
+    → (side : Side) → IsNoTighter side (serial_bound m side s) (v.seen side (m.key s))
+serial_met m game s v lower upper r both read met One = subst (λ (x : ℤ). serial_bound m One s ≤ℤ x) (sym (enclosure_met m game s lower upper both met) ∙ read.lower_seen) (backed_meet m game s (serial_bound m One s) upper r (serial_backed m game One s r) both.upper_backed)
+serial_met m game s v lower upper r both read met Two = subst (λ (x : ℤ). x ≤ℤ serial_bound m Two s) (enclosure_met m game s lower upper both met ∙ read.upper_seen) (backed_meet m game s lower (serial_bound m Two s) r both.lower_backed (serial_backed m game Two s r))

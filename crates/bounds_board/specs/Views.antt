@@ -38,12 +38,11 @@ pub record IsInnerKey {S : Type 0} (m : GameModel S) (key : ℕ) : Type 0 where
   pub goes_on : 1 ≤ m.rank state
   pub is_key : m.key state ≡ key
 
--- each row is known to have another key than the one asked for, and no two rows have one key
+-- each row is known to have a key other than the one asked for, and no two rows have one key
 pub record IsFull {S G N : Type 0} (m : GameModel S) (v : BoardView G N) (asked : ℕ) : Type 0 where
   pub inner : IsInnerKey m asked
-  pub others : (row : ℕ) → row < v.rows → (key : ℕ) × (v.key_at row ≡ Some key) × (key ≢ asked)
-  pub apart : (row other key : ℕ) → v.key_at row ≡ Some key → v.key_at other ≡ Some key → row ≡ other
-  pub named : (row key : ℕ) → v.key_at row ≡ Some key → IsInnerKey m key
+  pub others : (row : ℕ) → row < v.rows → (key : ℕ) × (v.key_at row ≡ Some key) × IsInnerKey m key × (key ≢ asked)
+  pub apart : (row other key : ℕ) → row < v.rows → other < v.rows → v.key_at row ≡ Some key → v.key_at other ≡ Some key → row ≡ other
 
 -- a claim found each row held by another key
 pub record WasFull {S G N : Type 0} (m : GameModel S) (v : BoardView G N) : Type 0 where

@@ -1,14 +1,11 @@
 -- What one part of a search after another leaves on the board.
-use Rattle.std.proofs.Common.{◌≡◌, ℕ, ◌≤◌, ℤ, ◌≤ℤ◌, List, ◌++◌, w64, to_z, of_z, refl, ap, subst, sym, ◌∙◌}
-use Rattle.std.proofs.lemmas.Int.{to_z-of_z}
+use Rattle.std.proofs.Common.{◌≡◌, ℕ, ℤ, pos, ◌-ℤ◌, ◌≤ℤ◌, List, w64, SFits, to_z, of_z, refl, ap, subst, sym, ◌∙◌, arith}
+use Rattle.std.proofs.lemmas.Int.{ints, to_z-of_z}
 use Rattle.std.proofs.lemmas.List.Elements.{All-weaker}
 use Rattle.sim_game.specs.declared.Side.{Side}
 use Rattle.sim_game.specs.declared.Side.TheVariants.{One, Two}
 use Rattle.sim_game.specs.Model.{GameModel, IsGame, Reachable}
-use Rattle.sim_game.specs.Sides.{IsNoTighter}
-use Rattle.sim_game.proofs.SideLemmas.{looser_trans, looser_left, looser_right}
 use Rattle.plan_book.specs.declared.Entry.{Entry}
-use Rattle.plan_book.specs.Backed.{IsBacked}
 use Rattle.plan_book.specs.Entries.{IsLawfulEntry}
 use Rattle.plan_book.specs.Books.{Grows}
 use Rattle.plan_book.specs.Serial.{serial_bound}
@@ -20,7 +17,7 @@ use Rattle.bounds_board.proofs.ViewLemmas.{later_refl, later_trans}
 use Rattle.serial_ab.specs.Counts.{VisitsView}
 use Rattle.serial_ab.specs.Searches.{IsPureEntry, IsKept}
 use Rattle.serial_ab.proofs.KeptLemmas.{grows_none, grows_after}
-use Rattle.oracle_search.specs.Searches.{IsBetter}
+use Rattle.oracle_search.specs.Searches.{IsBetter, IsPureTight}
 
 pub grows_weaker : (P Q : Entry → Type 0) (xs ys : List Entry) → ((e : Entry) → P e → Q e) → Grows P xs ys → Grows Q xs ys
 grows_weaker P Q xs ys f p = record { more = p.more; joins = p.joins; each = All-weaker P Q f p.more p.each }
@@ -46,13 +43,39 @@ better_serial m side most u v x y kept = record {
   posted = grows_weaker (IsPureEntry m u.total) (IsLawfulEntry m u.total) u.entries v.entries (λ e p. p.lawful) kept.posted;
 }
 
+module _ {S G N : Type 0} (m : GameModel S) (game : IsGame m) (s : S) (v : BoardView G N) (lower upper : ℤ) (both : IsEnclosure m lower upper s) where
+  -- numbers read that are one word
+  pub met_read : IsRead v lower upper (m.key s) → of_z w64 lower ≡ of_z w64 upper → v.seen One (m.key s) ≡ v.seen Two (m.key s)
+  met_read read met =
+      let same : lower ≡ upper = sym (to_z-of_z w64 lower (range_fits m game lower both.lower_low both.lower_high)) ∙ ap (to_z w64) met ∙ to_z-of_z w64 upper (range_fits m game upper both.upper_low both.upper_high) in
+      sym read.lower_seen ∙ same ∙ read.upper_seen
+
+  pub enclosure_read : IsRead v lower upper (m.key s) → IsEnclosure m (v.seen One (m.key s)) (v.seen Two (m.key s)) s
+  enclosure_read read = subst (λ (x : ℤ). IsEnclosure m x (v.seen Two (m.key s)) s) read.lower_seen (subst (λ (x : ℤ). IsEnclosure m lower x s) read.upper_seen both)
+
+  -- the difference of the numbers read
+  pub gap_read : IsRead v lower upper (m.key s) → to_z w64 (of_z w64 (to_z w64 (of_z w64 upper) -ℤ to_z w64 (of_z w64 lower))) ≡ v.seen Two (m.key s) -ℤ v.seen One (m.key s)
+  gap_read read =
+      let a = game.low_least in let b = game.high_most in
+      let c = both.lower_low in let d = both.lower_high in let e = both.upper_low in let f = both.upper_high in
+      let fits : SFits w64 (upper -ℤ lower) = omega (arith, ints) in
+      rw (to_z-of_z w64 lower (range_fits m game lower both.lower_low both.lower_high), to_z-of_z w64 upper (range_fits m game upper both.upper_low both.upper_high), to_z-of_z w64 (upper -ℤ lower) fits, read.upper_seen, read.lower_seen) refl
+
 -- numbers of one word are one number
 pub enclosure_met : {S : Type 0} (m : GameModel S) (game : IsGame m) (s : S) (lower upper : ℤ) → IsEnclosure m lower upper s → of_z w64 lower ≡ of_z w64 upper → lower ≡ upper
 enclosure_met m game s lower upper both met =
     sym (to_z-of_z w64 lower (range_fits m game lower both.lower_low both.lower_high)) ∙ ap (to_z w64) met ∙ to_z-of_z w64 upper (range_fits m game upper both.upper_low both.upper_high)
 
 -- where both bounds are one number, each is as tight as pure plans can make it
-pub serial_met : {S G N : Type 0} (m : GameModel S) (game : IsGame m) (s : S) (v : BoardView G N) (lower upper : ℤ) → Reachable m s → IsEnclosure m lower upper s → IsRead v lower upper (m.key s) → of_z w64 lower ≡ of_z w64 upper
-    → (side : Side) → IsNoTighter side (serial_bound m side s) (v.seen side (m.key s))
-serial_met m game s v lower upper r both read met One = subst (λ (x : ℤ). serial_bound m One s ≤ℤ x) (sym (enclosure_met m game s lower upper both met) ∙ read.lower_seen) (backed_meet m game s (serial_bound m One s) upper r (serial_backed m game One s r) both.upper_backed)
-serial_met m game s v lower upper r both read met Two = subst (λ (x : ℤ). x ≤ℤ serial_bound m Two s) (enclosure_met m game s lower upper both met ∙ read.upper_seen) (backed_meet m game s lower (serial_bound m Two s) r both.lower_backed (serial_backed m game Two s r))
+pub serial_met : {S G N : Type 0} (m : GameModel S) (game : IsGame m) (s : S) (v : BoardView G N) → Reachable m s → IsEnclosure m (v.seen One (m.key s)) (v.seen Two (m.key s)) s → v.seen One (m.key s) ≡ v.seen Two (m.key s) → IsPureTight m s v
+serial_met m game s v r both same One = subst (λ (x : ℤ). serial_bound m One s ≤ℤ x) (sym same) (backed_meet m game s (serial_bound m One s) (v.seen Two (m.key s)) r (serial_backed m game One s r) both.upper_backed)
+serial_met m game s v r both same Two = subst (λ (x : ℤ). x ≤ℤ serial_bound m Two s) same (backed_meet m game s (v.seen One (m.key s)) (serial_bound m Two s) r both.lower_backed (serial_backed m game Two s r))
+
+pub serial_closed : {S G N : Type 0} (m : GameModel S) (game : IsGame m) (s : S) (v : BoardView G N) (gap : ℤ) → Reachable m s → IsEnclosure m (v.seen One (m.key s)) (v.seen Two (m.key s)) s
+    → gap ≡ v.seen Two (m.key s) -ℤ v.seen One (m.key s) → of_z w64 gap ≡ 0 → IsPureTight m s v
+serial_closed m game s v gap r both is none =
+    let a = game.low_least in let b = game.high_most in
+    let c = both.lower_low in let d = both.lower_high in let e = both.upper_low in let f = both.upper_high in
+    let fits : SFits w64 gap = rw is (omega (arith, ints)) in
+    let zero : gap ≡ pos 0 = sym (to_z-of_z w64 gap fits) ∙ ap (to_z w64) none in
+    serial_met m game s v r both (omega (arith, ints))

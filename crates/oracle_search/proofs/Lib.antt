@@ -1,1 +1,2 @@
 pub mod BetterLemmas
+pub mod WorkLemmas

@@ -1,15 +1,17 @@
 -- What a search keeps, and how it ends.
-use Rattle.std.specs.Prelude.{◌≡◌, ℕ, ◌+◌, ◌*◌, ◌≤◌, ℤ, Bool, true, length}
+use Rattle.std.specs.Prelude.{◌≡◌, ◌⊎◌, ℕ, ◌+◌, ◌*◌, ◌≤◌, ℤ, true, length}
 use Rattle.sim_game.specs.declared.Side.{Side}
 use Rattle.sim_game.specs.Model.{GameModel}
+use Rattle.sim_game.specs.Sides.{IsNoTighter}
 use Rattle.plan_book.specs.Entries.{IsLawfulEntry}
 use Rattle.plan_book.specs.Books.{Grows}
+use Rattle.plan_book.specs.Serial.{serial_bound, tree_size}
 use Rattle.matrix_game.specs.Budget.{Budget, left_of}
-use Rattle.bounds_board.specs.Views.{BoardView, IsLater}
-use Rattle.serial_ab.specs.Counts.{VisitsView, spent_on}
-use Rattle.oracle_search.specs.declared.search.SearchEnd.{SearchEnd}
-use Rattle.oracle_search.specs.declared.search.SearchEnd.TheVariants.{Reached, Settled, Spent, Full}
-use Rattle.oracle_search.specs.Finished.{FinishedView, IsWithin, IsBeyond, IsClose}
+use Rattle.bounds_board.specs.Views.{BoardView, IsLater, WasFull}
+use Rattle.serial_ab.specs.Counts.{VisitsView, spent_on, left_on}
+use Rattle.oracle_search.specs.declared.ends.SearchEnd.{SearchEnd}
+use Rattle.oracle_search.specs.declared.ends.SearchEnd.TheVariants.{Reached, Settled, Spent, Full}
+use Rattle.oracle_search.specs.Finished.{FinishedView, IsWithin, IsBeyond, IsClose, AreFinished, IsExtended}
 
 -- the board knows no less, and only lawful entries were posted
 pub record IsBetter {S G N : Type 0} (m : GameModel S) (total : ℕ) (old new : BoardView G N) : Type 0 where
@@ -26,9 +28,48 @@ pub record HasTurned (old new : Budget) : Type 0 where
   pub limit : new.limit ≡ old.limit
   pub rises : old.spent ≤ new.spent
 
+-- what a worker works on
+pub record WorkView (G N : Type 0) : Type 0 where
+  pub board : BoardView G N
+  pub turns : Budget
+  pub visits : VisitsView
+  pub settled : FinishedView
+
+abbrev pub at_work : {G N : Type 0} → BoardView G N → Budget → VisitsView → FinishedView → WorkView G N
+at_work board turns visits settled = record { board = board; turns = turns; visits = visits; settled = settled }
+
+-- what each part of a search keeps; the states that it finishes have ranks below the limit
+pub record IsWorked {S G N : Type 0} (m : GameModel S) (limit : ℕ) (old new : WorkView G N) : Type 0 where
+  pub board : IsBetter m old.board.total old.board new.board
+  pub turns : HasTurned old.turns new.turns
+  pub visits : HasVisited old.visits new.visits
+  pub settled : IsExtended m new.board.total new.board limit old.settled new.settled
+  pub finished : AreFinished m new.board.total new.board new.settled.keys
+  pub cause : new.settled.was_full ≡ true → old.settled.was_full ≡ true ⊎ WasFull m new.board
+
 -- how a search of a state with a target may end; an end of the game has no gap
-abbrev pub Ends : {S G N : Type 0} → GameModel S → ℕ → S → ℤ → BoardView G N → Budget → FinishedView → SearchEnd → Type 0
-Ends m total s target v turns finished Reached = 1 ≤ m.rank s → IsWithin v (m.key s) target
-Ends m total s target v turns finished Settled = 1 ≤ m.rank s × IsBeyond v (m.key s) target × IsClose m total v s
-Ends m total s target v turns finished Spent = 1 ≤ m.rank s × IsBeyond v (m.key s) target × left_of turns ≡ 0
-Ends m total s target v turns finished Full = finished.was_full ≡ true
+abbrev pub Ends : {S G N : Type 0} → GameModel S → S → ℤ → WorkView G N → SearchEnd → Type 0
+Ends m s target v Reached = 1 ≤ m.rank s → IsWithin v.board (m.key s) target
+Ends m s target v Settled = (1 ≤ m.rank s) × IsBeyond v.board (m.key s) target × IsClose m v.board.total v.board s
+Ends m s target v Spent = (1 ≤ m.rank s) × IsBeyond v.board (m.key s) target × (left_of v.turns ≡ 0)
+Ends m s target v Full = v.settled.was_full ≡ true
+
+-- at most 63 turns for each of so many states, besides those that were finished
+abbrev pub TakesTurns : {G N : Type 0} → ℕ → WorkView G N → WorkView G N → Type 0
+TakesTurns states old new = new.turns.spent + 63 * length old.settled.keys ≤ old.turns.spent + 63 * (length new.settled.keys + states)
+
+-- how many states a search that ended so may have taken turns at, itself included, that are not finished
+abbrev pub open_states : ℕ → SearchEnd → ℕ
+open_states rank Reached = 1
+open_states rank Settled = 1
+open_states rank Spent = rank
+open_states rank Full = rank
+
+-- ---- pure plans
+-- each side has as many visits left as the tree below the state has nodes
+abbrev pub HasVisits : {S : Type 0} → GameModel S → S → VisitsView → Type 0
+HasVisits m s visits = (side : Side) → tree_size m s ≤ left_on side visits
+
+-- the bounds seen at the state are as tight as pure plans can make them
+abbrev pub IsPureTight : {S G N : Type 0} → GameModel S → S → BoardView G N → Type 0
+IsPureTight m s v = (side : Side) → IsNoTighter side (serial_bound m side s) (v.seen side (m.key s))

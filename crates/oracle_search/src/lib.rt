@@ -1,11 +1,13 @@
 //! The double-oracle search of one worker.
 #![tactic(auto)]
 
+mod ends;
 mod finished;
 mod gate;
-mod search;
 mod serial_bounds;
+mod state;
 
+pub use ends::SearchEnd;
 pub use finished::Settled;
 pub use gate::{Gate, OpenGate};
-pub use search::SearchEnd;
+pub use state::search;

@@ -7,7 +7,7 @@ ghost use Rattle.sim_game.specs.declared.Side.{Side};
 ghost use Rattle.plan_book.specs.Serial.{serial_bound, tree_size};
 ghost use Rattle.bounds_board.specs.Views.{WasFull};
 ghost use Rattle.serial_ab.specs.Counts.{left_on};
-ghost use Rattle.oracle_search.specs.Searches.{IsBetter, HasVisited};
+ghost use Rattle.oracle_search.specs.Searches.{IsBetter, HasVisited, HasVisits, IsPureTight};
 
 use bounds_board::{BoardFault, Bounds, Row};
 use serial_ab::{Visits, serial};
@@ -61,8 +61,7 @@ pub(crate) fn bound_both<G: Game, B: Bounds<G>>(
     ensures better { IsBetter (G.model g) (B.view board.old).total (B.view board.old) (B.view board.new) }
     ensures visited { HasVisited visits.old visits.new }
     ensures full { result ≡ Ok true → WasFull (G.model g) (B.view board.new) }
-    ensures tight { tree_size (G.model g) s ≤ left_on Side.One visits.old → tree_size (G.model g) s ≤ left_on Side.Two visits.old → result ≡ Ok false
-        → (side : Side) → IsNoTighter side (serial_bound (G.model g) side s) ((B.view board.new).seen side ((G.model g).key s)) }
+    ensures tight { HasVisits (G.model g) s visits.old → result ≡ Ok false → IsPureTight (G.model g) s (B.view board.new) }
 {
     match bound_side(alloc, g, s, Side::One, visits, board) {
         Ok(false) => {

@@ -16,9 +16,8 @@ returns-in-None-clause-full g c =
     let none = subst (λ (z : _). (row : ℕ) → row < length z → IsOther z c.args.key row) c.as_slice.ensures.value c.in-None.ensures.none in
     rw (← c.self.view_is) (record {
       inner = subst (λ (v : PlainValue _). IsInnerKey (g.G.Game.model v.game) c.args.key) (sym c.self.view_is) c.requires;
-      others = λ row l. let o = none row l in (o.held, o.is_held, o.differs);
-      apart = c.self.invariant.apart;
-      named = c.self.invariant.named;
+      others = λ row l. let o = none row l in (o.held, o.is_held, c.self.invariant.named row o.held o.is_held, o.differs);
+      apart = λ row other key _ _ p q. c.self.invariant.apart row other key p q;
     })
 
 pub invariant_of-self : goal.invariant_of-self

@@ -1,4 +1,4 @@
-//! The search of a state.
+//! How a search ends.
 
 /// How a search ended.
 #[derive(Clone, Copy, PartialEq, Eq, Debug)]

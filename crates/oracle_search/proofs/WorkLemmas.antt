@@ -1,0 +1,112 @@
+-- What one part of a search after another keeps.
+use Rattle.std.proofs.Common.{◌≡◌, ◌⊎◌, inl, inr, ⊎_elim, ℕ, ◌≤◌, ℤ, pos, ◌+ℤ◌, ◌≤ℤ◌, true, List, [], ◌++◌, refl, sym, ap, subst, ◌∙◌, append_assoc, append-nil, arith}
+use Rattle.std.proofs.lemmas.Int.{ints}
+use Rattle.std.proofs.lemmas.List.Elements.{All-append, All-nil, All-weaker}
+use Rattle.sim_game.specs.declared.Side.TheVariants.{One, Two}
+use Rattle.sim_game.specs.Model.{GameModel}
+use Rattle.sim_game.proofs.SideLemmas.{looser_trans}
+use Rattle.plan_book.specs.Serial.{serial_bound}
+use Rattle.matrix_game.specs.Budget.{Budget}
+use Rattle.bounds_board.specs.Views.{BoardView, IsLater, WasFull}
+use Rattle.bounds_board.proofs.FullLemmas.{full_later}
+use Rattle.serial_ab.specs.Counts.{VisitsView}
+use Rattle.oracle_search.specs.Finished.{FinishedView, IsWithin, IsBeyond, IsFinished, AreFinished, IsExtended, rank_gap}
+use Rattle.oracle_search.specs.Searches.{IsBetter, HasVisited, HasTurned, WorkView, IsWorked, IsPureTight}
+use Rattle.oracle_search.proofs.BetterLemmas.{better_refl, better_trans}
+
+pub visited_none : (v : VisitsView) → HasVisited v v
+visited_none v = record { limit = refl; rises = λ side. omega arith }
+
+pub visited_after : (u v w : VisitsView) → HasVisited u v → HasVisited v w → HasVisited u w
+visited_after u v w p q = record { limit = q.limit ∙ p.limit; rises = λ side. omega (arith, p.rises side, q.rises side) }
+
+pub turned_none : (t : Budget) → HasTurned t t
+turned_none t = record { limit = refl; rises = omega arith }
+
+pub turned_after : (t u v : Budget) → HasTurned t u → HasTurned u v → HasTurned t v
+turned_after t u v p q = record { limit = q.limit ∙ p.limit; rises = omega (arith, p.rises, q.rises) }
+
+module _ {S G N : Type 0} (m : GameModel S) where
+  -- ---- numbers only come closer
+  pub within_later : (v w : BoardView G N) (key : ℕ) (gap : ℤ) → IsLater v w → IsWithin v key gap → IsWithin w key gap
+  within_later v w key gap later near =
+      let low : v.seen One key ≤ℤ w.seen One key = later.seen One key in
+      let high : w.seen Two key ≤ℤ v.seen Two key = later.seen Two key in
+      omega (arith, ints)
+
+  pub finished_later : (total limit key : ℕ) (v w : BoardView G N) → IsLater v w → IsFinished m total v limit key → IsFinished m total w limit key
+  finished_later total limit key v w later f = record {
+    state = f.state;
+    reachable = f.reachable;
+    goes_on = f.goes_on;
+    below = f.below;
+    is_key = f.is_key;
+    close = λ stage is. within_later v w (m.key f.state) (pos (rank_gap m stage (m.rank f.state))) later (f.close stage is);
+  }
+
+  pub are_finished_later : (total : ℕ) (v w : BoardView G N) (keys : List ℕ) → IsLater v w → AreFinished m total v keys → AreFinished m total w keys
+  are_finished_later total v w keys later f = record {
+    each = All-weaker (IsFinished m total v 32) (IsFinished m total w 32) (λ key. finished_later total 32 key v w later) keys f.each;
+    apart = f.apart;
+  }
+
+  finished_wider : (total a b key : ℕ) (v : BoardView G N) → a ≤ b → IsFinished m total v a key → IsFinished m total v b key
+  finished_wider total a b key v wider f =
+      let below = f.below in record { state = f.state; reachable = f.reachable; goes_on = f.goes_on; below = omega arith; is_key = f.is_key; close = f.close }
+
+  pub pure_later : (s : S) (v w : BoardView G N) → IsLater v w → IsPureTight m s v → IsPureTight m s w
+  pure_later s v w later pure side = looser_trans side (serial_bound m side s) (v.seen side (m.key s)) (w.seen side (m.key s)) (pure side) (later.seen side (m.key s))
+
+  -- bounds as tight as pure plans make them are no further apart than these
+  pub pure_within : (s : S) (v : BoardView G N) (target : ℤ) → IsPureTight m s v → serial_bound m Two s ≤ℤ (serial_bound m One s +ℤ target) → IsWithin v (m.key s) target
+  pure_within s v target pure near =
+      let low : serial_bound m One s ≤ℤ v.seen One (m.key s) = pure One in
+      let high : v.seen Two (m.key s) ≤ℤ serial_bound m Two s = pure Two in
+      omega (arith, ints)
+
+  pub within_not_beyond : (v : BoardView G N) (key : ℕ) (gap : ℤ) → IsWithin v key gap → IsBeyond v key gap → ⊥
+  within_not_beyond v key gap near far = absurd (omega (arith, ints))
+
+  -- ---- what is kept
+  extended_none : (total limit : ℕ) (v : BoardView G N) (old new : FinishedView) → new.keys ≡ old.keys → (old.was_full ≡ true → new.was_full ≡ true) → IsExtended m total v limit old new
+  extended_none total limit v old new same full = record { more = []; joins = same ∙ sym (append-nil old.keys); each = All-nil (IsFinished m total v limit); full = full }
+
+  extended_after : (total a b c : ℕ) (v w : BoardView G N) (x y z : FinishedView) → IsLater v w → a ≤ c → b ≤ c → IsExtended m total v a x y → IsExtended m total w b y z → IsExtended m total w c x z
+  extended_after total a b c v w x y z later wide wider p q = record {
+    more = p.more ++ q.more;
+    joins = q.joins ∙ ap (λ (l : List ℕ). l ++ q.more) p.joins ∙ append_assoc x.keys p.more q.more;
+    each = All-append (IsFinished m total w c) p.more q.more
+        (All-weaker (IsFinished m total v a) (IsFinished m total w c) (λ key f. finished_wider total a c key w wide (finished_later total a key v w later f)) p.more p.each)
+        (All-weaker (IsFinished m total w b) (IsFinished m total w c) (λ key f. finished_wider total b c key w wider f) q.more q.each);
+    full = λ e. q.full (p.full e);
+  }
+
+  -- a part that finishes no state
+  pub worked_by : (limit : ℕ) (old new : WorkView G N) → IsBetter m old.board.total old.board new.board → HasTurned old.turns new.turns → HasVisited old.visits new.visits
+      → new.settled.keys ≡ old.settled.keys → (old.settled.was_full ≡ true → new.settled.was_full ≡ true)
+      → AreFinished m old.board.total old.board old.settled.keys → (new.settled.was_full ≡ true → old.settled.was_full ≡ true ⊎ WasFull m new.board) → IsWorked m limit old new
+  worked_by limit old new better turned visited same full finished cause = record {
+    board = better;
+    turns = turned;
+    visits = visited;
+    settled = extended_none new.board.total limit new.board old.settled new.settled same full;
+    finished = subst (λ (total : ℕ). AreFinished m total new.board new.settled.keys) (sym better.later.total)
+        (subst (λ (keys : List ℕ). AreFinished m old.board.total new.board keys) (sym same) (are_finished_later old.board.total old.board new.board old.settled.keys better.later finished));
+    cause = cause;
+  }
+
+  pub worked_none : (limit : ℕ) (v : WorkView G N) → AreFinished m v.board.total v.board v.settled.keys → IsWorked m limit v v
+  worked_none limit v finished = worked_by limit v v (better_refl m v.board.total v.board) (turned_none v.turns) (visited_none v.visits) refl (λ e. e) finished (λ e. inl e)
+
+  pub worked_after : (a b c : ℕ) (u v w : WorkView G N) → a ≤ c → b ≤ c → IsWorked m a u v → IsWorked m b v w → IsWorked m c u w
+  worked_after a b c u v w wide wider p q = record {
+    board = better_trans m u.board.total u.board v.board w.board p.board (subst (λ (total : ℕ). IsBetter m total v.board w.board) p.board.later.total q.board);
+    turns = turned_after u.turns v.turns w.turns p.turns q.turns;
+    visits = visited_after u.visits v.visits w.visits p.visits q.visits;
+    settled = extended_after w.board.total a b c v.board w.board u.settled v.settled w.settled q.board.later wide wider
+        (subst (λ (total : ℕ). IsExtended m total v.board a u.settled v.settled) (sym q.board.later.total) p.settled) q.settled;
+    finished = q.finished;
+    cause = λ e. ⊎_elim
+        (λ (before : v.settled.was_full ≡ true). ⊎_elim (λ (first : u.settled.was_full ≡ true). inl first) (λ (was : WasFull m v.board). inr (full_later m v.board w.board q.board.later was)) (p.cause before))
+        (λ (was : WasFull m w.board). inr was) (q.cause e);
+  }

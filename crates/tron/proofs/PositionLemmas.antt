@@ -1,5 +1,5 @@
 -- The cells that a position names.
-use Rattle.std.proofs.Common.{◌≡◌, ℕ, ◌+◌, ◌*◌, ◌^◌, ◌<◌, ◌≤◌, ◌≢◌, true, false, eqb, leb, ltb, List, [], ◌∷◌, ◌++◌, length, get_or, Option, None, position, refl, sym, ap, subst, ◌∙◌, inl, inr, arith}
+use Rattle.std.proofs.Common.{◌≡◌, ℕ, ◌+◌, ◌*◌, ◌^◌, ◌<◌, ◌≤◌, ◌≢◌, false, eqb, leb, List, [], ◌∷◌, ◌++◌, length, get_or, None, position, refl, subst, ◌∙◌, inl, inr, arith}
 use Rattle.std.proofs.Math.Seq.{get_or-append_seam}
 use Rattle.std.proofs.lemmas.Bool.{cases_lt, lt-ltb, leb-false, eqb-false, ne_eqb}
 use Rattle.std.proofs.lemmas.Bool.Decides.{nat_tests}
@@ -12,7 +12,7 @@ use Rattle.std.specs.Int.{bit_at}
 use Rattle.std.specs.List.{All, list_any, position_or_len}
 use Rattle.tron.specs.declared.Setting.{Setting}
 use Rattle.tron.specs.Cells.{is_listed, with_cell, IsSetOf}
-use Rattle.tron.specs.CellLaws.{set_same, set_more, below_bits}
+use Rattle.tron.specs.CellLaws.{set_more, below_bits}
 use Rattle.tron.specs.Position.{is_outside, named_cells, first_fault, IsGrid, IsPosition}
 
 pub none_past : (bound : ℕ) (cells : List ℕ) → position (λ cell. leb bound cell) cells ≡ None → All (λ cell. cell < bound) cells

@@ -1,10 +1,10 @@
 -- Which grids, walls and heads make a position, and the first fault of the others.
-use Rattle.std.specs.Prelude.{◌≡◌, ℕ, ◌*◌, ◌<◌, ◌≤◌, ◌^◌, Bool, true, ◌||◌, ◌==◌, nat_lt, nat_le, if◌then◌else◌, List, [], ◌∷◌, ◌++◌, position, Option, Some, None, option_map}
+use Rattle.std.specs.Prelude.{◌≡◌, ℕ, ◌*◌, ◌<◌, ◌≤◌, ◌^◌, Bool, ◌||◌, ◌==◌, nat_lt, nat_le, if◌then◌else◌, List, [], ◌∷◌, ◌++◌, position, Option, Some, None, option_map}
 use Rattle.std.specs.Option.{option_or}
 use Rattle.tron.specs.declared.Setting.{Setting}
 use Rattle.tron.specs.declared.TronError.{TronError}
 use Rattle.tron.specs.declared.TronError.TheVariants.{GridRange, CellRange, HeadInWall, HeadsMeet}
-use Rattle.tron.specs.Cells.{is_taken, is_listed, IsSetOf}
+use Rattle.tron.specs.Cells.{is_listed, IsSetOf}
 
 -- ---- the rules, each with what is said where it is broken
 abbrev pub is_outside : ℕ → ℕ → ℕ → Bool

@@ -1,5 +1,5 @@
 //! Sets of cells, and the rules that the lists of a position keep.
-ghost use Rattle.std.specs.Prelude.{◌≡◌, ◌<◌, ◌≤◌, ◌^◌, ◌*◌, ℕ, nat_le, IfSome, All, length, position, MatchResult, None, Some};
+ghost use Rattle.std.specs.Prelude.{◌≡◌, ◌<◌, ◌≤◌, ◌^◌, ◌*◌, ◌%◌, ◌==◌, ℕ, nat_le, IfSome, All, length, position, MatchResult, None, Some};
 ghost use Rattle.tron.specs.Cells.{is_taken, with_cell, IsSetOf};
 ghost use Rattle.tron.specs.Position.{named_cells, cell_range};
 
@@ -44,6 +44,23 @@ pub(crate) fn cell_count(height: u8, width: u8) -> u8
     ensures small { result ≤ 36 }
 {
     height * width
+}
+
+/// The cells of the western column of a grid of this width, from 0 to 36.
+#[inline]
+pub(crate) fn western_column(width: u8) -> u64
+    requires low { 1 ≤ width }
+    requires high { width ≤ 6 }
+    ensures { (cell : ℕ) → cell ≤ 36 → is_taken result cell ≡ (cell % width == 0) }
+{
+    match width {
+        1 => 0x1f_ffff_ffff,
+        2 => 0x15_5555_5555,
+        3 => 0x12_4924_9249,
+        4 => 0x11_1111_1111,
+        5 => 0x08_4210_8421,
+        _ => 0x10_4104_1041,
+    }
 }
 
 /// Refuses a cell that is not below the bound.

@@ -1,4 +1,4 @@
-use Rattle.std.proofs.Common.{arith, ℕ, ◌≡◌, ◌*◌, refl, sym, subst, ap, ◌∙◌}
+use Rattle.std.proofs.Common.{arith, ℕ, ◌≡◌, refl, sym, subst, ap, ◌∙◌}
 use Rattle.tron.specs.Cells.{with_cell, IsSetOf}
 use Rattle.tron.specs.Position.{named_cells, IsGrid}
 use Rattle.tron.proofs.PositionLemmas.{with_heads, position_of, no_fault}

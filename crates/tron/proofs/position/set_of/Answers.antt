@@ -1,6 +1,5 @@
-use Rattle.std.proofs.Common.{arith, List, ℕ, sym, subst, get_or}
+use Rattle.std.proofs.Common.{get_or}
 use Rattle.std.proofs.lemmas.List.{take_more}
-use Rattle.tron.specs.Cells.{with_cell, IsSetOf}
 use Rattle.tron.specs.CellLaws.{set_more}
 use Rattle.tron.proofs.position.set_of.Goals as goal
 

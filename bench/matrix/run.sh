@@ -53,6 +53,6 @@ done | awk '
             split(kinds[k], part, " ")
             plain = median("plain", kinds[k]); ours = median("ours", kinds[k])
             same = sums["plain", kinds[k]] == sums["ours", kinds[k]] ? "same" : "DIFFERENT"
-            printf "| %dx%d | %d | %d | %.1f | %.1f | %.2f | %s |\n", part[1], part[1], part[2], part[3], plain, ours, ours / plain, same
+            printf "| %sx%s | %s | %s | %.1f | %.1f | %.2f | %s |\n", part[1], part[1], part[2], part[3], plain, ours, ours / plain, same
         }
     }'

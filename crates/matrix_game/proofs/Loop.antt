@@ -1,5 +1,5 @@
 -- The loop over the rounds.
-use Rattle.std.proofs.Common.{◌≡◌, ℕ, zero, suc, ◌+◌, ◌*◌, ◌^◌, ◌<◌, ◌≤◌, sym, refl, ap, ◌∙◌, arith, add-one, inl, inr, List, All, length, get_or, sum, cond, ℤ, int_lt, ◌⊎◌, ◌<ℤ◌, ◌≤ℤ◌, replicate}
+use Rattle.std.proofs.Common.{◌≡◌, ℕ, zero, suc, ◌+◌, ◌*◌, ◌^◌, ◌<◌, ◌≤◌, sym, refl, ap, ◌∙◌, arith, add-one, inl, inr, List, All, length, get_or, sum, ℤ, ◌⊎◌, ◌<ℤ◌, ◌≤ℤ◌, replicate}
 use Rattle.std.proofs.Math.ListN.{set}
 use Rattle.std.proofs.Math.Nat.{mul-le-mul, mul-le-mul_left, mul-le-mul_right}
 use Rattle.std.proofs.lemmas.Int.{ints}

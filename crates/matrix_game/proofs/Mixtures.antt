@@ -155,12 +155,6 @@ pub record IsShared (w all row : ℕ) (q p : List ℕ) (left : ℕ) : Type 0 whe
   pub written : (k : ℕ) → 1 ≤ k → k < row → get_or p k 0 ≡ part_of w all q k
   pub left_over : left + count_below (row - 1) (λ k. part_of w all q (suc k)) ≡ w
 
-pub none_shared : (w all : ℕ) (q p : List ℕ) → IsShared w all 1 q p w
-none_shared w all q p = record {
-  written = λ k l h. absurd (omega arith);
-  left_over = let e : 1 - 1 ≡ 0 = omega arith in rw e (omega arith);
-}
-
 one_more : (w all r : ℕ) (q : List ℕ) → count_below (suc r) (λ k. part_of w all q (suc k)) ≡ count_below r (λ k. part_of w all q (suc k)) + part_of w all q (suc r)
 one_more w all r q = refl
 

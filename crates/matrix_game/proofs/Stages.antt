@@ -1,5 +1,5 @@
 -- Saddles, and what each answer of a stage has.
-use Rattle.std.proofs.Common.{◌≡◌, ℕ, ◌+◌, ◌*◌, ◌<◌, ◌≤◌, sym, ap, subst, ◌∙◌, arith, inl, inr, List, All, length, get_or, cond, nat_eq, replicate, zero, suc, ℤ, pos, ◌*ℤ◌, unsigned_abs}
+use Rattle.std.proofs.Common.{◌≡◌, ℕ, ◌+◌, ◌*◌, ◌<◌, ◌≤◌, sym, ap, subst, ◌∙◌, arith, inl, inr, List, length, get_or, cond, nat_eq, replicate, zero, suc, ℤ, pos, ◌*ℤ◌, unsigned_abs}
 use Rattle.std.proofs.Math.ListN.{set}
 use Rattle.std.proofs.Math.Nat.{mul-le-mul_left, mul-le-mul_right}
 use Rattle.std.proofs.lemmas.Int.{ints, unsigned_abs-mul}
@@ -7,8 +7,6 @@ use Rattle.std.proofs.lemmas.Nat.{mul-add-lt}
 use Rattle.std.proofs.lemmas.Bool.{cases_lt, cases_eq, eq-eqb, ne_eqb}
 use Rattle.std.proofs.lemmas.Grind.{same_number_lists}
 use Rattle.std.proofs.lemmas.List.{get_or-set_other, get_or-set_same, length-set, get_or-replicate, length-replicate}
-use Rattle.std.proofs.lemmas.List.Sums.{get_or-le-sum_by}
-use Rattle.std.proofs.lemmas.List.Elements.{All-from_get_or}
 use Rattle.std.proofs.lemmas.List.FromFn.{length-map-range_with_len}
 use Rattle.sums.specs.Sums.{count_below}
 use Rattle.matrix_game.proofs.FirstLemmas.{first_least-below, first_greatest-below}
@@ -83,9 +81,6 @@ stage-cols m w p v s (mixed n ep ev) =
     let rs = rounds m w in
     let l : length v ≡ m.cols = ap length ev ∙ length-reply_counts m rs in
     record { each = l; all = sum-total v ∙ ap (λ k. count_below k (λ a. get_or v a 0)) l ∙ ap (λ ys. count_below m.cols (λ a. get_or ys a 0)) ev ∙ total-reply_counts m w s }
-
-pub weighted-light : (n w : ℕ) (p : List ℕ) → IsWeighted n w p → w ≤ 1048576 → All (λ x. x ≤ 1048576) p
-weighted-light n w p h l = All-from_get_or (λ x. x ≤ 1048576) p 0 (λ k b. omega (arith, get_or-le-sum_by (λ x. x) p k 0 b, h.all))
 
 -- ---- the sizes of sums
 weighted_sum-small : (n c : ℕ) (p : ℕ → ℕ) (z : ℕ → ℤ) → ((a : ℕ) → a < n → unsigned_abs (z a) ≤ c) → unsigned_abs (sum_below n (λ a. pos (p a) *ℤ z a)) ≤ c * count_below n p

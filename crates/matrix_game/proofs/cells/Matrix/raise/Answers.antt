@@ -2,7 +2,7 @@ use Rattle.std.proofs.Common.{◌≡◌, arith, map, pos, ◌+ℤ◌, ap, ◌∙
 use Rattle.std.proofs.lemmas.List.{length-map, map-set}
 use Rattle.matrix_game.specs.Grid.{Grid}
 use Rattle.matrix_game.specs.Rounds.{positive_part, regret_of, raised_regret}
-use Rattle.matrix_game.proofs.Mixtures.{none_made, made_more, made-le, all_made}
+use Rattle.matrix_game.proofs.Lists.{none_made, made_more, made-le, all_made}
 use Rattle.matrix_game.proofs.cells.Matrix.raise.Goals as goal
 
 pub loop-row-init : goal.loop-row-init

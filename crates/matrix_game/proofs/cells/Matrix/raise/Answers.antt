@@ -39,7 +39,7 @@ loop-row-preserved g c =
     let f = raised_regret c.args.self.now c.args.weight q c.args.reply.col c.args.reply.paid in
     let same = ap (λ x. positive_part (pos x +ℤ regret_of c.args.self.now c.args.weight c.args.reply.col c.args.reply.paid row)) (c.loop-row.invariant.others row (omega arith)) in
     made_more f q (map number c.loop-row.regrets) _ row (number c.loop-row.all) (number c.plus-all.result) (number c.raised-regret.result) (omega (arith, length-map c.loop-row.regrets number))
-    (map-set number c.loop-row.regrets row c.raised-regret.result) (c.raised-regret.ensures ∙ same) c.plus-all.ensures c.loop-row.invariant
+    (map-set number c.loop-row.regrets row c.raised-regret.result) (omega (arith, same, c.raised-regret.ensures)) c.plus-all.ensures c.loop-row.invariant
 
 pub returns-clause-regrets : goal.returns-clause-regrets
 returns-clause-regrets g c =

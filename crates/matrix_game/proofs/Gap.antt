@@ -98,8 +98,8 @@ abbrev pub count_of : ℕ → (ℕ → ℕ) → ℕ → ℕ
 count_of n j b = count_below n (λ t. is_equal (j t) b)
 
 -- a sum over the rounds is the sum over the columns by their counts
-pub total_by_counts : (n k : ℕ) (j g : ℕ → ℕ) → ((t : ℕ) → t < n → j t < k) → count_below n (λ t. g (j t)) ≡ count_below k (λ b. count_of n j b * g b)
-total_by_counts n k j g h =
+pub sum_by_counts : (n k : ℕ) (j g : ℕ → ℕ) → ((t : ℕ) → t < n → j t < k) → count_below n (λ t. g (j t)) ≡ count_below k (λ b. count_of n j b * g b)
+sum_by_counts n k j g h =
     let picked = count_same n (λ t. g (j t)) (λ t. count_below k (λ b. is_equal (j t) b * g b)) (λ t l. sym (picks_one k (j t) g (h t l))) in
     let swapped = count_exchange n k (λ t b. is_equal (j t) b * g b) in
     let counted = count_same k (λ b. count_below n (λ t. is_equal (j t) b * g b)) (λ b. count_of n j b * g b)

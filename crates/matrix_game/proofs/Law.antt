@@ -12,9 +12,10 @@ use Rattle.sums.specs.Sums.{count_below}
 use Rattle.sums.proofs.CountLemmas.{square_cancel, count_same, count_constant}
 use Rattle.matrix_game.proofs.FirstLemmas.{first_least-below, first_least-le, first_greatest-below, first_greatest-le}
 use Rattle.matrix_game.proofs.Potential.{IsWithin, next_regret}
-use Rattle.matrix_game.proofs.Gap.{IsRun, paid_of, row_gap-le, count_of, is_equal, is_equal-same, is_equal-other, picks_one, total_by_counts, weak_duality}
+use Rattle.matrix_game.proofs.Gap.{IsRun, paid_of, row_gap-le, count_of, is_equal, is_equal-same, is_equal-other, picks_one, sum_by_counts, weak_duality}
 use Rattle.matrix_game.proofs.Lifting.{IsLifted, lifted_sum, positive_part-lifted}
-use Rattle.matrix_game.proofs.Mixtures.{sum_by-total, mixture_of-adds, total-mixture_of}
+use Rattle.matrix_game.proofs.Lists.{sum_by-count}
+use Rattle.matrix_game.proofs.Mixtures.{mixture_of-adds, weight-mixture_of}
 use Rattle.matrix_game.specs.Grid.{Grid, cell_at, column_sum, row_sum, first_greatest, best_reply, row_floor, col_ceiling, IsSaddle, IsShaped, IsSpread}
 use Rattle.matrix_game.specs.Rounds.{mixture_of, positive_part, regret_of, regrets_before, Round, round_at, rounds, mixture_at, best_mixture, reply_counts, all_on, pure, mixed, ResolutionLaw, StageLaw}
 
@@ -70,7 +71,7 @@ pub reply_before-below : (m : Grid) (w t : ℕ) → IsShaped m → reply_before 
 reply_before-below m w t s = first_least-below m.cols (column_sum m (mixture_before m w t)) (omega (arith, s.some_col))
 
 pub weight_before : (m : Grid) (w t : ℕ) → IsShaped m → count_below m.rows (λ a. get_or (mixture_before m w t) a 0) ≡ w
-weight_before m w t s = total-mixture_of m.rows w (regrets_before m w t) (length-regrets_before m w t) (omega (arith, s.some_row))
+weight_before m w t s = weight-mixture_of m.rows w (regrets_before m w t) (length-regrets_before m w t) (omega (arith, s.some_row))
 
 pub regret_step : (m : Grid) (w t a : ℕ) → IsShaped m → a < m.rows
     → get_or (regrets_before m w (suc t)) a 0 ≡ next_regret m.rows w (λ c. get_or (regrets_before m w t) c 0) (λ c. get_or (mixture_before m w t) c 0) (λ c. lifted_at m c (reply_before m w t)) a
@@ -140,15 +141,15 @@ get_or-reply_counts m w b h =
     let none : Round = record { mixture = []; reply = 0 } in
     let test : Round → ℕ = λ r. cond (nat_eq r.reply b) 1 0 in
     get_or-map-range_with_len (λ b. count_by (λ (r : Round). nat_eq r.reply b) rs) 0 m.cols b b 0 h (omega arith)
-    ∙ sum_by-total test rs none
+    ∙ sum_by-count test rs none
     ∙ ap (λ n. count_below n (λ t. test (get_or rs t none))) (length-rounds m w)
     ∙ count_same w (λ t. test (get_or rs t none)) (λ t. is_equal (reply_before m w t) b) (λ t k. ap test (get_or-rounds m w t none k))
 
 -- they have the whole weight
-pub total-reply_counts : (m : Grid) (w : ℕ) → IsShaped m → count_below m.cols (λ b. get_or (reply_counts m (rounds m w)) b 0) ≡ w
-total-reply_counts m w s =
+pub weight-reply_counts : (m : Grid) (w : ℕ) → IsShaped m → count_below m.cols (λ b. get_or (reply_counts m (rounds m w)) b 0) ≡ w
+weight-reply_counts m w s =
     let j = reply_before m w in
-    let ones = total_by_counts w m.cols j (λ b. 1) (λ t h. reply_before-below m w t s) in
+    let ones = sum_by_counts w m.cols j (λ b. 1) (λ t h. reply_before-below m w t s) in
     let same = count_same m.cols (λ b. get_or (reply_counts m (rounds m w)) b 0) (λ b. count_of w j b * 1) (λ b h. get_or-reply_counts m w b h ∙ omega arith) in
     omega (arith, same, ones, count_constant w 1)
 
@@ -158,7 +159,7 @@ pub conceded_by_counts : (m : Grid) (w a : ℕ) → IsShaped m
 conceded_by_counts m w a s =
     let j = reply_before m w in
     let same = count_same m.cols (λ b. get_or (reply_counts m (rounds m w)) b 0 * lifted_at m a b) (λ b. count_of w j b * lifted_at m a b) (λ b h. ap (λ y. y * lifted_at m a b) (get_or-reply_counts m w b h)) in
-    same ∙ sym (total_by_counts w m.cols j (λ b. lifted_at m a b) (λ t h. reply_before-below m w t s))
+    same ∙ sym (sum_by_counts w m.cols j (λ b. lifted_at m a b) (λ t h. reply_before-below m w t s))
 
 -- ---- the law
 row_gap_at : (n w d low : ℕ) (q p g : ℕ → ℕ → ℕ) → 0 < n → IsRun n w d q p g → 8 * (n * n) ≤ w → ((t : ℕ) → t < w → paid_of n p g t ≤ low)
@@ -193,7 +194,7 @@ mixed_law m w d p v s spread large ep ev =
     let top = first_greatest n (row_sum m counts) in
     let top_in : top < n = first_greatest-below n (row_sum m counts) (omega (arith, s.some_row)) in
     let high = count_below w (λ t. lifted_at m top (reply_before m w t)) in
-    let weight = total-reply_counts m w s in
+    let weight = weight-reply_counts m w s in
     let conceded_at = λ (a : ℕ) (h : a < n). conceded_lifted m w a counts s h weight in
     let ceiling : IsLifted (shift_of m * w) (row_sum m counts top) high = omega (arith, conceded_at top top_in, conceded_by_counts m w top s) in
     let floor : IsLifted (shift_of m * w) (row_floor m (mixture_before m w r.0)) low = floor_at r.0 in
@@ -222,14 +223,14 @@ all_on-is n i w a h =
     ]
 
 -- what pure weights pay
-total-all_on : (n i w : ℕ) (g : ℕ → ℕ) → i < n → count_below n (λ a. get_or (all_on n i w) a 0 * g a) ≡ w * g i
-total-all_on n i w g h =
+paid-all_on : (n i w : ℕ) (g : ℕ → ℕ) → i < n → count_below n (λ a. get_or (all_on n i w) a 0 * g a) ≡ w * g i
+paid-all_on n i w g h =
     count_same n (λ a. get_or (all_on n i w) a 0 * g a) (λ a. is_equal i a * (w * g a)) (λ a l. omega (arith, ap (λ y. y * g a) (all_on-is n i w a l)))
     ∙ picks_one n i (λ a. w * g a) h
 
 pub weight-all_on : (n i w : ℕ) → i < n → count_below n (λ a. get_or (all_on n i w) a 0) ≡ w
 weight-all_on n i w h =
-    let one = total-all_on n i w (λ a. 1) h in
+    let one = paid-all_on n i w (λ a. 1) h in
     omega (arith, one, count_same n (λ a. get_or (all_on n i w) a 0 * 1) (λ a. get_or (all_on n i w) a 0) (λ a l. omega arith))
 
 pub pure_law : (m : Grid) (w bound a b : ℕ) (p v : List ℕ) → IsShaped m → IsSaddle m a b → p ≡ all_on m.rows a w → v ≡ all_on m.cols b w
@@ -246,9 +247,9 @@ pure_law m w bound a b p v s saddle ep ev =
     let top_in : top < n = first_greatest-below n (row_sum m cols) (omega (arith, s.some_row)) in
     let c = shift_of m in
     let paid : (j : ℕ) → j < k → IsLifted (c * w) (column_sum m rows j) (w * lifted_at m a j) = λ j h.
-    omega (arith, paid_lifted m w j rows s h (weight-all_on n a w saddle.row_in), total-all_on n a w (λ i. lifted_at m i j) saddle.row_in) in
+    omega (arith, paid_lifted m w j rows s h (weight-all_on n a w saddle.row_in), paid-all_on n a w (λ i. lifted_at m i j) saddle.row_in) in
     let conceded : (i : ℕ) → i < n → IsLifted (c * w) (row_sum m cols i) (w * lifted_at m i b) = λ i h.
-    omega (arith, conceded_lifted m w i cols s h (weight-all_on k b w saddle.col_in), total-all_on k b w (λ j. lifted_at m i j) saddle.col_in) in
+    omega (arith, conceded_lifted m w i cols s h (weight-all_on k b w saddle.col_in), paid-all_on k b w (λ j. lifted_at m i j) saddle.col_in) in
     let here = lifted_at-is m a b s saddle.row_in saddle.col_in in
     let row_least : lifted_at m a b ≤ lifted_at m a reply = omega (arith, ints, saddle.least_in_row reply reply_in, here, lifted_at-is m a reply s saddle.row_in reply_in) in
     let col_greatest : lifted_at m top b ≤ lifted_at m a b = omega (arith, ints, saddle.greatest_in_col top top_in, here, lifted_at-is m top b s top_in saddle.col_in) in

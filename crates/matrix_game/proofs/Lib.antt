@@ -2,6 +2,7 @@ pub mod FirstLemmas
 pub mod Potential
 pub mod Gap
 pub mod Lifting
+pub mod Lists
 pub mod Mixtures
 pub mod Law
 pub mod Loop

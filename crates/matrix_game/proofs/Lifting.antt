@@ -1,11 +1,9 @@
 -- Sums of signed numbers, read as sums of natural numbers that are all raised by one shift.
-use Rattle.std.proofs.Common.{◌≡◌, ℕ, zero, suc, ◌+◌, ◌-◌, ◌*◌, ◌<◌, ap, arith, inl, inr, ℤ, pos, negsuc, neg_ℤ, ◌+ℤ◌, ◌-ℤ◌, ◌*ℤ◌, ◌≤ℤ◌, int_lt}
+use Rattle.std.proofs.Common.{◌≡◌, ℕ, zero, suc, ◌+◌, ◌-◌, ◌*◌, ◌<◌, ap, arith, ℤ, pos, negsuc, ◌+ℤ◌, ◌-ℤ◌, ◌*ℤ◌}
 use Rattle.std.proofs.lemmas.Int.{ints}
-use Rattle.std.proofs.lemmas.Bool.{cases_lt, cond_both}
 use borrow.Author.Differences.{up, down}
 use Rattle.sums.specs.Sums.{count_below}
 use Rattle.sums.specs.Sums.{sum_below}
-use Rattle.matrix_game.specs.Grid.{first_least, first_greatest}
 use Rattle.matrix_game.specs.Rounds.{positive_part}
 
 -- z is e - c

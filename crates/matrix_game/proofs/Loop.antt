@@ -1,5 +1,5 @@
 -- The loop over the rounds.
-use Rattle.std.proofs.Common.{◌≡◌, ℕ, zero, suc, ◌+◌, ◌*◌, ◌^◌, ◌<◌, ◌≤◌, sym, refl, ap, ◌∙◌, arith, add-one, inl, inr, List, All, length, get_or, sum, cond, ℤ, int_lt, ◌⊎◌, ◌<ℤ◌, ◌≤ℤ◌, replicate}
+use Rattle.std.proofs.Common.{◌≡◌, ℕ, zero, suc, ◌+◌, ◌*◌, ◌^◌, ◌<◌, ◌≤◌, sym, refl, ap, ◌∙◌, arith, add-one, inl, inr, List, All, length, get_or, sum, ℤ, ◌⊎◌, ◌<ℤ◌, ◌≤ℤ◌, replicate}
 use Rattle.std.proofs.Math.ListN.{set}
 use Rattle.std.proofs.Math.Nat.{mul-le-mul, mul-le-mul_left, mul-le-mul_right}
 use Rattle.std.proofs.lemmas.Int.{ints}
@@ -12,7 +12,8 @@ use Rattle.sums.proofs.CountLemmas.{count_mono, count_constant, count_term}
 use Rattle.matrix_game.proofs.FirstLemmas.{first_greatest-below, first_greatest-one, first_greatest-takes, first_greatest-keeps, same_greatest}
 use Rattle.matrix_game.proofs.Potential.{paid_above}
 use Rattle.matrix_game.proofs.Gap.{count_of, is_equal-same, is_equal-other}
-use Rattle.matrix_game.proofs.Mixtures.{sum-total, sum-zeros, length-mixture_of, total-mixture_of}
+use Rattle.matrix_game.proofs.Lists.{sum-count, sum-zeros}
+use Rattle.matrix_game.proofs.Mixtures.{length-mixture_of, weight-mixture_of}
 use Rattle.matrix_game.proofs.Law.{mixture_before, reply_before, weight_before, length-regrets_before, regret_start, regret_step, lifted_at, lifted_at-within, reply_before-below, length-rounds, mixture_at-rounds, get_or-reply_counts, length-reply_counts}
 use Rattle.matrix_game.specs.Grid.{Grid, IsShaped, IsMatrix, IsSpread, HasRoom, row_floor, best_reply, first_greatest}
 use Rattle.matrix_game.specs.Rounds.{mixture_of, raised_regrets, regrets_before, rounds, mixture_at, best_mixture, reply_counts}
@@ -61,7 +62,7 @@ sum-regrets_before-le : (m : Grid) (w d t : ℕ) → IsShaped m → IsSpread m d
 sum-regrets_before-le m w d t s spread h =
     let q = regrets_before m w t in
     let n = m.rows in
-    let all : sum q ≡ count_below n (λ a. get_or q a 0) = sum-total q ∙ ap (λ k. count_below k (λ a. get_or q a 0)) (length-regrets_before m w t) in
+    let all : sum q ≡ count_below n (λ a. get_or q a 0) = sum-count q ∙ ap (λ k. count_below k (λ a. get_or q a 0)) (length-regrets_before m w t) in
     let each = count_mono n (λ a. get_or q a 0) (λ a. t * (w * d)) (λ a l. regret_before-le m w d t a s spread l) in
     let early = mul-le-mul_left n (mul-le-mul_right (w * d) h) in
     omega (arith, all, each, count_constant n (t * (w * d)), early)
@@ -73,7 +74,7 @@ pub mixture-light : (n w : ℕ) (q : List ℕ) → length q ≡ n → 0 < n → 
 mixture-light n w q e h light =
     All-from_get_or (λ x. x ≤ 1048576) (mixture_of w q) 0
     (λ k l. let in_n : k < n = omega (arith, length-mixture_of w q) in
-    omega (arith, count_term n (λ a. get_or (mixture_of w q) a 0) k in_n, total-mixture_of n w q e h))
+    omega (arith, count_term n (λ a. get_or (mixture_of w q) a 0) k in_n, weight-mixture_of n w q e h))
 
 count_of-le : (n : ℕ) (j : ℕ → ℕ) (b : ℕ) → count_of n j b ≤ n
 count_of-le zero j b = omega arith

@@ -1,39 +1,16 @@
--- The lists of the definitions, read by index.
+-- Mixtures, read by index, and as a loop writes them.
 use Rattle.std.proofs.Common.{◌≡◌, ℕ, zero, suc, ◌+◌, ◌-◌, ◌*◌, ◌/◌, ◌<◌, ◌≤◌, ◌≢◌, max, sym, refl, ap, ◌∙◌, arith, List, [], ◌∷◌, sum, sum_by, length, get_or, map, take, replicate, cond, inl, inr}
-use Rattle.std.proofs.Math.Seq.{take-length}
 use Rattle.std.proofs.Math.ListN.{set}
 use Rattle.std.proofs.lemmas.Grind.{same_number_lists}
 use Rattle.std.proofs.lemmas.List.{get_or-map, length-map, get_or-replicate, length-replicate, get_or-set_other, get_or-set_same, length-set}
 use Rattle.std.proofs.lemmas.Bool.{cases_eq, cases_lt, eq-eqb, ne_eqb}
 use Rattle.std.proofs.Math.Nat.{div-zero, zero-div}
-use Rattle.std.proofs.lemmas.List.Sums.{sum_by_more, get_or-le-sum_by}
-use Rattle.std.specs.List.{range_with_len}
-use Rattle.std.proofs.lemmas.List.FromFn.{fill_by_all, length-map-range_with_len, get_or-map-range_with_len}
+use Rattle.std.proofs.lemmas.List.Sums.{get_or-le-sum_by}
 use Rattle.sums.specs.Sums.{count_below}
 use Rattle.sums.proofs.CountLemmas.{count_same, count_constant, count_first, count_more}
+use Rattle.matrix_game.proofs.Lists.{sum-count, sum-zeros, count_longer}
 use Rattle.matrix_game.proofs.Potential.{AddsToFirst, share_of, shares-le, weight_by_shares}
 use Rattle.matrix_game.specs.Rounds.{shares, add_to_first, mixture_of}
-
-sum_by-take : {X : Type 0} (f : X → ℕ) (xs : List X) (d : X) (i : ℕ) → i ≤ length xs → sum_by f (take i xs) ≡ count_below i (λ k. f (get_or xs k d))
-sum_by-take f xs d zero h = refl
-sum_by-take f xs d (suc i) h =
-    let e : suc i ≡ i + 1 = omega arith in
-    ap (λ n. sum_by f (take n xs)) e ∙ sum_by_more f xs i d (omega arith) ∙ ap (λ s. s + f (get_or xs i d)) (sum_by-take f xs d i (omega arith))
-
-pub sum_by-total : {X : Type 0} (f : X → ℕ) (xs : List X) (d : X) → sum_by f xs ≡ count_below (length xs) (λ k. f (get_or xs k d))
-sum_by-total f xs d = ap (λ l. sum_by f l) (sym (take-length xs)) ∙ sum_by-take f xs d (length xs) (omega arith)
-
-pub sum-total : (xs : List ℕ) → sum xs ≡ count_below (length xs) (λ k. get_or xs k 0)
-sum-total xs = sum_by-total (λ x. x) xs 0
-
--- the number of an element of a list
-pub number_at : {X : Type 0} (f : X → ℕ) (xs : List X) (k : ℕ) (x : X) → k < length xs → x ≡ get_or xs k x → get_or (map f xs) k 0 ≡ f x
-number_at f xs k x h e = get_or-map f xs k x 0 h ∙ ap f (sym e)
-
-pub number-le : {X : Type 0} (f : X → ℕ) (xs : List X) (k : ℕ) (x : X) → k < length xs → x ≡ get_or xs k x → f x ≤ sum (map f xs)
-number-le f xs k x h e =
-    let listed : k < length (map f xs) = omega (arith, length-map xs f) in
-    omega (arith, number_at f xs k x h e, get_or-le-sum_by (λ n. n) (map f xs) k 0 listed)
 
 length-add_to_first : (x : ℕ) (xs : List ℕ) → length (add_to_first x xs) ≡ length xs
 length-add_to_first x [] = refl
@@ -58,11 +35,6 @@ shares_of_none w q e =
     (λ k b. let c : k < length q = omega arith in
     get_or-map (λ r. w * r / sum q) q k 0 0 c ∙ ap (λ s. w * get_or q k 0 / s) e ∙ div-zero (w * get_or q k 0) ∙ sym (get_or-replicate (length q) k 0 0 c))
 
-pub sum-zeros : (n : ℕ) → sum (replicate n 0) ≡ 0
-sum-zeros n =
-    sum-total (replicate n 0) ∙ ap (λ k. count_below k (λ a. get_or (replicate n 0) a 0)) (length-replicate n 0)
-    ∙ count_same n (λ a. get_or (replicate n 0) a 0) (λ a. 0) (λ a h. get_or-replicate n a 0 0 h) ∙ (let z = count_constant n 0 in omega (arith, z))
-
 pub mixture_of-filled : (w : ℕ) (q : List ℕ) → mixture_of w q ≡ filled w q
 mixture_of-filled w q =
     elim (cases_eq (sum q) 0) [
@@ -79,14 +51,14 @@ length-mixture_of w q = ap length (mixture_of-filled w q) ∙ length-add_to_firs
 
 get_or-shares : (n w : ℕ) (q : List ℕ) (a : ℕ) → length q ≡ n → a < n → get_or (shares w q) a 0 ≡ share_of n w (λ k. get_or q k 0) a
 get_or-shares n w q a e h =
-    let s : sum q ≡ count_below n (λ k. get_or q k 0) = sum-total q ∙ ap (λ i. count_below i (λ k. get_or q k 0)) e in
+    let s : sum q ≡ count_below n (λ k. get_or q k 0) = sum-count q ∙ ap (λ i. count_below i (λ k. get_or q k 0)) e in
     let l : a < length q = omega arith in
     get_or-map (λ r. w * r / sum q) q a 0 0 l ∙ ap (λ t. w * get_or q a 0 / t) s
 
 sum-shares : (n w : ℕ) (q : List ℕ) → length q ≡ n → sum (shares w q) ≡ count_below n (share_of n w (λ k. get_or q k 0))
 sum-shares n w q e =
     let l : length (shares w q) ≡ n = length-map q (λ r. w * r / sum q) ∙ e in
-    sum-total (shares w q) ∙ ap (λ i. count_below i (λ k. get_or (shares w q) k 0)) l
+    sum-count (shares w q) ∙ ap (λ i. count_below i (λ k. get_or (shares w q) k 0)) l
     ∙ count_same n (λ k. get_or (shares w q) k 0) (share_of n w (λ k. get_or q k 0)) (λ a h. get_or-shares n w q a e h)
 
 -- a mixture has the shares in the regrets, and gives the first row what they lack
@@ -109,18 +81,10 @@ weight_of (suc n) w q p h a =
     omega (arith, weight_by_shares n (w - count_below (suc n) (share_of (suc n) w q)) (share_of (suc n) w q) p a, shares-le (suc n) w q)
 
 -- it has the whole weight
-pub total-mixture_of : (n w : ℕ) (q : List ℕ) → length q ≡ n → 0 < n → count_below n (λ a. get_or (mixture_of w q) a 0) ≡ w
-total-mixture_of n w q e h = weight_of n w (λ k. get_or q k 0) (λ a. get_or (mixture_of w q) a 0) h (mixture_of-adds n w q e h)
+pub weight-mixture_of : (n w : ℕ) (q : List ℕ) → length q ≡ n → 0 < n → count_below n (λ a. get_or (mixture_of w q) a 0) ≡ w
+weight-mixture_of n w q e h = weight_of n w (λ k. get_or q k 0) (λ a. get_or (mixture_of w q) a 0) h (mixture_of-adds n w q e h)
 
 -- ---- the mixture as a loop writes it, from the second row on
-count_longer : (n m : ℕ) (f : ℕ → ℕ) → n ≤ m → count_below n f ≤ count_below m f
-count_longer n zero f h = let e : n ≡ 0 = omega arith in rw e (omega arith)
-count_longer n (suc m) f h =
-    elim (cases_lt m n) [
-      | inl l ↦ let e : n ≡ suc m = omega arith in rw e (omega arith)
-      | inr l ↦ omega (arith, count_longer n m f l)
-    ]
-
 -- a row's share, by a sum of the regrets that is 1 where there is none
 abbrev pub part_of : ℕ → ℕ → List ℕ → ℕ → ℕ
 part_of w all q k = w * get_or q k 0 / all
@@ -130,7 +94,7 @@ none_of w d = let e : w * 0 ≡ 0 = omega arith in ap (λ x. x / d) e ∙ zero-d
 
 part_of-share : (n w all : ℕ) (q : List ℕ) (k : ℕ) → all ≡ max (sum q) 1 → length q ≡ n → k < n → part_of w all q k ≡ share_of n w (λ a. get_or q a 0) k
 part_of-share n w all q k ea e h =
-    let s : sum q ≡ count_below n (λ a. get_or q a 0) = sum-total q ∙ ap (λ i. count_below i (λ a. get_or q a 0)) e in
+    let s : sum q ≡ count_below n (λ a. get_or q a 0) = sum-count q ∙ ap (λ i. count_below i (λ a. get_or q a 0)) e in
     elim (cases_eq (sum q) 0) [
       | inl z ↦ let none : get_or q k 0 ≡ 0 = omega (arith, get_or-le-sum_by (λ x. x) q k 0 (omega arith)) in
           ap (λ x. w * x / all) none ∙ none_of w all ∙ sym (ap (λ x. w * x / count_below n (λ a. get_or q a 0)) none ∙ none_of w (count_below n (λ a. get_or q a 0)))
@@ -154,12 +118,6 @@ later_parts-le n w all r q ea e h =
 pub record IsShared (w all row : ℕ) (q p : List ℕ) (left : ℕ) : Type 0 where
   pub written : (k : ℕ) → 1 ≤ k → k < row → get_or p k 0 ≡ part_of w all q k
   pub left_over : left + count_below (row - 1) (λ k. part_of w all q (suc k)) ≡ w
-
-pub none_shared : (w all : ℕ) (q p : List ℕ) → IsShared w all 1 q p w
-none_shared w all q p = record {
-  written = λ k l h. absurd (omega arith);
-  left_over = let e : 1 - 1 ≡ 0 = omega arith in rw e (omega arith);
-}
 
 one_more : (w all r : ℕ) (q : List ℕ) → count_below (suc r) (λ k. part_of w all q (suc k)) ≡ count_below r (λ k. part_of w all q (suc k)) + part_of w all q (suc r)
 one_more w all r q = refl
@@ -206,41 +164,3 @@ shared_all w all q p left ea h same shared =
           let s : k ≡ suc (k - 1) = omega arith in
           get_or-set_other p 0 k left 0 z ∙ shared.written k (omega arith) in_q ∙ part_of-share n w all q k ea refl in_q ∙ ap f s ∙ sym (adds.others (k - 1) (omega arith)) ∙ ap (λ i. get_or (mixture_of w q) i 0) (sym s)
     ])
-
--- ---- a list as a loop makes it from a function of the index
-pub sum-made : (f : ℕ → ℕ) (n : ℕ) → sum (map f (range_with_len 0 n)) ≡ count_below n f
-sum-made f n =
-    sum-total (map f (range_with_len 0 n)) ∙ ap (λ k. count_below k (λ a. get_or (map f (range_with_len 0 n)) a 0)) (length-map-range_with_len f 0 n)
-    ∙ count_same n (λ a. get_or (map f (range_with_len 0 n)) a 0) f (λ a h. get_or-map-range_with_len f 0 n a a 0 h (omega arith))
-
--- the rows below a row have their new numbers, and their sum is known
-pub record IsMade (f : ℕ → ℕ) (old new : List ℕ) (row all : ℕ) : Type 0 where
-  pub made : (k : ℕ) → k < row → get_or new k 0 ≡ f k
-  pub others : (k : ℕ) → row ≤ k → get_or new k 0 ≡ get_or old k 0
-  pub summed : all ≡ count_below row f
-
-pub none_made : (f : ℕ → ℕ) (old : List ℕ) (all : ℕ) → all ≡ 0 → IsMade f old old 0 all
-none_made f old all e = record {
-  made = λ k h. absurd (omega arith);
-  others = λ k h. refl;
-  summed = e;
-}
-
-pub made_more : (f : ℕ → ℕ) (old new after : List ℕ) (row all next x : ℕ) → row < length new → after ≡ set new row x → x ≡ f row → next ≡ all + x → IsMade f old new row all → IsMade f old after (row + 1) next
-made_more f old new after row all next x h ea ex en made =
-    rw ea (record {
-      made = λ k l. elim (cases_eq k row) [
-        | inl s ↦ ap (λ i. get_or (set new row x) i 0) s ∙ get_or-set_same new row x 0 h ∙ ex ∙ ap f (sym s)
-        | inr o ↦ get_or-set_other new row k x 0 o ∙ made.made k (omega arith)
-      ];
-      others = λ k l. let o : k ≢ row = omega arith in get_or-set_other new row k x 0 o ∙ made.others k (omega arith);
-      summed = omega (arith, count_more row f, made.summed);
-    })
-
--- what is summed so far, with one more, is at most the sum of all
-pub made-le : (f : ℕ → ℕ) (old new : List ℕ) (row all n : ℕ) → row < n → IsMade f old new row all → all + f row ≤ sum (map f (range_with_len 0 n))
-made-le f old new row all n h made = omega (arith, made.summed, count_longer (row + 1) n f (omega arith), count_more row f, sum-made f n)
-
-pub all_made : (f : ℕ → ℕ) (old new : List ℕ) (row all n : ℕ) → length new ≡ n → row ≡ n → IsMade f old new row all → (new ≡ map f (range_with_len 0 n)) × (all ≡ sum new)
-all_made f old new row all n e end made =
-    let is = fill_by_all f new n 0 e (λ k l. made.made k (omega arith)) in (is, made.summed ∙ ap (λ k. count_below k f) end ∙ sym (ap sum is ∙ sum-made f n))

@@ -1,5 +1,5 @@
 -- Saddles, and what each answer of a stage has.
-use Rattle.std.proofs.Common.{◌≡◌, ℕ, ◌+◌, ◌*◌, ◌<◌, ◌≤◌, sym, ap, subst, ◌∙◌, arith, inl, inr, List, All, length, get_or, cond, nat_eq, replicate, zero, suc, ℤ, pos, ◌*ℤ◌, unsigned_abs}
+use Rattle.std.proofs.Common.{◌≡◌, ℕ, ◌+◌, ◌*◌, ◌<◌, ◌≤◌, sym, ap, subst, ◌∙◌, arith, inl, inr, List, length, get_or, cond, nat_eq, replicate, zero, suc, ℤ, pos, ◌*ℤ◌, unsigned_abs}
 use Rattle.std.proofs.Math.ListN.{set}
 use Rattle.std.proofs.Math.Nat.{mul-le-mul_left, mul-le-mul_right}
 use Rattle.std.proofs.lemmas.Int.{ints, unsigned_abs-mul}
@@ -7,13 +7,12 @@ use Rattle.std.proofs.lemmas.Nat.{mul-add-lt}
 use Rattle.std.proofs.lemmas.Bool.{cases_lt, cases_eq, eq-eqb, ne_eqb}
 use Rattle.std.proofs.lemmas.Grind.{same_number_lists}
 use Rattle.std.proofs.lemmas.List.{get_or-set_other, get_or-set_same, length-set, get_or-replicate, length-replicate}
-use Rattle.std.proofs.lemmas.List.Sums.{get_or-le-sum_by}
-use Rattle.std.proofs.lemmas.List.Elements.{All-from_get_or}
 use Rattle.std.proofs.lemmas.List.FromFn.{length-map-range_with_len}
 use Rattle.sums.specs.Sums.{count_below}
 use Rattle.matrix_game.proofs.FirstLemmas.{first_least-below, first_greatest-below}
-use Rattle.matrix_game.proofs.Mixtures.{sum-total, length-mixture_of}
-use Rattle.matrix_game.proofs.Law.{weight_before, length-regrets_before, total-reply_counts, length-reply_counts, get_or-all_on, weight-all_on}
+use Rattle.matrix_game.proofs.Lists.{sum-count}
+use Rattle.matrix_game.proofs.Mixtures.{length-mixture_of}
+use Rattle.matrix_game.proofs.Law.{weight_before, length-regrets_before, weight-reply_counts, length-reply_counts, get_or-all_on, weight-all_on}
 use Rattle.matrix_game.proofs.Loop.{floor_before, best_mixture_is}
 use Rattle.sums.specs.Sums.{sum_below}
 use Rattle.matrix_game.specs.Grid.{Grid, IsShaped, IsMatrix, IsSaddle, IsFirstSaddle, cell_at, column_sum, row_sum, best_reply, row_floor, col_ceiling, first_greatest}
@@ -67,7 +66,7 @@ no_saddle_row m a before row c d h s =
 all_on-weighted : (n i w : ℕ) → i < n → IsWeighted n w (all_on n i w)
 all_on-weighted n i w h =
     let l = length-map-range_with_len (λ k. cond (nat_eq k i) w 0) 0 n in
-    record { each = l; all = sum-total (all_on n i w) ∙ ap (λ k. count_below k (λ a. get_or (all_on n i w) a 0)) l ∙ weight-all_on n i w h }
+    record { each = l; all = sum-count (all_on n i w) ∙ ap (λ k. count_below k (λ a. get_or (all_on n i w) a 0)) l ∙ weight-all_on n i w h }
 
 pub stage-rows : (m : Grid) (w : ℕ) (p v : List ℕ) → IsShaped m → 0 < w → IsStage m w p v → IsWeighted m.rows w p
 stage-rows m w p v s h (pure a b f ep ev) = rw ep (all_on-weighted m.rows a w f.saddle.row_in)
@@ -75,17 +74,14 @@ stage-rows m w p v s h (mixed n ep ev) =
     let t = first_greatest w (floor_before m w) in
     let is = ep ∙ best_mixture_is m w h in
     let l : length p ≡ m.rows = ap length is ∙ length-mixture_of w (regrets_before m w t) ∙ length-regrets_before m w t in
-    record { each = l; all = sum-total p ∙ ap (λ k. count_below k (λ a. get_or p a 0)) l ∙ ap (λ ys. count_below m.rows (λ a. get_or ys a 0)) is ∙ weight_before m w t s }
+    record { each = l; all = sum-count p ∙ ap (λ k. count_below k (λ a. get_or p a 0)) l ∙ ap (λ ys. count_below m.rows (λ a. get_or ys a 0)) is ∙ weight_before m w t s }
 
 pub stage-cols : (m : Grid) (w : ℕ) (p v : List ℕ) → IsShaped m → IsStage m w p v → IsWeighted m.cols w v
 stage-cols m w p v s (pure a b f ep ev) = rw ev (all_on-weighted m.cols b w f.saddle.col_in)
 stage-cols m w p v s (mixed n ep ev) =
     let rs = rounds m w in
     let l : length v ≡ m.cols = ap length ev ∙ length-reply_counts m rs in
-    record { each = l; all = sum-total v ∙ ap (λ k. count_below k (λ a. get_or v a 0)) l ∙ ap (λ ys. count_below m.cols (λ a. get_or ys a 0)) ev ∙ total-reply_counts m w s }
-
-pub weighted-light : (n w : ℕ) (p : List ℕ) → IsWeighted n w p → w ≤ 1048576 → All (λ x. x ≤ 1048576) p
-weighted-light n w p h l = All-from_get_or (λ x. x ≤ 1048576) p 0 (λ k b. omega (arith, get_or-le-sum_by (λ x. x) p k 0 b, h.all))
+    record { each = l; all = sum-count v ∙ ap (λ k. count_below k (λ a. get_or v a 0)) l ∙ ap (λ ys. count_below m.cols (λ a. get_or ys a 0)) ev ∙ weight-reply_counts m w s }
 
 -- ---- the sizes of sums
 weighted_sum-small : (n c : ℕ) (p : ℕ → ℕ) (z : ℕ → ℤ) → ((a : ℕ) → a < n → unsigned_abs (z a) ≤ c) → unsigned_abs (sum_below n (λ a. pos (p a) *ℤ z a)) ≤ c * count_below n p
@@ -96,8 +92,8 @@ weighted_sum-small (suc n) c p z h =
     let last = mul-le-mul_left (p n) (h n (omega arith)) in
     omega (arith, ints, before, product, last)
 
-weights_total : (n w : ℕ) (p : List ℕ) → IsWeighted n w p → count_below n (λ a. get_or p a 0) ≡ w
-weights_total n w p h = ap (λ k. count_below k (λ a. get_or p a 0)) (sym h.each) ∙ sym (sum-total p) ∙ h.all
+weights_sum : (n w : ℕ) (p : List ℕ) → IsWeighted n w p → count_below n (λ a. get_or p a 0) ≡ w
+weights_sum n w p h = ap (λ k. count_below k (λ a. get_or p a 0)) (sym h.each) ∙ sym (sum-count p) ∙ h.all
 
 cell-small : (m : Grid) (a b : ℕ) → IsMatrix m → a < m.rows → b < m.cols → unsigned_abs (cell_at m a b) ≤ 4000000000
 cell-small m a b i h k = i.small_cells (a * m.cols + b) (omega (arith, mul-add-lt a m.cols b m.rows h k, i.shaped.all_cells))
@@ -107,11 +103,11 @@ row_floor-small m w p i h =
     let b = best_reply m p in
     let b_in : b < m.cols = first_least-below m.cols (column_sum m p) (omega (arith, i.shaped.some_col)) in
     let s = weighted_sum-small m.rows 4000000000 (λ a. get_or p a 0) (λ a. cell_at m a b) (λ a l. cell-small m a b i l b_in) in
-    omega (arith, s, ap (λ t. 4000000000 * t) (weights_total m.rows w p h))
+    omega (arith, s, ap (λ t. 4000000000 * t) (weights_sum m.rows w p h))
 
 pub col_ceiling-small : (m : Grid) (w : ℕ) (v : List ℕ) → IsMatrix m → IsWeighted m.cols w v → unsigned_abs (col_ceiling m v) ≤ 4000000000 * w
 col_ceiling-small m w v i h =
     let a = first_greatest m.rows (row_sum m v) in
     let a_in : a < m.rows = first_greatest-below m.rows (row_sum m v) (omega (arith, i.shaped.some_row)) in
     let s = weighted_sum-small m.cols 4000000000 (λ b. get_or v b 0) (λ b. cell_at m a b) (λ b l. cell-small m a b i a_in l) in
-    omega (arith, s, ap (λ t. 4000000000 * t) (weights_total m.cols w v h))
+    omega (arith, s, ap (λ t. 4000000000 * t) (weights_sum m.cols w v h))

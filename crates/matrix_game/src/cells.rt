@@ -8,7 +8,8 @@ use std::marker::Model;
 use sums::{MOST_BOUND, weighted};
 use thiserror::Error;
 
-/// The payoffs of a game to player one, whose moves are the rows.
+/// The payoffs of a game to player one, whose moves are the rows, in whole numbers of any unit: 1 to 32 rows and
+/// columns, and cells of at most `MOST_BOUND` in size. Moves are numbered from 0.
 #[derive(Drop)]
 pub struct Matrix {
     pub(crate) rows: usize,
@@ -45,7 +46,7 @@ pub(crate) struct Reply {
 }
 
 impl Matrix {
-    /// The matrix with these cells, which stand row by row.
+    /// The matrix with these cells, which stand row by row. Takes no memory.
     pub fn new(rows: u32, cols: u32, cells: Vec<i64>) -> Result<Matrix, ShapeError>
         ensures matrix { IfOk result (λ m. m ≡ record { rows = rows; cols = cols; cells = cells.items }) }
         ensures ok { IsOk result ↔ (HasGoodShape rows cols (length cells.items) × All IsSmall cells.items) }
@@ -73,6 +74,7 @@ impl Matrix {
         })
     }
 
+    // Whether the cell is least in its row and greatest in its column.
     fn is_saddle(&self, row: usize, col: usize) -> bool
         requires row_in { row < self.now.rows }
         requires col_in { col < self.now.cols }
@@ -92,7 +94,7 @@ impl Matrix {
         true
     }
 
-    /// The first cell, row by row, that is least in its row and greatest in its column.
+    /// The row and column of the first cell, row by row, that is least in its row and greatest in its column.
     pub fn saddle(&self) -> Option<(u32, u32)>
         ensures found { IfSome result (λ place. IsFirstSaddle self.now place.0 place.1) }
         ensures none { IfNone result ((a b : ℕ) → IsSaddle self.now a b → ⊥) }
@@ -127,6 +129,7 @@ impl Matrix {
         weighted(weight, self.cell(row, col))
     }
 
+    // What the weights of the rows pay in a column.
     fn column_sum(&self, p: &[u32], col: usize) -> i64
         requires weights { length p.now ≡ self.now.rows }
         requires light { All (λ x. x ≤ 1048576) p.now }
@@ -141,6 +144,7 @@ impl Matrix {
         sum
     }
 
+    // What the weights of the columns pay in a row.
     fn row_sum(&self, v: &[u32], row: usize) -> i64
         requires weights { length v.now ≡ self.now.cols }
         requires light { All (λ x. x ≤ 1048576) v.now }
@@ -154,6 +158,7 @@ impl Matrix {
         sum
     }
 
+    // The first column in which the weights of the rows pay least.
     pub(crate) fn best_reply(&self, p: &[u32]) -> Reply
         requires weights { length p.now ≡ self.now.rows }
         requires light { All (λ x. x ≤ 1048576) p.now }

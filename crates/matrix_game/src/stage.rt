@@ -60,7 +60,9 @@ impl Matrix {
         Ok(weights)
     }
 
-    /// Solves the matrix by weights that sum to `total`, for one turn.
+    /// Solves the matrix by weights that sum to `total`, for one turn: pure at the first saddle, else by as many rounds
+    /// of regret matching as the total. Without a turn left the answer is `Spent`, and no memory is taken; want of
+    /// memory takes no turn.
     pub fn solve(
         &self,
         alloc: Global,

@@ -1,4 +1,4 @@
-use Rattle.std.proofs.Common.{◌≡◌, ◌<◌, arith, sum, max, map, length, subst, ℕ, List}
+use Rattle.std.proofs.Common.{◌≡◌, arith, sum, max, map, length, subst, ℕ, List}
 use Rattle.std.proofs.lemmas.List.{length-map}
 use Rattle.matrix_game.proofs.Mixtures.{IsShared, share_left, shared_more, shared_all}
 use Rattle.matrix_game.proofs.shares.mix.Goals as goal

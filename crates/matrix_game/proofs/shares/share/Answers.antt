@@ -1,6 +1,6 @@
 use Rattle.std.proofs.Common.{◌≤◌, ◌*◌, ◌^◌, arith}
 use Rattle.std.proofs.Math.Nat.{mul-le-mul, mul-le-mul_left, div-le_of_le-mul}
-use Rattle.matrix_game.proofs.Mixtures.{number-le}
+use Rattle.matrix_game.proofs.Lists.{number-le}
 use Rattle.matrix_game.proofs.shares.share.Goals as goal
 
 pub overflow_mul-from : goal.overflow_mul-from

@@ -1,8 +1,8 @@
-use Rattle.std.proofs.Common.{◌≡◌, arith, map, length, pos, ◌+ℤ◌, ap, ◌∙◌, ℕ, List}
+use Rattle.std.proofs.Common.{◌≡◌, arith, map, pos, ◌+ℤ◌, ap, ◌∙◌, ℕ, List}
 use Rattle.std.proofs.lemmas.List.{length-map, map-set}
 use Rattle.matrix_game.specs.Grid.{Grid}
 use Rattle.matrix_game.specs.Rounds.{positive_part, regret_of, raised_regret}
-use Rattle.matrix_game.proofs.Mixtures.{none_made, made_more, made-le, all_made}
+use Rattle.matrix_game.proofs.Lists.{none_made, made_more, made-le, all_made}
 use Rattle.matrix_game.proofs.cells.Matrix.raise.Goals as goal
 
 pub loop-row-init : goal.loop-row-init
@@ -39,7 +39,7 @@ loop-row-preserved g c =
     let f = raised_regret c.args.self.now c.args.weight q c.args.reply.col c.args.reply.paid in
     let same = ap (λ x. positive_part (pos x +ℤ regret_of c.args.self.now c.args.weight c.args.reply.col c.args.reply.paid row)) (c.loop-row.invariant.others row (omega arith)) in
     made_more f q (map number c.loop-row.regrets) _ row (number c.loop-row.all) (number c.plus-all.result) (number c.raised-regret.result) (omega (arith, length-map c.loop-row.regrets number))
-    (map-set number c.loop-row.regrets row c.raised-regret.result) (c.raised-regret.ensures ∙ same) c.plus-all.ensures c.loop-row.invariant
+    (map-set number c.loop-row.regrets row c.raised-regret.result) (omega (arith, same, c.raised-regret.ensures)) c.plus-all.ensures c.loop-row.invariant
 
 pub returns-clause-regrets : goal.returns-clause-regrets
 returns-clause-regrets g c =

@@ -1,6 +1,6 @@
 use Rattle.std.proofs.Common.{map}
 use Rattle.matrix_game.specs.Rounds.{raised_regret}
-use Rattle.matrix_game.proofs.Mixtures.{IsMade}
+use Rattle.matrix_game.proofs.Lists.{IsMade}
 use Rattle.matrix_game.proofs.cells.Matrix.raise.Given as goal
 
 abbrev pub invariant-loop-row : goal.invariant-loop-row

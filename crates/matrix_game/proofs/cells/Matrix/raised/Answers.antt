@@ -1,6 +1,6 @@
 use Rattle.std.proofs.Common.{◌≡◌, ◌<◌, length, pos, ◌+ℤ◌, ℤ, sym, ap, ◌∙◌, arith, rules}
 use Rattle.matrix_game.specs.Rounds.{positive_part, regret_of}
-use Rattle.matrix_game.proofs.Mixtures.{number_at}
+use Rattle.matrix_game.proofs.Lists.{number_at}
 use Rattle.matrix_game.proofs.cells.Matrix.raised.Goals as goal
 
 pub returns : goal.returns

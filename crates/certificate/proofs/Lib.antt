@@ -1,0 +1,5 @@
+pub mod TextLemmas
+pub mod RowLemmas
+pub mod ListLemmas
+pub mod PartLemmas
+pub mod NumberLemmas

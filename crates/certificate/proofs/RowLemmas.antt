@@ -1,0 +1,48 @@
+-- Reading rows one after the other, as a loop does.
+use Rattle.std.proofs.Common.{◌≡◌, ℕ, suc, ◌+◌, ◌-◌, ◌<◌, ◌≤◌, List, [], ◌∷◌, ◌++◌, Option, Some, Result, Ok, Err, refl, sym, ap, ◌∙◌, arith, append_assoc, append-nil}
+use Rattle.plan_book.specs.declared.SheetRow.{SheetRow}
+use Rattle.certificate.specs.declared.error.TextError.{TextError}
+use Rattle.certificate.specs.declared.error.TextError.TheVariants.{NoMemory}
+use Rattle.certificate.specs.Unread.{Unread}
+use Rattle.certificate.specs.Reading.{◌>>=◌, Fails, next_row, rows}
+
+abbrev pub Rows : Type 0
+Rows = Result (List SheetRow × Unread) TextError
+
+-- the rows, behind those read before
+abbrev pub behind : List SheetRow → Rows → Rows
+behind front read = read >>= λ x. Ok (front ++ x.0, x.1)
+
+regroup : (front : List SheetRow) (row : SheetRow) (read : Rows) → behind front (read >>= λ x. Ok (row ∷ x.0, x.1)) ≡ behind (front ++ row ∷ []) read
+regroup front row (Ok x) = ap (λ (rs : List SheetRow). Ok (rs, x.1)) (sym (append_assoc front (row ∷ []) x.0))
+regroup front row (Err e) = refl
+
+pub row_more : (front : List SheetRow) (count i : ℕ) (last : Option ℕ) (u after : Unread) (row : SheetRow) (whole : Rows) → i < count → next_row last u ≡ Ok (row, after)
+    → behind front (rows (count - i) last u) ≡ whole → behind (front ++ row ∷ []) (rows (count - (i + 1)) (Some row.key) after) ≡ whole
+unfolding rows
+row_more front count i last u after row whole lt is so_far =
+    let k : count - i ≡ suc (count - (i + 1)) = omega arith in
+    let one : behind front (rows (count - i) last u) ≡ behind (front ++ row ∷ []) (rows (count - (i + 1)) (Some row.key) after) = rw (k, is) (regroup front row (rows (count - (i + 1)) (Some row.key) after)) in
+    sym one ∙ so_far
+
+row_stops : (e : TextError) (front : List SheetRow) (count i : ℕ) (last : Option ℕ) (u : Unread) (whole : Rows) → i < count
+    → behind front (rows (count - i) last u) ≡ whole → next_row last u ≡ Err e → whole ≡ Err e
+unfolding rows
+row_stops e front count i last u whole lt so_far is =
+    let k : count - i ≡ suc (count - (i + 1)) = omega arith in
+    let one : behind front (rows (count - i) last u) ≡ Err e = rw (k, is) refl in
+    sym so_far ∙ one
+
+-- the fault of a row is the fault of the rows
+pub row_fails : (e : TextError) (front : List SheetRow) (count i : ℕ) (last : Option ℕ) (u : Unread) (whole : Rows) → i < count
+    → behind front (rows (count - i) last u) ≡ whole → Fails e (next_row last u) → Fails e whole
+row_fails NoMemory front count i last u whole lt so_far fault = tt
+row_fails e front count i last u whole lt so_far fault = row_stops e front count i last u whole lt so_far fault
+
+pub rows_done : (front : List SheetRow) (count i : ℕ) (last : Option ℕ) (u : Unread) (whole : Rows) → count ≤ i
+    → behind front (rows (count - i) last u) ≡ whole → whole ≡ Ok (front, u)
+unfolding rows
+rows_done front count i last u whole le so_far =
+    let k : count - i ≡ 0 = omega arith in
+    let one : behind front (rows (count - i) last u) ≡ Ok (front, u) = rw k (ap (λ (rs : List SheetRow). Ok (rs, u)) (append-nil front)) in
+    sym so_far ∙ one

@@ -1,0 +1,7 @@
+use Rattle.std.proofs.Common.{◌≡◌, ◌-◌, None}
+use Rattle.certificate.specs.Reading.{rows}
+use Rattle.certificate.proofs.RowLemmas.{behind}
+use Rattle.certificate.proofs.lines.Lines.rows.Given as goal
+
+abbrev pub invariant-loop-i : goal.invariant-loop-i
+invariant-loop-i l = behind l.rows.items (rows (l.count - l._i) l.last l.self) ≡ rows l.count None l.initial.self

@@ -1,0 +1,10 @@
+use Rattle.std.proofs.Common.{◌≡◌, length}
+use Rattle.certificate.specs.Reading.{naturals_in}
+use Rattle.certificate.proofs.ListLemmas.{behind}
+use Rattle.certificate.proofs.lists.turns.Given as goal
+
+abbrev pub invariant-parts : goal.invariant-parts
+invariant-parts l = behind l.numbers.items (naturals_in 0 1099511627776 l.parts) ≡ naturals_in 0 1099511627776 l.initial.parts
+
+abbrev pub decreases-parts : goal.decreases-parts
+decreases-parts l = length l.parts

@@ -1,0 +1,6 @@
+pub mod Unread
+pub mod Numbers
+pub mod Texts
+pub mod Ranges
+pub mod Reading
+pub mod Outcomes

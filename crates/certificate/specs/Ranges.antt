@@ -1,0 +1,53 @@
+-- The reports that have a text: each number is in its range.
+use Rattle.std.specs.Prelude.{◌≡◌, ℕ, ◌≤◌, ℤ, pos, neg_ℤ, ◌≤ℤ◌, unsigned_abs, List, length, map, All}
+use Rattle.std.specs.List.Sorted.{IsStrictlyIncreasing}
+use Rattle.sim_game.specs.declared.Side.{Side}
+use Rattle.sim_game.specs.declared.Side.TheVariants.{One, Two}
+use Rattle.plan_book.specs.declared.Sheet.{Sheet}
+use Rattle.plan_book.specs.declared.SheetRow.{SheetRow}
+use Rattle.certificate.specs.declared.report.PositionText.{PositionText}
+use Rattle.certificate.specs.declared.report.PositionText.TheVariants.{Goofspiel, OshiZumo, Tron}
+use Rattle.certificate.specs.declared.report.Report.{Report}
+
+abbrev pub Within : ℕ → ℕ → ℕ → Type 0
+Within low high n = (low ≤ n) × (n ≤ high)
+
+abbrev pub Between : ℤ → ℤ → ℤ → Type 0
+Between low high z = low ≤ℤ z × z ≤ℤ high
+
+-- at most 255 numbers from 0 to 255
+pub record IsByteList (ns : List ℕ) : Type 0 where
+  pub few : length ns ≤ 255
+  pub small : All (λ n. n ≤ 255) ns
+
+abbrev pub IsPositionInRange : PositionText → Type 0
+IsPositionInRange (Goofspiel one two prizes score pay) = IsByteList one × IsByteList two × IsByteList prizes × unsigned_abs score ≤ 1000000
+IsPositionInRange (OshiZumo size one two least place) = size ≤ 255 × one ≤ 255 × two ≤ 255 × least ≤ 255 × Between (neg_ℤ (pos 128)) (pos 127) place
+IsPositionInRange (Tron height width walls one two) = height ≤ 255 × width ≤ 255 × IsByteList walls × one ≤ 255 × two ≤ 255
+
+pub record IsRowInRange (row : SheetRow) : Type 0 where
+  pub key : row.key ≤ 9223372036854775807
+  pub bound : unsigned_abs row.bound ≤ 4000000000
+  pub moves : Within 1 32 (length row.weights)
+  pub weights : All (λ w. w ≤ 1048576) row.weights
+
+-- a sheet of the side with the total, whose keys rise
+pub record IsSheetInRange (side : Side) (total : ℕ) (sheet : Sheet) : Type 0 where
+  pub side_is : sheet.side ≡ side
+  pub total_is : sheet.total ≡ total
+  pub few : length sheet.rows ≤ 1048576
+  pub rows : All IsRowInRange sheet.rows
+  pub rising : IsStrictlyIncreasing (map (λ row. row.key) sheet.rows)
+
+pub record IsInRange (r : Report) : Type 0 where
+  pub position : IsPositionInRange r.position
+  pub weight : Within 8192 1048576 r.weight
+  pub turns : r.turns ≤ 1099511627776
+  pub asked : Between (pos 0) (pos 8000000000) r.asked
+  pub resolution : Between (pos 0) (pos 99999999999) r.resolution
+  pub lower : unsigned_abs r.lower ≤ 4000000000
+  pub upper : unsigned_abs r.upper ≤ 4000000000
+  pub workers : Within 1 16 (length r.spent)
+  pub spent : All (λ n. n ≤ 1099511627776) r.spent
+  pub one : IsSheetInRange One r.weight r.one
+  pub two : IsSheetInRange Two r.weight r.two

@@ -1,0 +1,20 @@
+//! A solver's report and its text.
+#![tactic(auto)]
+
+mod error;
+mod lines;
+
+mod lists;
+mod numbers;
+mod parts;
+mod positions;
+mod reading;
+mod report;
+mod rows;
+mod writing;
+
+pub use error::TextError;
+pub use goofspiel::Pay;
+pub use reading::read;
+pub use report::{Ask, Outcome, PositionText, Report};
+pub use writing::write;

@@ -1,0 +1,69 @@
+//! Lists of numbers.
+
+ghost use Rattle.std.specs.Prelude.{◌≡◌, [], option_map, IfOk, IfSome};
+ghost use Rattle.certificate.specs.Reading.{naturals_in, list_in};
+
+use crate::numbers::natural;
+use crate::parts::{Parts, has_parts};
+use seq::Seq;
+use std::alloc::{AllocError, Global};
+
+fn bytes(alloc: Global, parts: &mut Parts) -> Result<Option<Vec<u8>>, AllocError>
+    ensures { IfOk result (λ o. option_map (λ v. v.items) o ≡ naturals_in 0 255 parts.old) }
+{
+    let mut numbers = Vec::new(alloc);
+    'parts: while let Some(part) = parts.next() {
+        let Some(n) = natural(part, 0, 255) else {
+            return Ok(None);
+        };
+        numbers.push(n as u8)?;
+    }
+    Ok(Some(numbers))
+}
+
+/// The weights that all parts spell.
+pub(crate) fn weights(alloc: Global, parts: &mut Parts) -> Result<Option<Vec<u32>>, AllocError>
+    ensures exact { IfOk result (λ o. option_map (λ v. v.items) o ≡ naturals_in 0 1048576 parts.old) }
+    ensures all { IfOk result (λ o. IfSome o (λ _. parts.new ≡ [])) }
+{
+    let mut numbers = Vec::new(alloc);
+    'parts: while let Some(part) = parts.next() {
+        let Some(n) = natural(part, 0, 1_048_576) else {
+            return Ok(None);
+        };
+        numbers.push(n as u32)?;
+    }
+    Ok(Some(numbers))
+}
+
+/// The counts of turns that all parts spell.
+pub(crate) fn turns(alloc: Global, parts: &mut Parts) -> Result<Option<Vec<u64>>, AllocError>
+    ensures exact { IfOk result (λ o. option_map (λ v. v.items) o ≡ naturals_in 0 1099511627776 parts.old) }
+    ensures all { IfOk result (λ o. IfSome o (λ _. parts.new ≡ [])) }
+{
+    let mut numbers = Vec::new(alloc);
+    'parts: while let Some(part) = parts.next() {
+        let Some(n) = natural(part, 0, 1_099_511_627_776) else {
+            return Ok(None);
+        };
+        numbers.push(n)?;
+    }
+    Ok(Some(numbers))
+}
+
+/// At most 255 numbers with a comma between each two, or a dash for none.
+#[tactic(auto, unfolding(crate::specs::Reading::list_in))]
+pub(crate) fn list(alloc: Global, text: &[u8]) -> Result<Option<Seq<u8>>, AllocError>
+    ensures { IfOk result (λ o. o ≡ list_in text.now) }
+{
+    if text == b"-".as_slice() {
+        return Ok(Some(Seq::from_vec(Vec::new(alloc))));
+    }
+    if !has_parts(text, b',', 1, 255) {
+        return Ok(None);
+    }
+    match bytes(alloc, &mut Parts::new(text, b','))? {
+        Some(numbers) => Ok(Some(Seq::from_vec(numbers))),
+        None => Ok(None),
+    }
+}

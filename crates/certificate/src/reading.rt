@@ -1,0 +1,152 @@
+//! The report that a text spells.
+
+ghost use Rattle.std.specs.Prelude.{◌≡◌};
+ghost use Rattle.certificate.specs.Reading.{Gives, outcome_of, outcome, outcome_line, spent_line, end_line, head, terms, findings, sheets, report, read_report};
+
+use crate::lines::{Line, Lines};
+use crate::{Outcome, Report, TextError};
+use plan_book::{Sheet, SheetRow};
+use seq::Seq;
+use sim_game::Side;
+use std::alloc::Global;
+
+impl Line<'_> {
+    #[tactic(auto, unfolding(crate::specs::Reading::outcome, crate::specs::Reading::outcome_of))]
+    fn outcome(&mut self) -> Result<Outcome, TextError>
+        ensures { Gives (λ o. (o, self.new)) result (outcome self.old) }
+    {
+        let number = self.number();
+        let word = self.field()?;
+        if word == b"closed".as_slice() {
+            Ok(Outcome::Closed)
+        } else if word == b"settled".as_slice() {
+            Ok(Outcome::Settled)
+        } else if word == b"spent".as_slice() {
+            Ok(Outcome::Spent)
+        } else if word == b"full".as_slice() {
+            Ok(Outcome::Full)
+        } else {
+            Err(TextError::Line { number })
+        }
+    }
+}
+
+impl Lines<'_> {
+    #[tactic(auto, unfolding(crate::specs::Reading::outcome_line))]
+    fn outcome(&mut self) -> Result<Outcome, TextError>
+        ensures { Gives (λ o. (o, self.new)) result (outcome_line self.old) }
+    {
+        let mut line = self.line(2, 2)?;
+        line.expect(b"outcome")?;
+        line.outcome()
+    }
+
+    #[tactic(auto, unfolding(crate::specs::Reading::spent_line))]
+    fn spent(&mut self, alloc: Global) -> Result<Seq<u64>, TextError>
+        ensures { Gives (λ ns. (ns, self.new)) result (spent_line self.old) }
+    {
+        let mut line = self.line(2, 17)?;
+        line.expect(b"spent")?;
+        line.turns(alloc)
+    }
+
+    #[tactic(auto, unfolding(crate::specs::Reading::end_line))]
+    fn end(&mut self) -> Result<(), TextError>
+        ensures { Gives (λ u. (u, self.new)) result (end_line self.old) }
+    {
+        let mut line = self.line(1, 1)?;
+        line.expect(b"end")
+    }
+
+    #[tactic(auto, unfolding(crate::specs::Reading::head))]
+    fn head(&mut self) -> Result<(), TextError>
+        ensures { Gives (λ u. (u, self.new)) result (head self.old) }
+    {
+        let line = self.first().ok_or(TextError::Head)?;
+        if line != b"dosolve report 1".as_slice() {
+            return Err(TextError::Head);
+        }
+        Ok(())
+    }
+
+    /// The weight, the turns, the gap asked and the resolution.
+    #[tactic(auto, unfolding(crate::specs::Reading::terms))]
+    fn terms(&mut self) -> Result<(u32, u64, i64, i64), TextError>
+        ensures { Gives (λ x. (x, self.new)) result (terms self.old) }
+    {
+        let weight = self.natural(b"weight", 8192, 1_048_576)?;
+        let turns = self.natural(b"turns", 0, 1_099_511_627_776)?;
+        let asked = self.integer(b"asked", 0, 8_000_000_000)?;
+        let resolution = self.integer(b"resolution", 0, 99_999_999_999)?;
+        Ok((weight as u32, turns, asked, resolution))
+    }
+
+    /// The outcome, the bounds and the turns spent.
+    #[tactic(auto, unfolding(crate::specs::Reading::findings))]
+    fn findings(&mut self, alloc: Global) -> Result<(Outcome, i64, i64, Seq<u64>), TextError>
+        ensures { Gives (λ x. (x, self.new)) result (findings self.old) }
+    {
+        let outcome = self.outcome()?;
+        let lower = self.integer(b"lower", -4_000_000_000, 4_000_000_000)?;
+        let upper = self.integer(b"upper", -4_000_000_000, 4_000_000_000)?;
+        let spent = self.spent(alloc)?;
+        Ok((outcome, lower, upper, spent))
+    }
+
+    /// The rows of both sheets, and the last line.
+    #[tactic(auto, unfolding(crate::specs::Reading::sheets))]
+    fn sheets(&mut self, alloc: Global) -> Result<(Seq<SheetRow>, Seq<SheetRow>), TextError>
+        ensures { Gives (λ x. (x, self.new)) result (sheets self.old) }
+    {
+        let one = self.sheet(alloc, b"one")?;
+        let two = self.sheet(alloc, b"two")?;
+        self.end()?;
+        Ok((one, two))
+    }
+
+    /// The lines behind the first.
+    #[tactic(auto, unfolding(crate::specs::Reading::report))]
+    fn report(&mut self, alloc: Global) -> Result<Report, TextError>
+        ensures { Gives (λ r. (r, self.new)) result (report self.old) }
+    {
+        let position = self.game(alloc)?;
+        let (weight, turns, asked, resolution) = self.terms()?;
+        let (outcome, lower, upper, spent) = self.findings(alloc)?;
+        let (one, two) = self.sheets(alloc)?;
+        Ok(Report {
+            position,
+            weight,
+            turns,
+            asked,
+            resolution,
+            outcome,
+            lower,
+            upper,
+            spent,
+            one: Sheet {
+                side: Side::One,
+                total: weight,
+                rows: one,
+            },
+            two: Sheet {
+                side: Side::Two,
+                total: weight,
+                rows: two,
+            },
+        })
+    }
+}
+
+/// The report that the text spells, or the first fault.
+#[tactic(auto, unfolding(crate::specs::Reading::read_report))]
+pub fn read(alloc: Global, text: &[u8]) -> Result<Report, TextError>
+    ensures exact { Gives (λ r. r) result (read_report text.now) }
+{
+    let mut lines = Lines::new(text);
+    lines.head()?;
+    let report = lines.report(alloc)?;
+    if !lines.is_over() {
+        return Err(TextError::Tail);
+    }
+    Ok(report)
+}

@@ -1,0 +1,303 @@
+-- Reading and writing the fields of a line undo each other.
+use Rattle.std.proofs.Common.{◌≡◌, ℕ, suc, ◌^◌, ◌<◌, ◌≤◌, ℤ, pos, neg_ℤ, unsigned_abs, List, [], ◌∷◌, length, map, drop, Bool, true, false, cond, codes, bytes_eq, Option, Some, None, Result, Ok, Err, decimal, All, refl, ap, ap₂, subst, ◌∙◌, arith}
+use Rattle.std.specs.Fmt.{signed_decimal}
+use Rattle.std.specs.List.{AllByRecursion}
+use Rattle.std.proofs.lemmas.Int.{ints}
+use Rattle.std.proofs.lemmas.List.{nil_from_length}
+use Rattle.std.proofs.lemmas.Slice.Eq.{bytes_eq-Decides}
+use Rattle.goofspiel.specs.declared.Pay.{Pay}
+use Rattle.plan_book.specs.declared.SheetRow.{SheetRow}
+use Rattle.certificate.specs.declared.error.TextError.{TextError}
+use Rattle.certificate.specs.declared.error.TextError.TheVariants.{Line, Number}
+use Rattle.certificate.specs.declared.report.PositionText.{PositionText}
+use Rattle.certificate.specs.declared.report.PositionText.TheVariants.{Goofspiel, OshiZumo, Tron}
+use Rattle.certificate.specs.Unread.{Unread}
+use Rattle.certificate.specs.Numbers.{natural_in, integer_in}
+use Rattle.certificate.specs.Texts.{position_fields, row_fields, list_text, pay_word}
+use Rattle.certificate.specs.Ranges.{Within, Between, IsByteList, IsPositionInRange}
+use Rattle.certificate.specs.Reading.{◌>>=◌, or_fault, Reads, ◌followed_by◌, ◌before◌, made_by, first_field, field, spelled, natural, integer, naturals_in, naturals, list, pay, expected, goofspiel, goofspiel_of, oshi_zumo, oshi_zumo_of, tron, tron_of, position, row_of}
+use Rattle.certificate.proofs.Spelling.{IsField, Spells, clean_word, natural_spells, integer_spells, list_spells, pay_spells, naturals_takes, naturals_again, numbers_clean}
+
+-- A reader of all fields of a line, of which there are not too many, and what writes them undo each other.
+pub record FieldLaw {A : Type 0} (most : ℕ) (read : Reads A) (fields : A → List (List ℕ)) (Fits : A → Type 0) : Type 0 where
+  pub takes : (u : Unread) (x : A × Unread) → read u ≡ Ok x → length u.parts ≤ most → (u.parts ≡ fields x.0) × Fits x.0
+  pub again : (n : ℕ) (a : A) → Fits a → (rest : Unread) × (read (record { parts = fields a; number = n }) ≡ Ok (a, rest))
+  pub clean : (a : A) → Fits a → AllByRecursion IsField (fields a)
+
+-- ---- steps that did not fail
+
+pub bind_ok : {A B : Type 0} (r : Result A TextError) (f : A → Result B TextError) (y : B) → (r >>= f) ≡ Ok y → (x : A) × (r ≡ Ok x) × (f x ≡ Ok y)
+bind_ok (Ok x) f y e = (x, refl, e)
+bind_ok (Err d) f y e = absurd cc
+
+pub or_ok : {A : Type 0} (o : Option A) (d : TextError) (y : A) → or_fault o d ≡ Ok y → o ≡ Some y
+or_ok None d y e = absurd cc
+or_ok (Some x) d y e = cc
+
+pub test_ok : {A : Type 0} (b : Bool) (x : Result A TextError) (d : TextError) (y : A) → cond b x (Err d) ≡ Ok y → (b ≡ true) × (x ≡ Ok y)
+test_ok true x d y e = (refl, e)
+test_ok false x d y e = absurd cc
+
+abbrev done : {A : Type 0} → A → Result A TextError
+done x = Ok x
+
+pub ok_is : {A : Type 0} (x y : A) → done x ≡ done y → x ≡ y
+ok_is x y e = cc
+
+-- ---- one field
+
+-- the first field spells the value, and the others are left
+record TakesFirst {A : Type 0} (value : List ℕ → Option A) (u : Unread) (x : A × Unread) : Type 0 where
+  first : List ℕ
+  here : u.parts ≡ first ∷ x.1.parts
+  is : value first ≡ Some x.0
+
+first_takes : (parts : List (List ℕ)) (n : ℕ) (x : List ℕ × Unread) → first_field parts n ≡ Ok x → parts ≡ x.0 ∷ x.1.parts
+first_takes [] n x e = absurd cc
+first_takes (f ∷ fs) n x e = ap (λ (x : List ℕ × Unread). x.0 ∷ x.1.parts) (ok_is (f, record { parts = fs; number = n }) x e)
+
+field_takes : (u : Unread) (x : List ℕ × Unread) → field u ≡ Ok x → u.parts ≡ x.0 ∷ x.1.parts
+unfolding field
+field_takes u x e = first_takes u.parts u.number x e
+
+spelled_takes : {A : Type 0} (fault : ℕ → TextError) (value : List ℕ → Option A) (u : Unread) (x : A × Unread) → spelled fault value u ≡ Ok x → TakesFirst value u x
+spelled_takes {A} fault value u x e =
+    let f = bind_ok (field u) _ x e in
+    let a = bind_ok (or_fault (value f.0.0) (fault u.number)) _ x f.2 in
+    subst (TakesFirst value u) (ok_is (a.0, f.0.1) x a.2) (record { first = f.0.0; here = field_takes u f.0 f.1; is = or_ok (value f.0.0) (fault u.number) a.0 a.1 })
+
+spelled_again : {A : Type 0} (fault : ℕ → TextError) (value : List ℕ → Option A) (f : List ℕ) (fs : List (List ℕ)) (n : ℕ) (a : A) → value f ≡ Some a → spelled fault value (record { parts = f ∷ fs; number = n }) ≡ Ok (a, record { parts = fs; number = n })
+unfolding field
+spelled_again fault value f fs n a e = rw e refl
+
+module _ {A : Type 0} {value : List ℕ → Option A} {text : A → List ℕ} {Fits : A → Type 0} (fault : ℕ → TextError) (spells : Spells value text Fits) where
+  -- the last field
+  pub last_law : FieldLaw 1 (spelled fault value) (λ a. text a ∷ []) Fits
+  last_law = record {
+    takes = λ u x e few.
+        let t = spelled_takes fault value u x e in
+        let v = spells.takes t.first x.0 t.is in
+        let none : x.1.parts ≡ [] = nil_from_length x.1.parts (omega (arith, ap length t.here)) in
+        (t.here ∙ ap₂ (λ f fs. f ∷ fs) v.0 none, v.1);
+    again = λ n a fits. (record { parts = []; number = n }, spelled_again fault value (text a) [] n a (spells.again a fits));
+    clean = λ a fits. (spells.clean a fits, tt);
+  }
+
+  -- a field before others
+  pub then_law : {B : Type 0} {most : ℕ} {q : Reads B} {fields : B → List (List ℕ)} {Others : B → Type 0} → FieldLaw most q fields Others
+      → FieldLaw (suc most) (spelled fault value followed_by q) (λ x. text x.0 ∷ fields x.1) (λ x. Fits x.0 × Others x.1)
+  then_law {q = q} {fields = fields} {Others = Others} law = record {
+    takes = λ u x e few.
+        let a = bind_ok (spelled fault value u) _ x e in
+        let b = bind_ok (q a.0.1) _ x a.2 in
+        let t = spelled_takes fault value u a.0 a.1 in
+        let v = spells.takes t.first a.0.0 t.is in
+        let w = law.takes a.0.1 b.0 b.1 (omega (arith, ap length t.here)) in
+        subst (λ x. (u.parts ≡ text x.0.0 ∷ fields x.0.1) × (Fits x.0.0 × Others x.0.1)) (ok_is ((a.0.0, b.0.0), b.0.1) x b.2)
+        (t.here ∙ ap₂ (λ f fs. f ∷ fs) v.0 w.0, (v.1, w.1));
+    again = λ n x fits.
+        let b = law.again n x.1 fits.1 in
+        (b.0, rw (spelled_again fault value (text x.0) (fields x.1) n x.0 (spells.again x.0 fits.0), b.1) refl);
+    clean = λ x fits. (spells.clean x.0 fits.0, law.clean x.1 fits.1);
+  }
+
+-- ---- words and numbers
+
+expected_takes : (word : List ℕ) (u : Unread) (x : Unit {0} × Unread) → expected word u ≡ Ok x → u.parts ≡ word ∷ x.1.parts
+unfolding expected
+expected_takes word u x e =
+    let f = bind_ok (field u) _ x e in
+    let t = test_ok (bytes_eq f.0.0 word) _ _ x f.2 in
+    subst (λ x. u.parts ≡ word ∷ x.1.parts) (ok_is (tt, f.0.1) x t.1) (field_takes u f.0 f.1 ∙ ap (λ w. w ∷ f.0.1.parts) ((bytes_eq-Decides f.0.0 word).0 t.0))
+
+expected_again : (word : List ℕ) (fs : List (List ℕ)) (n : ℕ) → expected word (record { parts = word ∷ fs; number = n }) ≡ Ok (tt, record { parts = fs; number = n })
+unfolding expected field
+expected_again word fs n = rw ((bytes_eq-Decides word word).1 refl) refl
+
+-- a word alone
+pub word_law : (word : List ℕ) → IsField word → FieldLaw 1 (expected word) (λ _. word ∷ []) (λ _. Unit {0})
+word_law word clean = record {
+  takes = λ u x e few.
+      let here = expected_takes word u x e in
+      let none : x.1.parts ≡ [] = nil_from_length x.1.parts (omega (arith, ap length here)) in
+      (here ∙ ap (λ fs. word ∷ fs) none, tt);
+  again = λ n a fits. (record { parts = []; number = n }, expected_again word [] n);
+  clean = λ a fits. (clean, tt);
+}
+
+-- a word before other fields
+pub before_law : {B : Type 0} {most : ℕ} {q : Reads B} {fields : B → List (List ℕ)} {Fits : B → Type 0} (word : List ℕ) → IsField word → FieldLaw most q fields Fits
+    → FieldLaw (suc most) (expected word before q) (λ b. word ∷ fields b) Fits
+before_law {q = q} {fields = fields} word clean law = record {
+  takes = λ u x e few.
+      let w = bind_ok (expected word u) _ x e in
+      let here = expected_takes word u w.0 w.1 in
+      let l = law.takes w.0.1 x w.2 (omega (arith, ap length here)) in
+      (here ∙ ap (λ fs. word ∷ fs) l.0, l.1);
+  again = λ n b fits. let l = law.again n b fits in (l.0, rw (expected_again word (fields b) n) l.1);
+  clean = λ b fits. (clean, law.clean b fits);
+}
+
+pub natural_law : (low high : ℕ) → high < 2 ^ 64 → FieldLaw 1 (natural low high) (λ n. decimal n ∷ []) (Within low high)
+unfolding natural
+natural_law low high wide = last_law Number (natural_spells low high wide)
+
+pub integer_law : (low high : ℤ) → ((z : ℤ) → Between low high z → unsigned_abs z < 2 ^ 63) → FieldLaw 1 (integer low high) (λ z. signed_decimal z ∷ []) (Between low high)
+unfolding integer
+integer_law low high small = last_law Number (integer_spells low high small)
+
+pub naturals_law : (most high : ℕ) → high < 2 ^ 64 → FieldLaw most (naturals 0 high) (map decimal) (All (λ n. n ≤ high))
+unfolding naturals
+naturals_law most high wide = record {
+  takes = λ u x e few.
+      let ns = bind_ok (or_fault (naturals_in 0 high u.parts) (Number u.number)) _ x e in
+      let s = naturals_takes high u.parts ns.0 wide (or_ok (naturals_in 0 high u.parts) (Number u.number) ns.0 ns.1) in
+      subst (λ (x : List ℕ × Unread). (u.parts ≡ map decimal x.0) × All (λ n. n ≤ high) x.0) (ok_is (ns.0, record { parts = []; number = u.number }) x ns.2) (s.text, s.fits);
+  again = λ n ns fits. (record { parts = []; number = n }, rw (naturals_again high ns wide fits) refl);
+  clean = λ ns fits. numbers_clean high ns wide fits;
+}
+
+-- ---- the position
+
+-- a reader of the fields behind the game's name
+record GameLaw (name : List ℕ) (read : Reads PositionText) : Type 0 where
+  takes : (u : Unread) (x : PositionText × Unread) → read u ≡ Ok x → length u.parts ≤ 5 → (name ∷ u.parts ≡ position_fields x.0) × IsPositionInRange x.0
+
+small_score : (z : ℤ) → Between (neg_ℤ (pos 1000000)) (pos 1000000) z → unsigned_abs z ≤ 1000000
+small_score z h = omega (arith, ints, h.0, h.1)
+
+score_between : (z : ℤ) → unsigned_abs z ≤ 1000000 → Between (neg_ℤ (pos 1000000)) (pos 1000000) z
+score_between z h = (omega (arith, ints), omega (arith, ints))
+
+byte_spells : Spells (natural_in 0 255) decimal (Within 0 255)
+byte_spells = natural_spells 0 255 (omega arith)
+
+-- the fields of each game as a row
+abbrev goofspiel_fields : List ℕ × (List ℕ × (List ℕ × (ℤ × Pay))) → List (List ℕ)
+goofspiel_fields x = list_text x.0 ∷ list_text x.1.0 ∷ list_text x.1.1.0 ∷ signed_decimal x.1.1.1.0 ∷ pay_word x.1.1.1.1 ∷ []
+
+goofspiel_row : FieldLaw 5 (list followed_by list followed_by list followed_by integer (neg_ℤ (pos 1000000)) (pos 1000000) followed_by pay) goofspiel_fields
+    (λ x. IsByteList x.0 × (IsByteList x.1.0 × (IsByteList x.1.1.0 × (Between (neg_ℤ (pos 1000000)) (pos 1000000) x.1.1.1.0 × Unit {0}))))
+unfolding list integer pay
+goofspiel_row =
+    then_law Number list_spells (then_law Number list_spells (then_law Number list_spells (
+    then_law Number (integer_spells (neg_ℤ (pos 1000000)) (pos 1000000) (λ z h. omega (arith, ints, h.0, h.1))) (last_law Line pay_spells))))
+
+oshi_zumo_row : FieldLaw 5 (natural 0 255 followed_by natural 0 255 followed_by natural 0 255 followed_by natural 0 255 followed_by integer (neg_ℤ (pos 128)) (pos 127))
+    (λ x. decimal x.0 ∷ decimal x.1.0 ∷ decimal x.1.1.0 ∷ decimal x.1.1.1.0 ∷ signed_decimal x.1.1.1.1 ∷ [])
+    (λ x. Within 0 255 x.0 × (Within 0 255 x.1.0 × (Within 0 255 x.1.1.0 × (Within 0 255 x.1.1.1.0 × Between (neg_ℤ (pos 128)) (pos 127) x.1.1.1.1))))
+unfolding natural integer
+oshi_zumo_row =
+    then_law Number byte_spells (then_law Number byte_spells (then_law Number byte_spells (then_law Number byte_spells (
+    last_law Number (integer_spells (neg_ℤ (pos 128)) (pos 127) (λ z h. omega (arith, ints, h.0, h.1)))))))
+
+tron_row : FieldLaw 5 (natural 0 255 followed_by natural 0 255 followed_by list followed_by natural 0 255 followed_by natural 0 255)
+    (λ x. decimal x.0 ∷ decimal x.1.0 ∷ list_text x.1.1.0 ∷ decimal x.1.1.1.0 ∷ decimal x.1.1.1.1 ∷ [])
+    (λ x. Within 0 255 x.0 × (Within 0 255 x.1.0 × (IsByteList x.1.1.0 × (Within 0 255 x.1.1.1.0 × Within 0 255 x.1.1.1.1))))
+unfolding natural list
+tron_row =
+    then_law Number byte_spells (then_law Number byte_spells (then_law Number list_spells (then_law Number byte_spells (last_law Number byte_spells))))
+
+made_takes : {A B : Type 0} (f : A → B) (r : Result (A × Unread) TextError) (y : B × Unread) → (r >>= λ x. Ok (f x.0, x.1)) ≡ Ok y → (x : A × Unread) × (r ≡ Ok x) × ((f x.0, x.1) ≡ y)
+made_takes f r y e = let x = bind_ok r _ y e in (x.0, x.1, ok_is (f x.0.0, x.0.1) y x.2)
+
+-- the fields behind the name of a game, and the position that they are read as
+record TakesGame (name : List ℕ) (u : Unread) (p : PositionText) : Type 0 where
+  fields : name ∷ u.parts ≡ position_fields p
+  fits : IsPositionInRange p
+
+goofspiel_takes : (u : Unread) (x : PositionText × Unread) → goofspiel u ≡ Ok x → length u.parts ≤ 5 → TakesGame (codes "goofspiel") u x.0
+unfolding goofspiel
+goofspiel_takes u x e few =
+    let word = bind_ok (pay (record { parts = drop 4 u.parts; number = u.number })) _ x e in
+    let m = made_takes goofspiel_of _ x word.2 in
+    let t = goofspiel_row.takes u m.0 m.1 few in
+    subst (λ (x : PositionText × Unread). TakesGame (codes "goofspiel") u x.0) m.2
+    (record { fields = ap (λ fs. codes "goofspiel" ∷ fs) t.0; fits = (t.1.0, t.1.1.0, t.1.1.1.0, small_score m.0.0.1.1.1.0 t.1.1.1.1.0) })
+
+oshi_zumo_takes : (u : Unread) (x : PositionText × Unread) → oshi_zumo u ≡ Ok x → length u.parts ≤ 5 → TakesGame (codes "oshi_zumo") u x.0
+unfolding oshi_zumo
+oshi_zumo_takes u x e few =
+    let m = made_takes oshi_zumo_of _ x e in
+    let t = oshi_zumo_row.takes u m.0 m.1 few in
+    subst (λ (x : PositionText × Unread). TakesGame (codes "oshi_zumo") u x.0) m.2
+    (record { fields = ap (λ fs. codes "oshi_zumo" ∷ fs) t.0; fits = (t.1.0.1, t.1.1.0.1, t.1.1.1.0.1, t.1.1.1.1.0.1, t.1.1.1.1.1) })
+
+tron_takes : (u : Unread) (x : PositionText × Unread) → tron u ≡ Ok x → length u.parts ≤ 5 → TakesGame (codes "tron") u x.0
+unfolding tron
+tron_takes u x e few =
+    let m = made_takes tron_of _ x e in
+    let t = tron_row.takes u m.0 m.1 few in
+    subst (λ (x : PositionText × Unread). TakesGame (codes "tron") u x.0) m.2
+    (record { fields = ap (λ fs. codes "tron" ∷ fs) t.0; fits = (t.1.0.1, t.1.1.0.1, t.1.1.1.0, t.1.1.1.1.0.1, t.1.1.1.1.1.1) })
+
+-- one of two readers, by the name
+by_name : (name word : List ℕ) (u v : Unread) (p q : Result (PositionText × Unread) TextError) (x : PositionText × Unread) → u.parts ≡ name ∷ v.parts → cond (bytes_eq name word) p q ≡ Ok x
+    → (p ≡ Ok x → TakesGame word v x.0) → (q ≡ Ok x → (u.parts ≡ position_fields x.0) × IsPositionInRange x.0) → (u.parts ≡ position_fields x.0) × IsPositionInRange x.0
+by_name name word u v p q x here e mine other =
+    elim (bytes_eq name word) as (λ t. bytes_eq name word ≡ t → cond t p q ≡ Ok x → (u.parts ≡ position_fields x.0) × IsPositionInRange x.0) [
+      | true ↦ λ is h. let g = mine h in (here ∙ ap (λ w. w ∷ v.parts) ((bytes_eq-Decides name word).0 is) ∙ g.fields, g.fits)
+      | false ↦ λ is h. other h
+    ] refl e
+
+position_takes : (u : Unread) (x : PositionText × Unread) → position u ≡ Ok x → length u.parts ≤ 6 → (u.parts ≡ position_fields x.0) × IsPositionInRange x.0
+unfolding position
+position_takes u x e few =
+    let f = bind_ok (field u) _ x e in
+    let here = field_takes u f.0 f.1 in
+    let less : length f.0.1.parts ≤ 5 = omega (arith, ap length here) in
+    by_name f.0.0 (codes "goofspiel") u f.0.1 _ _ x here f.2 (λ e. goofspiel_takes f.0.1 x e less) (λ e.
+    by_name f.0.0 (codes "oshi_zumo") u f.0.1 _ _ x here e (λ e. oshi_zumo_takes f.0.1 x e less) (λ e.
+    by_name f.0.0 (codes "tron") u f.0.1 _ _ x here e (λ e. tron_takes f.0.1 x e less) (λ e. absurd cc)))
+
+position_again : (n : ℕ) (p : PositionText) → IsPositionInRange p → (rest : Unread) × (position (record { parts = position_fields p; number = n }) ≡ Ok (p, rest))
+unfolding position field goofspiel pay oshi_zumo tron
+position_again n (Goofspiel one two prizes score pay) fits =
+    let a = goofspiel_row.again n (one, (two, (prizes, (score, pay)))) (fits.0, (fits.1, (fits.2, (score_between score fits.3, tt)))) in
+    (a.0, rw (pay_spells.again pay tt, a.1) refl)
+position_again n (OshiZumo size one two least place) fits =
+    let a = oshi_zumo_row.again n (size, (one, (two, (least, place)))) ((omega arith, fits.0), ((omega arith, fits.1), ((omega arith, fits.2), ((omega arith, fits.3), fits.4)))) in
+    (a.0, rw a.1 refl)
+position_again n (Tron height width walls one two) fits =
+    let a = tron_row.again n (height, (width, (walls, (one, two)))) ((omega arith, fits.0), ((omega arith, fits.1), (fits.2, ((omega arith, fits.3), (omega arith, fits.4))))) in
+    (a.0, rw a.1 refl)
+
+position_clean : (p : PositionText) → IsPositionInRange p → AllByRecursion IsField (position_fields p)
+position_clean (Goofspiel one two prizes score pay) fits = (clean_word (codes "goofspiel") refl, goofspiel_row.clean (one, (two, (prizes, (score, pay)))) (fits.0, (fits.1, (fits.2, (score_between score fits.3, tt)))))
+position_clean (OshiZumo size one two least place) fits = (clean_word (codes "oshi_zumo") refl, oshi_zumo_row.clean (size, (one, (two, (least, place)))) ((omega arith, fits.0), ((omega arith, fits.1), ((omega arith, fits.2), ((omega arith, fits.3), fits.4)))))
+position_clean (Tron height width walls one two) fits = (clean_word (codes "tron") refl, tron_row.clean (height, (width, (walls, (one, two)))) ((omega arith, fits.0), ((omega arith, fits.1), (fits.2, ((omega arith, fits.3), (omega arith, fits.4))))))
+
+pub position_law : FieldLaw 6 position position_fields IsPositionInRange
+position_law = record { takes = position_takes; again = position_again; clean = position_clean }
+
+-- ---- the rows
+
+pub small_bound : (z : ℤ) → Between (neg_ℤ (pos 4000000000)) (pos 4000000000) z → unsigned_abs z ≤ 4000000000
+small_bound z h = omega (arith, ints, h.0, h.1)
+
+pub bound_between : (z : ℤ) → unsigned_abs z ≤ 4000000000 → Between (neg_ℤ (pos 4000000000)) (pos 4000000000) z
+bound_between z h = (omega (arith, ints), omega (arith, ints))
+
+pub bound_spells : Spells (integer_in (neg_ℤ (pos 4000000000)) (pos 4000000000)) signed_decimal (Between (neg_ℤ (pos 4000000000)) (pos 4000000000))
+bound_spells = integer_spells (neg_ℤ (pos 4000000000)) (pos 4000000000) (λ z h. omega (arith, ints, h.0, h.1))
+
+-- a row in range, however many weights it has
+pub record RowFits (row : SheetRow) : Type 0 where
+  pub key : row.key ≤ 9223372036854775807
+  pub bound : unsigned_abs row.bound ≤ 4000000000
+  pub weights : All (λ w. w ≤ 1048576) row.weights
+
+pub row_law : FieldLaw 34 (made_by row_of (natural 0 9223372036854775807 followed_by integer (neg_ℤ (pos 4000000000)) (pos 4000000000) followed_by naturals 0 1048576)) row_fields RowFits
+unfolding natural integer
+row_law =
+    let law = then_law Number (natural_spells 0 9223372036854775807 (omega arith)) (then_law Number bound_spells (naturals_law 32 1048576 (omega arith))) in
+    record {
+      takes = λ u x e few.
+          let m = made_takes row_of _ x e in
+          let t = law.takes u m.0 m.1 few in
+          subst (λ (x : SheetRow × Unread). (u.parts ≡ row_fields x.0) × RowFits x.0) m.2 (t.0, record { key = t.1.0.1; bound = small_bound m.0.0.1.0 t.1.1.0; weights = t.1.1.1 });
+      again = λ n row fits.
+          let a = law.again n (row.key, (row.bound, row.weights)) ((omega arith, fits.key), (bound_between row.bound fits.bound, fits.weights)) in
+          (a.0, rw a.1 refl);
+      clean = λ row fits. law.clean (row.key, (row.bound, row.weights)) ((omega arith, fits.key), (bound_between row.bound fits.bound, fits.weights));
+    }

@@ -1,0 +1,266 @@
+-- Values, and how a field spells them.
+use Rattle.std.proofs.Common.{◌≡◌, ℕ, suc, ◌^◌, ◌<◌, ◌≤◌, ℤ, pos, negsuc, ◌≤ℤ◌, int_lt, unsigned_abs, List, [], ◌∷◌, length, map, Bool, true, false, not, cond, ◌||◌, ◌&&◌, ◌==◌, codes, bytes_eq, find, ltb, leb, Option, Some, None, option_map, decimal, All, refl, sym, ap, ap₂, subst, ◌∙◌, arith, le-ltb, ltb-false, leb-true, le-leb}
+use Rattle.std.specs.Fmt.{signed_decimal}
+use Rattle.std.specs.List.{list_all, slice_split, join_with_byte, AllByRecursion}
+use Rattle.std.proofs.lemmas.Int.{ints}
+use Rattle.std.proofs.lemmas.Bool.{and_parts}
+use Rattle.std.proofs.lemmas.Option.{option_and_then_some}
+use Rattle.std.proofs.lemmas.Fmt.{decimal_is_IsNumeral}
+use Rattle.std.proofs.lemmas.Str.Parse.{digit_at}
+use Rattle.std.proofs.lemmas.List.{length-map, length-append}
+use Rattle.std.proofs.lemmas.List.Elements.{All-nil, All-cons, All-head, All-tail, All-append, All-weaker, All-from_get_or}
+use Rattle.std.proofs.lemmas.List.Splits.{slice_split_at, slice_split_none, join_with_byte-slice_split}
+use Rattle.std.proofs.lemmas.Slice.Eq.{bytes_eq-Decides}
+use Rattle.goofspiel.specs.declared.Pay.{Pay}
+use Rattle.goofspiel.specs.declared.Pay.TheVariants.{Margin, Win}
+use Rattle.certificate.specs.declared.report.Outcome.{Outcome}
+use Rattle.certificate.specs.declared.report.Outcome.TheVariants.{Closed, Settled, Spent, Full}
+use Rattle.certificate.specs.Numbers.{natural_in, integer_in}
+use Rattle.certificate.specs.Texts.{list_text, pay_word, outcome_word}
+use Rattle.certificate.specs.Ranges.{Within, Between, IsByteList}
+use Rattle.certificate.specs.Reading.{naturals_in, has_parts, list_in, pay_of, outcome_of}
+use Rattle.certificate.proofs.NumberLemmas.{number_takes, number_again, signed_takes, signed_again}
+
+-- some bytes, none of them a space or a line feed
+abbrev pub IsField : List ℕ → Type 0
+IsField f = (0 < length f) × All (λ b. 33 ≤ b) f
+
+-- Reading and writing a value undo each other where it fits.
+pub record Spells {A : Type 0} (value : List ℕ → Option A) (text : A → List ℕ) (Fits : A → Type 0) : Type 0 where
+  pub takes : (s : List ℕ) (a : A) → value s ≡ Some a → (s ≡ text a) × Fits a
+  pub again : (a : A) → Fits a → value (text a) ≡ Some a
+  pub clean : (a : A) → Fits a → IsField (text a)
+
+-- ---- numbers
+
+neither : {A : Type 0} (a b : Bool) (x y : A) → cond (a || b) None (Some x) ≡ Some y → (x ≡ y) × (a ≡ false) × (b ≡ false)
+neither true b x y e = absurd cc
+neither false true x y e = absurd cc
+neither false false x y e = (cc, refl, refl)
+
+digits_from : (n : ℕ) → n < 2 ^ 64 → (0 < length (decimal n)) × All (λ b. 48 ≤ b) (decimal n)
+digits_from n small =
+    let d = (decimal_is_IsNumeral n small).0 in
+    (d.0, All-from_get_or (λ b. 48 ≤ b) (decimal n) 0 (λ i lt. (digit_at (decimal n) i d.1 lt).0))
+
+above_space : (bs : List ℕ) → All (λ b. 48 ≤ b) bs → All (λ b. 33 ≤ b) bs
+above_space bs high = All-weaker (λ b. 48 ≤ b) (λ b. 33 ≤ b) (λ b h. omega arith) bs high
+
+decimal_field : (n : ℕ) → n < 2 ^ 64 → IsField (decimal n)
+decimal_field n small = let d = digits_from n small in (d.0, above_space (decimal n) d.1)
+
+pub natural_spells : (low high : ℕ) → high < 2 ^ 64 → Spells (natural_in low high) decimal (Within low high)
+unfolding natural_in
+natural_spells low high wide = record {
+  takes = λ s n e. option_and_then_some _ _ n e (λ m is h.
+      let w = neither (ltb m low) (ltb high m) m n h in
+      ((number_takes s m is).0 ∙ ap decimal w.0, (rw (← w.0) (ltb-false _ _ w.1), rw (← w.0) (ltb-false _ _ w.2))));
+  again = λ n fits. rw (number_again n (omega (arith, fits.1)), le-ltb n low fits.0, le-ltb high n fits.1) refl;
+  clean = λ n fits. decimal_field n (omega (arith, fits.1));
+}
+
+at_least : (low z : ℤ) → int_lt z low ≡ false → low ≤ℤ z
+at_least low z h = grind (arith, ints)
+
+not_below : (low z : ℤ) → low ≤ℤ z → int_lt z low ≡ false
+not_below low z h = grind (arith, ints)
+
+signed_field : (z : ℤ) → unsigned_abs z < 2 ^ 63 → IsField (signed_decimal z)
+signed_field (pos n) small = decimal_field n (omega arith)
+signed_field (negsuc n) small = (omega arith, All-cons (λ b. 33 ≤ b) 45 (decimal (suc n)) (omega arith) (decimal_field (suc n) (omega arith)).1)
+
+pub integer_spells : (low high : ℤ) → ((z : ℤ) → Between low high z → unsigned_abs z < 2 ^ 63) → Spells (integer_in low high) signed_decimal (Between low high)
+unfolding integer_in
+integer_spells low high small = record {
+  takes = λ s z e. option_and_then_some _ _ z e (λ y is h.
+      let w = neither (int_lt y low) (int_lt high y) y z h in
+      ((signed_takes s y is).0 ∙ ap signed_decimal w.0, subst (Between low high) w.0 (at_least low y w.1, at_least y high w.2)));
+  again = λ z fits. rw (signed_again z (small z fits), not_below low z fits.0, not_below z high fits.1) refl;
+  clean = λ z fits. signed_field z (small z fits);
+}
+
+-- ---- words
+
+find_passes : {A : Type 0} (p : A → Bool) (xs : List A) (a : A) → find p xs ≡ Some a → p a ≡ true
+find_passes p [] a e = absurd cc
+find_passes p (x ∷ xs) a e =
+    elim (p x) as (λ t. p x ≡ t → cond t (Some x) (find p xs) ≡ Some a → p a ≡ true) [
+      | true ↦ λ is h. let same : x ≡ a = cc in subst (λ y. p y ≡ true) same is
+      | false ↦ λ is h. find_passes p xs a h
+    ] refl e
+
+pub clean_word : (w : List ℕ) → (not (length w == 0) && list_all (λ b. leb 33 b) w) ≡ true → IsField w
+clean_word w e = let parts = and_parts (not (length w == 0)) (list_all (λ b. leb 33 b) w) e in (some w parts.0, above w parts.1)
+  where
+    some : (w : List ℕ) → not (length w == 0) ≡ true → 0 < length w
+    some [] e = absurd cc
+    some (b ∷ bs) e = omega arith
+
+    above : (w : List ℕ) → list_all (λ b. leb 33 b) w ≡ true → All (λ b. 33 ≤ b) w
+    above [] e = All-nil (λ b. 33 ≤ b)
+    above (b ∷ bs) e = let parts = and_parts (leb 33 b) (list_all (λ b. leb 33 b) bs) e in All-cons (λ b. 33 ≤ b) b bs (leb-true _ _ parts.0) (above bs parts.1)
+
+pub pay_spells : Spells pay_of pay_word (λ _. Unit {0})
+unfolding pay_of
+pay_spells = record { takes = λ w p e. ((bytes_eq-Decides w (pay_word p)).0 (find_passes (λ p. bytes_eq w (pay_word p)) (Margin ∷ Win ∷ []) p e), tt); again = again; clean = clean }
+  where
+    again : (p : Pay) → Unit {0} → pay_of (pay_word p) ≡ Some p
+    again Margin u = refl
+    again Win u = refl
+
+    clean : (p : Pay) → Unit {0} → IsField (pay_word p)
+    clean Margin u = clean_word (codes "margin") refl
+    clean Win u = clean_word (codes "win") refl
+
+pub outcome_spells : Spells outcome_of outcome_word (λ _. Unit {0})
+unfolding outcome_of
+outcome_spells = record { takes = λ w o e. ((bytes_eq-Decides w (outcome_word o)).0 (find_passes (λ o. bytes_eq w (outcome_word o)) (Closed ∷ Settled ∷ Spent ∷ Full ∷ []) o e), tt); again = again; clean = clean }
+  where
+    again : (o : Outcome) → Unit {0} → outcome_of (outcome_word o) ≡ Some o
+    again Closed u = refl
+    again Settled u = refl
+    again Spent u = refl
+    again Full u = refl
+
+    clean : (o : Outcome) → Unit {0} → IsField (outcome_word o)
+    clean Closed u = clean_word (codes "closed") refl
+    clean Settled u = clean_word (codes "settled") refl
+    clean Spent u = clean_word (codes "spent") refl
+    clean Full u = clean_word (codes "full") refl
+
+-- ---- lists
+
+pub naturals_again : (high : ℕ) (ns : List ℕ) → high < 2 ^ 64 → All (λ n. n ≤ high) ns → naturals_in 0 high (map decimal ns) ≡ Some ns
+unfolding naturals_in
+naturals_again high [] wide fit = refl
+naturals_again high (n ∷ ns) wide fit =
+    rw ((natural_spells 0 high wide).again n (omega arith, All-head (λ n. n ≤ high) n ns fit), naturals_again high ns wide (All-tail (λ n. n ≤ high) n ns fit)) refl
+
+-- numbers that fields spell
+pub record Spelled (high : ℕ) (fs : List (List ℕ)) (ns : List ℕ) : Type 0 where
+  pub text : fs ≡ map decimal ns
+  pub fits : All (λ n. n ≤ high) ns
+
+pub naturals_takes : (high : ℕ) (fs : List (List ℕ)) (ns : List ℕ) → high < 2 ^ 64 → naturals_in 0 high fs ≡ Some ns → Spelled high fs ns
+unfolding naturals_in
+naturals_takes high [] ns wide e = let none : ◌≡◌ {A = List ℕ} [] ns = cc in subst (Spelled high []) none (record { text = refl; fits = All-nil (λ n. n ≤ high) })
+naturals_takes high (f ∷ fs) ns wide e =
+    option_and_then_some _ _ ns e (λ n is h.
+    let here = (natural_spells 0 high wide).takes f n is in
+    let more = option_map_some (λ ns. n ∷ ns) (naturals_in 0 high fs) ns h in
+    let others = naturals_takes high fs more.0 wide more.1 in
+    subst (Spelled high (f ∷ fs)) more.2 (record { text = ap₂ (λ f fs. f ∷ fs) here.0 others.text; fits = All-cons (λ n. n ≤ high) n more.0 here.1.1 others.fits }))
+  where
+    option_map_some : {A B : Type 0} (f : A → B) (o : Option A) (y : B) → option_map f o ≡ Some y → (x : A) × (o ≡ Some x) × (f x ≡ y)
+    option_map_some f None y e = absurd cc
+    option_map_some f (Some x) y e = (x, refl, cc)
+
+pub numbers_clean : (high : ℕ) (ns : List ℕ) → high < 2 ^ 64 → All (λ n. n ≤ high) ns → AllByRecursion IsField (map decimal ns)
+numbers_clean high [] wide fit = tt
+numbers_clean high (n ∷ ns) wide fit =
+    (decimal_field n (omega (arith, All-head (λ n. n ≤ high) n ns fit)), numbers_clean high ns wide (All-tail (λ n. n ≤ high) n ns fit))
+
+-- a list of pieces with a byte between each two
+
+pub All-join : (P : ℕ → Type 0) (c : ℕ) (parts : List (List ℕ)) → P c → AllByRecursion (All P) parts → All P (join_with_byte c parts)
+All-join P c [] at fit = All-nil P
+All-join P c (x ∷ []) at fit = fit.0
+All-join P c (x ∷ y ∷ more) at fit = All-append P x (c ∷ join_with_byte c (y ∷ more)) fit.0 (All-cons P c (join_with_byte c (y ∷ more)) at (All-join P c (y ∷ more) at fit.1))
+
+same_test : (c : ℕ) → (c == c) ≡ true
+same_test c = grind arith
+
+differs : (b c : ℕ) → c < b → (b == c) ≡ false
+differs b c h = grind arith
+
+pub without : (c low : ℕ) (x : List ℕ) → c < low → All (λ b. low ≤ b) x → All (λ b. (b == c) ≡ false) x
+without c low x lt fit = All-weaker (λ b. low ≤ b) (λ b. (b == c) ≡ false) (λ b h. differs b c (omega arith)) x fit
+
+-- the pieces are found again where each of their bytes is greater than the one between them
+pub split-join : (c low : ℕ) (x : List ℕ) (xs : List (List ℕ)) → c < low → AllByRecursion (All (λ b. low ≤ b)) (x ∷ xs) → slice_split (λ b. b == c) (join_with_byte c (x ∷ xs)) ≡ x ∷ xs
+split-join c low x [] lt fit = slice_split_none (λ b. b == c) x (without c low x lt fit.0)
+split-join c low x (y ∷ ys) lt fit =
+    slice_split_at (λ b. b == c) x c (join_with_byte c (y ∷ ys)) (without c low x lt fit.0) (same_test c) ∙ ap (λ (parts : List (List ℕ)). x ∷ parts) (split-join c low y ys lt fit.1)
+
+-- ---- lists of bytes
+
+pub has_parts-bounds : (least most : ℕ) (parts : List (List ℕ)) → has_parts least most parts ≡ true → Within least most (length parts)
+unfolding has_parts
+has_parts-bounds least most parts e =
+    let sizes = (and_parts _ _ e).1 in
+    let both = and_parts (leb least (length parts)) (leb (length parts) most) sizes in
+    (leb-true _ _ both.0, leb-true _ _ both.1)
+
+are_filled : (parts : List (List ℕ)) → AllByRecursion IsField parts → list_all (λ part. not (length part == 0)) parts ≡ true
+are_filled [] fit = refl
+are_filled (x ∷ xs) fit = let some : (length x == 0) ≡ false = differs (length x) 0 fit.0.0 in rw (some, are_filled xs fit.1) refl
+
+pub has_parts-true : (least most : ℕ) (parts : List (List ℕ)) → AllByRecursion IsField parts → Within least most (length parts) → has_parts least most parts ≡ true
+unfolding has_parts
+has_parts-true least most parts fit size = rw (are_filled parts fit, le-leb _ _ size.0, le-leb _ _ size.1) refl
+
+numerals : (ns : List ℕ) → All (λ n. n ≤ 255) ns → AllByRecursion (All (λ b. 48 ≤ b)) (map decimal ns)
+numerals [] fit = tt
+numerals (n ∷ ns) fit = ((digits_from n (omega (arith, All-head (λ n. n ≤ 255) n ns fit))).1, numerals ns (All-tail (λ n. n ≤ 255) n ns fit))
+
+-- no digit and no comma is a dash
+abbrev IsInList : ℕ → Type 0
+IsInList b = b ≡ 45 → ⊥
+
+no_dash : (text : List ℕ) → All IsInList text → bytes_eq text (codes "-") ≡ false
+no_dash text fit =
+    elim (bytes_eq text (codes "-")) as (λ t. bytes_eq text (codes "-") ≡ t → t ≡ false) [
+      | true ↦ λ is. absurd (All-head IsInList 45 [] (subst (All IsInList) ((bytes_eq-Decides text (codes "-")).0 is) fit) refl)
+      | false ↦ λ is. refl
+    ] refl
+
+numerals_as : (P : ℕ → Type 0) → ((b : ℕ) → 48 ≤ b → P b) → (parts : List (List ℕ)) → AllByRecursion (All (λ b. 48 ≤ b)) parts → AllByRecursion (All P) parts
+numerals_as P h [] fit = tt
+numerals_as P h (x ∷ xs) fit = (All-weaker (λ b. 48 ≤ b) P h x fit.0, numerals_as P h xs fit.1)
+
+some_joined : (c : ℕ) (x : List ℕ) (xs : List (List ℕ)) → 0 < length x → 0 < length (join_with_byte c (x ∷ xs))
+some_joined c x [] some = some
+some_joined c x (y ∷ ys) some = omega (arith, length-append x (c ∷ join_with_byte c (y ∷ ys)))
+
+join-list_text : (ns : List ℕ) → 0 < length ns → join_with_byte 44 (map decimal ns) ≡ list_text ns
+join-list_text [] some = absurd (omega arith)
+join-list_text (n ∷ ns) some = refl
+
+list_takes : (text ns : List ℕ) → list_in text ≡ Some ns → (text ≡ list_text ns) × IsByteList ns
+unfolding list_in
+list_takes text ns e =
+    let parts = slice_split (λ b. b == 44) text in
+    elim (bytes_eq text (codes "-")) as (λ t. bytes_eq text (codes "-") ≡ t → cond t (Some []) (cond (has_parts 1 255 parts) (naturals_in 0 255 parts) None) ≡ Some ns → (text ≡ list_text ns) × IsByteList ns) [
+      | true ↦ λ is h.
+          let none : ◌≡◌ {A = List ℕ} [] ns = cc in
+          subst (λ ns. (text ≡ list_text ns) × IsByteList ns) none ((bytes_eq-Decides text (codes "-")).0 is, record { few = omega arith; small = All-nil (λ n. n ≤ 255) })
+      | false ↦ λ is h.
+          elim (has_parts 1 255 parts) as (λ t. has_parts 1 255 parts ≡ t → cond t (naturals_in 0 255 parts) None ≡ Some ns → (text ≡ list_text ns) × IsByteList ns) [
+            | true ↦ λ form h.
+                let size = has_parts-bounds 1 255 parts form in
+                let numbers = naturals_takes 255 parts ns (omega arith) h in
+                let len : length parts ≡ length ns = ap length numbers.text ∙ length-map ns decimal in
+                (sym (join_with_byte-slice_split 44 text) ∙ ap (join_with_byte 44) numbers.text ∙ join-list_text ns (omega (arith, len, size.0)), record { few = omega (arith, len, size.1); small = numbers.fits })
+            | false ↦ λ form h. absurd cc
+          ] refl h
+    ] refl e
+
+list_again : (ns : List ℕ) → IsByteList ns → list_in (list_text ns) ≡ Some ns
+unfolding list_in
+list_again [] fit = refl
+list_again (n ∷ ns) fit =
+    let parts = numerals (n ∷ ns) fit.small in
+    let listed = All-join IsInList 44 (map decimal (n ∷ ns)) (omega arith) (numerals_as IsInList (λ b h e. omega arith) (map decimal (n ∷ ns)) parts) in
+    let split = split-join 44 48 (decimal n) (map decimal ns) (omega arith) parts in
+    let clean = numbers_clean 255 (n ∷ ns) (omega arith) fit.small in
+    let form = has_parts-true 1 255 (map decimal (n ∷ ns)) clean (omega arith, omega (arith, length-map ns decimal, fit.few)) in
+    rw (no_dash _ listed, split, form) (naturals_again 255 (n ∷ ns) (omega arith) fit.small)
+
+list_clean : (ns : List ℕ) → IsByteList ns → IsField (list_text ns)
+list_clean [] fit = clean_word (codes "-") refl
+list_clean (n ∷ ns) fit =
+    let parts = numerals (n ∷ ns) fit.small in
+    (some_joined 44 (decimal n) (map decimal ns) (digits_from n (omega (arith, All-head (λ n. n ≤ 255) n ns fit.small))).0, All-join (λ b. 33 ≤ b) 44 (map decimal (n ∷ ns)) (omega arith) (numerals_as (λ b. 33 ≤ b) (λ b h. omega arith) (map decimal (n ∷ ns)) parts))
+
+pub list_spells : Spells list_in list_text IsByteList
+list_spells = record { takes = list_takes; again = list_again; clean = list_clean }

@@ -1,0 +1,16 @@
+-- What a whole read takes from a source, and what a whole write leaves in a sink.
+use Rattle.std.specs.Prelude.{◌≡◌, ℕ, ◌<◌, ◌≤◌, List, length, take}
+use Rattle.std.specs.declared.option.Option.{Option}
+use Rattle.std.specs.Io.KnownBytes.{Consumes, Appends}
+
+-- n bytes were taken
+abbrev pub Takes : Option (List ℕ) → Option (List ℕ) → ℕ → Type 0
+Takes old new n = (bs : List ℕ) × Consumes old new bs × (length bs ≡ n)
+
+-- at most n bytes were taken
+abbrev pub TakesAtMost : Option (List ℕ) → Option (List ℕ) → ℕ → Type 0
+TakesAtMost old new n = (bs : List ℕ) × Consumes old new bs × length bs ≤ n
+
+-- a front of the bytes was appended, and not all of them
+abbrev pub AppendsFront : Option (List ℕ) → Option (List ℕ) → List ℕ → Type 0
+AppendsFront old new bytes = (n : ℕ) × n < length bytes × Appends old new (take n bytes)

@@ -1,0 +1,70 @@
+//! A source over bytes in memory whose chosen calls fail.
+
+ghost use Rattle.std.specs.Prelude.{◌≡◌, ◌<◌, ◌≤◌, ◌↔◌, min, length, Some, Contains, IsErr, IfOk};
+ghost use Rattle.std.specs.Io.KnownBytes.{ReadConsumes};
+ghost use Rattle.position.specs.Causes.{HasCause};
+
+use crate::pieces::{copy_from, is_listed};
+use crate::{Failed, Source};
+use std::marker::Model;
+
+/// A source over bytes in memory. The calls whose numbers, from 0, stand in a list fail.
+#[derive(Drop)]
+pub struct MemorySource {
+    bytes: Vec<u8>,
+    at: usize,
+    failing: Vec<u32>,
+    calls: u64,
+    faults: u64,
+}
+
+impl Model for MemorySource {
+    ghost use Rattle.position.specs.Memory.{Feed};
+    ghost use Rattle.std.specs.Prelude.{drop, ◌≤◌, length};
+
+    ghost Value = { Feed };
+
+    ghost view = { λ s. record { left = drop s.at s.bytes.items; failing = s.failing.items; calls = s.calls; faults = s.faults } };
+
+    ghost invariant = { λ s. s.at ≤ length s.bytes.items };
+}
+
+impl MemorySource {
+    pub fn new(bytes: Vec<u8>, fail: Vec<u32>) -> MemorySource
+        ensures { result ≡ record { left = bytes.items; failing = fail.items; calls = 0; faults = 0 } }
+    {
+        MemorySource {
+            bytes,
+            at: 0,
+            failing: fail,
+            calls: 0,
+            faults: 0,
+        }
+    }
+}
+
+impl Source for MemorySource {
+    ghost left = { λ s. Some s.left };
+
+    ghost faults = { λ s. s.faults };
+
+    fn read(&mut self, into: &mut [u8]) -> Result<usize, Failed>
+        requires { 0 < length into.old }
+        ensures bound { IfOk result (λ n. n ≤ length into.new) }
+        ensures bytes { ReadConsumes (Some self.old.left) (Some self.new.left) result into.new }
+        ensures cause { HasCause self.old.faults self.new.faults result }
+        // The calls in the list fail, and others give as much as the piece has room for.
+        ensures fails { IsErr result ↔ Contains self.old.failing self.old.calls }
+        ensures fills { IfOk result (λ n. n ≡ min (length into.old) (length self.old.left)) }
+    {
+        let number = self.calls;
+        self.calls = self.calls.saturating_add(1);
+        if is_listed(&self.failing, number) {
+            self.faults = self.faults.saturating_add(1);
+            return Err(Failed);
+        }
+        let n = copy_from(&self.bytes, self.at, into);
+        self.at += n;
+        Ok(n)
+    }
+}

@@ -1,0 +1,101 @@
+//! A source of bytes.
+
+ghost use Rattle.std.specs.Prelude.{◌≡◌, ◌≢◌, ◌<◌, ◌≤◌, ◌+◌, ℕ, List, length, IfOk};
+ghost use Rattle.std.specs.declared.option.Option.{Option};
+ghost use Rattle.std.specs.Io.KnownBytes.{ReadConsumes, Consumes, IsAtEnd};
+ghost use Rattle.position.specs.Causes.{Rose, HasCause};
+ghost use Rattle.position.specs.Taken.{Takes, TakesAtMost};
+ghost use Rattle.position.specs.declared.source.ReadError.TheVariants.{NoMemory};
+
+use std::alloc::{AllocError, AllocFailed, Global};
+use thiserror::Error;
+
+/// A call of a device failed.
+#[derive(Clone, Copy, Debug, PartialEq, Eq)]
+pub struct Failed;
+
+pub trait Source {
+    /// The bytes still to come, where the source tells them.
+    ghost left: { Self → Option (List ℕ) };
+
+    /// How often a call failed. It stands still at its last value.
+    ghost faults: { Self → ℕ };
+
+    /// Moves the next bytes into the front of the piece, and says how many. None is the end.
+    fn read(&mut self, into: &mut [u8]) -> Result<usize, Failed>
+        requires { 0 < length into.old }
+        ensures bound { IfOk result (λ n. n ≤ length into.new) }
+        ensures bytes { ReadConsumes (left self.old) (left self.new) result into.new }
+        ensures cause { HasCause (faults self.old) (faults self.new) result };
+}
+
+/// Why a source was not read to its end.
+#[derive(Clone, Copy, Debug, PartialEq, Eq, Error)]
+pub enum ReadError {
+    /// One byte more than the limit was taken.
+    #[error("the input is too long")]
+    TooLong,
+    /// The source failed.
+    #[error("the source failed")]
+    Failed,
+    #[error("out of memory")]
+    NoMemory,
+}
+
+impl From<Failed> for ReadError {
+    ghost use Rattle.std.specs.Prelude.{◌≡◌};
+    ghost use Rattle.position.specs.declared.source.ReadError.TheVariants as errors;
+
+    ghost from_gives = { λ _ e. e ≡ errors.Failed };
+
+    fn from(_: Failed) -> Self {
+        ReadError::Failed
+    }
+}
+
+impl From<AllocError> for ReadError {
+    ghost from_gives = { λ _ e. e ≡ NoMemory };
+
+    fn from(_: AllocError) -> Self {
+        ReadError::NoMemory
+    }
+}
+
+impl<T: Drop> From<AllocFailed<T>> for ReadError {
+    ghost from_gives = { λ _ e. e ≡ NoMemory };
+
+    fn from(_: AllocFailed<T>) -> Self {
+        ReadError::NoMemory
+    }
+}
+
+const PIECE: usize = 4096;
+
+/// All bytes of a source up to its end, if there are at most `limit`.
+pub fn read_all<S: Source>(alloc: Global, source: &mut S, limit: u64) -> Result<Vec<u8>, ReadError>
+    ensures ok { IfOk result (λ v. Consumes (S.left source.old) (S.left source.new) v.items
+        × IsAtEnd (S.left source.new)) }
+    ensures within { IfOk result (λ v. length v.items ≤ limit) }
+    // Too long is one byte more than the limit, and with any other answer no more than the limit is taken.
+    ensures too_long { result ≡ Err ReadError.TooLong
+        → Takes (S.left source.old) (S.left source.new) (limit + 1) }
+    ensures others { result ≢ Err ReadError.TooLong
+        → TakesAtMost (S.left source.old) (S.left source.new) limit }
+    ensures failed { result ≡ Err ReadError.Failed → Rose (S.faults source.old) (S.faults source.new) }
+    ensures later { S.faults source.old ≤ S.faults source.new }
+{
+    let mut bytes = Vec::new(alloc);
+    let mut piece = [0u8; PIECE];
+    'pieces: loop {
+        let room = limit - bytes.len() as u64;
+        let size = room.min(PIECE as u64 - 1) as usize + 1;
+        let n = source.read(&mut piece[..size])?;
+        if n == 0 {
+            return Ok(bytes);
+        }
+        if n as u64 > room {
+            return Err(ReadError::TooLong);
+        }
+        bytes.extend_from_slice(&piece[..n])?;
+    }
+}

@@ -1,3 +1,7 @@
+pub mod ReportLaws
+pub mod TextLaws
+pub mod FieldLaws
+pub mod Spelling
 pub mod TextLemmas
 pub mod RowLemmas
 pub mod ListLemmas

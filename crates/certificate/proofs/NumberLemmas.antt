@@ -160,6 +160,7 @@ signed-plain s other = more s (number_in s) refl other
     written : (s : List ℕ) (z : ℤ) → unsigned_abs z < 2 ^ 63 → s ≡ signed_decimal z → (get_or s 0 0 ≡ 45 → ⊥) → (n : ℕ) × (number_in s ≡ Some n) × n < 2 ^ 63
     written s (pos n) small e other = (n, rw e (number_again n (omega arith)), small)
     written s (negsuc n) small e other = absurd (other (ap (λ (t : List ℕ). get_or t 0 0) e))
+
     more : (s : List ℕ) (o : Option ℕ) → number_in s ≡ o → (get_or s 0 0 ≡ 45 → ⊥) → option_and_then (λ n. cond (ltb (2 ^ 63 - 1) n) None (Some (pos n))) o ≡ signed_in s
     more s None is other = sym (signed_none s (λ z small e. let w = written s z small e other in absurd (let k = w.1 in cc)))
     more s (Some n) is other =

@@ -1,5 +1,5 @@
 -- The report that a text spells, or its first fault.
-use Rattle.std.specs.Prelude.{◌≡◌, ℕ, zero, suc, ◌+◌, ℤ, pos, neg_ℤ, Bool, true, false, ◌&&◌, ◌==◌, not, List, [], ◌∷◌, length, drop, codes, nat_lt, nat_le, bytes_eq, if◌then◌else◌, Option, Some, None, option_map, option_and_then, Result, Ok, Err}
+use Rattle.std.specs.Prelude.{◌≡◌, ℕ, zero, suc, ◌+◌, ℤ, pos, neg_ℤ, Bool, true, false, ◌&&◌, ◌==◌, not, List, [], ◌∷◌, length, drop, codes, nat_lt, nat_le, bytes_eq, find, if◌then◌else◌, Option, Some, None, option_map, option_and_then, Result, Ok, Err}
 use Rattle.std.specs.List.{slice_split, list_all}
 use Rattle.sim_game.specs.declared.Side.TheVariants as sides
 use Rattle.goofspiel.specs.declared.Pay.{Pay}
@@ -10,10 +10,11 @@ use Rattle.certificate.specs.declared.error.TextError.TheVariants as errors
 use Rattle.certificate.specs.declared.report.PositionText.{PositionText}
 use Rattle.certificate.specs.declared.report.PositionText.TheVariants as texts
 use Rattle.certificate.specs.declared.report.Outcome.{Outcome}
-use Rattle.certificate.specs.declared.report.Outcome.TheVariants as outcomes
+use Rattle.certificate.specs.declared.report.Outcome.TheVariants.{Closed, Settled, Spent, Full}
 use Rattle.certificate.specs.declared.report.Report.{Report}
 use Rattle.certificate.specs.Unread.{Unread}
 use Rattle.certificate.specs.Numbers.{natural_in, integer_in}
+use Rattle.certificate.specs.Texts.{pay_word, outcome_word}
 
 infixl 10 ◌>>=◌
 abbrev pub ◌>>=◌ : {A B : Type 0} → Result A TextError → (A → Result B TextError) → Result B TextError
@@ -94,18 +95,16 @@ list_in text =
 unfoldable pub list : Reads (List ℕ)
 list = spelled errors.Number list_in
 
+-- the pay whose word it is
 unfoldable pub pay_of : List ℕ → Option Pay
-pay_of word = if bytes_eq word (codes "margin") then Some Margin else (if bytes_eq word (codes "win") then Some Win else None)
+pay_of word = find (λ p. bytes_eq word (pay_word p)) (Margin ∷ Win ∷ [])
 
 unfoldable pub pay : Reads Pay
 pay = spelled errors.Line pay_of
 
+-- the outcome whose word it is
 unfoldable pub outcome_of : List ℕ → Option Outcome
-outcome_of word =
-    if bytes_eq word (codes "closed") then Some outcomes.Closed else
-    (if bytes_eq word (codes "settled") then Some outcomes.Settled else
-    (if bytes_eq word (codes "spent") then Some outcomes.Spent else
-    (if bytes_eq word (codes "full") then Some outcomes.Full else None)))
+outcome_of word = find (λ o. bytes_eq word (outcome_word o)) (Closed ∷ Settled ∷ Spent ∷ Full ∷ [])
 
 unfoldable pub outcome : Reads Outcome
 outcome = spelled errors.Line outcome_of
@@ -262,9 +261,17 @@ sheets = made_by (λ x. (x.0, x.1.0)) (sheet (codes "one") followed_by sheet (co
 
 abbrev pub report_of : PositionText × ((ℕ × ℕ × ℤ × ℤ) × ((Outcome × ℤ × ℤ × List ℕ) × (List SheetRow × List SheetRow))) → Report
 report_of (position, (asked, (found, rows))) = record {
-  position = position; weight = asked.0; turns = asked.1; asked = asked.2; resolution = asked.3; outcome = found.0; lower = found.1; upper = found.2; spent = found.3;
+  position = position;
+  weight = asked.0;
+  turns = asked.1;
+  asked = asked.2;
+  resolution = asked.3;
+  outcome = found.0;
+  lower = found.1;
+  upper = found.2;
+  spent = found.3;
   one = record { side = sides.One; total = asked.0; rows = rows.0 };
-  two = record { side = sides.Two; total = asked.0; rows = rows.1 }
+  two = record { side = sides.Two; total = asked.0; rows = rows.1 };
 }
 
 -- the lines behind the first

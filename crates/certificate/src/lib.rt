@@ -3,7 +3,6 @@
 
 mod error;
 mod lines;
-
 mod lists;
 mod numbers;
 mod parts;
@@ -15,6 +14,9 @@ mod writing;
 
 pub use error::TextError;
 pub use goofspiel::Pay;
-pub use reading::read;
+pub use reading::{read, reading_undoes_writing};
 pub use report::{Ask, Outcome, PositionText, Report};
 pub use writing::write;
+
+#[cfg(test)]
+mod tests;

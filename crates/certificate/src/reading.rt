@@ -1,6 +1,9 @@
 //! The report that a text spells.
 
-ghost use Rattle.std.specs.Prelude.{◌≡◌};
+ghost use Rattle.std.specs.Prelude.{◌≡◌, ℕ, List, Ok, IfOk};
+ghost use Rattle.certificate.specs.declared.report.Report.{Report};
+ghost use Rattle.certificate.specs.Ranges.{IsInRange};
+ghost use Rattle.certificate.specs.Texts.{report_text};
 ghost use Rattle.certificate.specs.Reading.{Gives, outcome_of, outcome, outcome_line, spent_line, end_line, head, terms, findings, sheets, report, read_report};
 
 use crate::lines::{Line, Lines};
@@ -137,10 +140,14 @@ impl Lines<'_> {
     }
 }
 
-/// The report that the text spells, or the first fault.
+/// The report that the text spells, or its first fault. Lines are tried in order, each for its end, its form, its
+/// numbers and its place.
 #[tactic(auto, unfolding(crate::specs::Reading::read_report))]
 pub fn read(alloc: Global, text: &[u8]) -> Result<Report, TextError>
     ensures exact { Gives (λ r. r) result (read_report text.now) }
+    // What is read is a report in range, and the text is the one that it has.
+    ensures in_range { IfOk result IsInRange }
+    ensures text { IfOk result (λ r. text.now ≡ report_text r) }
 {
     let mut lines = Lines::new(text);
     lines.head()?;
@@ -150,3 +157,10 @@ pub fn read(alloc: Global, text: &[u8]) -> Result<Report, TextError>
     }
     Ok(report)
 }
+
+/// Reading and writing undo each other.
+pub fn reading_undoes_writing()
+    ensures again { (r : Report) → IsInRange r → read_report (report_text r) ≡ Ok r }
+    ensures only { (bytes : List ℕ) (r : Report) → read_report bytes ≡ Ok r
+        → (bytes ≡ report_text r) × IsInRange r }
+{}

@@ -1,6 +1,8 @@
 //! The text of a report.
 
-ghost use Rattle.std.specs.Prelude.{◌≡◌, [], ◌∷◌, ◌++◌, map, flat_map, OnOk, IfOk, codes, decimal};
+ghost use Rattle.std.specs.Prelude.{◌≡◌, [], ◌∷◌, ◌++◌, map, flat_map, Ok, OnOk, IfOk, codes, decimal};
+ghost use Rattle.certificate.specs.Ranges.{IsInRange};
+ghost use Rattle.certificate.specs.Reading.{read_report};
 ghost use Rattle.certificate.specs.Texts.{Adds, line_text, text_of, pay_word, outcome_word, list_text, position_fields, row_fields, sheet_lines, report_lines, report_text};
 
 use crate::{Outcome, Pay, PositionText, Report};
@@ -243,9 +245,11 @@ impl Text {
     }
 }
 
-/// The one text of the report.
+/// The one text of the report, from which it is read again.
 pub fn write(alloc: Global, r: &Report) -> Result<Vec<u8>, NoMemory>
+    requires { IsInRange r.now }
     ensures text { IfOk result (λ v. v.items ≡ report_text r.now) }
+    ensures again { IfOk result (λ v. read_report v.items ≡ Ok r.now) }
 {
     let mut text = Text {
         bytes: Vec::new(alloc),

@@ -15,8 +15,8 @@ returns c =
     let one_added = rw c.as_slice-2.ensures at c.in_ok-sheet.ensures in
     let two_added = rw c.as_slice-3.ensures at c.in_ok-sheet-2.ensures in
     on_ok_weaker c.word-2.result (λ added.
-      then c.in_ok-word.ensures (then c.in_ok-position.ensures (
-      then c.in_ok-named.ensures (then c.in_ok-named-2.ensures (then c.in_ok-named-3.ensures (then c.in_ok-named-4.ensures (
-      then c.in_ok-outcome.ensures (then c.in_ok-named-5.ensures (then c.in_ok-named-6.ensures (then spent (
-      as_text (sym (flat_map-append line_text (sheet_lines (codes "one") r.one.rows) (two ++ last))) (then one_added (
-      as_text (sym (flat_map-append line_text two last)) (then two_added added)))))))))))))) c.word-2.ensures
+    then c.in_ok-word.ensures (then c.in_ok-position.ensures (
+    then c.in_ok-named.ensures (then c.in_ok-named-2.ensures (then c.in_ok-named-3.ensures (then c.in_ok-named-4.ensures (
+    then c.in_ok-outcome.ensures (then c.in_ok-named-5.ensures (then c.in_ok-named-6.ensures (then spent (
+    as_text (sym (flat_map-append line_text (sheet_lines (codes "one") r.one.rows) (two ++ last))) (then one_added (
+    as_text (sym (flat_map-append line_text two last)) (then two_added added)))))))))))))) c.word-2.ensures

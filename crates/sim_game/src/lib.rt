@@ -1,7 +1,7 @@
 //! Finite two-player zero-sum games in which both players move at once.
 #![tactic(auto)]
 
-ghost use Rattle.std.specs.Prelude.{◌≡◌, ℕ, ◌<◌, ◌≤◌, pos};
+ghost use Rattle.std.specs.Prelude.{◌≡◌, ℕ, ◌<◌, ◌≤◌, pos, ◌≤ℤ◌};
 ghost use Rattle.sim_game.specs.Model.{GameModel, IsGame, IsEnd, Reachable};
 ghost use Rattle.sim_game.specs.Resolution.{IsLeastGap, IsResolution};
 
@@ -131,7 +131,8 @@ pub trait Game: Copy {
 pub fn resolution<G: Game>(g: G, weight: u32) -> i64
     requires low { 8192 ≤ weight }
     requires high { weight ≤ 1048576 }
-    ensures { (n : ℕ) × (result ≡ pos n) × IsResolution (G.model g) weight n }
+    ensures is { (n : ℕ) × (result ≡ pos n) × IsResolution (G.model g) weight n }
+    ensures most { result ≤ℤ pos 99999999999 }
 {
     let gap = least_gap(g.width(), (g.high() - g.low()).unsigned_abs(), weight);
     let rounding: u64 = if g.chance_free() { 1 } else { 2 };

@@ -1,13 +1,13 @@
 -- Mixtures, read by index, and as a loop writes them.
-use Rattle.std.proofs.Common.{◌≡◌, ℕ, zero, suc, ◌+◌, ◌-◌, ◌*◌, ◌/◌, ◌<◌, ◌≤◌, ◌≢◌, max, sym, refl, ap, ◌∙◌, arith, List, [], ◌∷◌, sum, sum_by, length, get_or, map, take, replicate, cond, inl, inr}
+use Rattle.std.proofs.Common.{◌≡◌, ℕ, zero, suc, ◌+◌, ◌-◌, ◌*◌, ◌/◌, ◌<◌, ◌≤◌, max, sym, refl, ap, ◌∙◌, arith, List, [], ◌∷◌, sum, length, get_or, replicate, cond, inl, inr}
 use Rattle.std.proofs.Math.ListN.{set}
 use Rattle.std.proofs.lemmas.Grind.{same_number_lists}
 use Rattle.std.proofs.lemmas.List.{get_or-map, length-map, get_or-replicate, length-replicate, get_or-set_other, get_or-set_same, length-set}
-use Rattle.std.proofs.lemmas.Bool.{cases_eq, cases_lt, eq-eqb, ne_eqb}
+use Rattle.std.proofs.lemmas.Bool.{cases_eq, eq-eqb, ne_eqb}
 use Rattle.std.proofs.Math.Nat.{div-zero, zero-div}
 use Rattle.std.proofs.lemmas.List.Sums.{get_or-le-sum_by}
 use Rattle.sums.specs.Sums.{count_below}
-use Rattle.sums.proofs.CountLemmas.{count_same, count_constant, count_first, count_more}
+use Rattle.sums.proofs.CountLemmas.{count_same, count_first}
 use Rattle.matrix_game.proofs.Lists.{sum-count, sum-zeros, count_longer}
 use Rattle.matrix_game.proofs.Potential.{AddsToFirst, share_of, shares-le, weight_by_shares}
 use Rattle.matrix_game.specs.Rounds.{shares, add_to_first, mixture_of}

@@ -12,11 +12,11 @@ use Rattle.sums.specs.Sums.{count_below}
 use Rattle.matrix_game.proofs.FirstLemmas.{first_least-below, first_greatest-below}
 use Rattle.matrix_game.proofs.Lists.{sum-count}
 use Rattle.matrix_game.proofs.Mixtures.{length-mixture_of}
-use Rattle.matrix_game.proofs.Law.{weight_before, length-regrets_before, weight-reply_counts, length-reply_counts, get_or-all_on, weight-all_on}
+use Rattle.matrix_game.proofs.Law.{weight_before, length-regrets_before, weight-reply_counts, length-reply_counts, get_or-all_on, weight-all_on, stage_law, resolution_law}
 use Rattle.matrix_game.proofs.Loop.{floor_before, best_mixture_is}
 use Rattle.sums.specs.Sums.{sum_below}
 use Rattle.matrix_game.specs.Grid.{Grid, IsShaped, IsMatrix, IsSaddle, IsFirstSaddle, cell_at, column_sum, row_sum, best_reply, row_floor, col_ceiling, first_greatest}
-use Rattle.matrix_game.specs.Rounds.{regrets_before, rounds, all_on, IsStage, pure, mixed, IsWeighted}
+use Rattle.matrix_game.specs.Rounds.{regrets_before, rounds, all_on, IsStage, pure, mixed, IsWeighted, IsSolved}
 
 pub all_on_written : (n i w : ℕ) (xs : List ℕ) → i < n → xs ≡ replicate n 0 → set xs i w ≡ all_on n i w
 all_on_written n i w xs h e =
@@ -68,7 +68,7 @@ all_on-weighted n i w h =
     let l = length-map-range_with_len (λ k. cond (nat_eq k i) w 0) 0 n in
     record { each = l; all = sum-count (all_on n i w) ∙ ap (λ k. count_below k (λ a. get_or (all_on n i w) a 0)) l ∙ weight-all_on n i w h }
 
-pub stage-rows : (m : Grid) (w : ℕ) (p v : List ℕ) → IsShaped m → 0 < w → IsStage m w p v → IsWeighted m.rows w p
+stage-rows : (m : Grid) (w : ℕ) (p v : List ℕ) → IsShaped m → 0 < w → IsStage m w p v → IsWeighted m.rows w p
 stage-rows m w p v s h (pure a b f ep ev) = rw ep (all_on-weighted m.rows a w f.saddle.row_in)
 stage-rows m w p v s h (mixed n ep ev) =
     let t = first_greatest w (floor_before m w) in
@@ -76,7 +76,7 @@ stage-rows m w p v s h (mixed n ep ev) =
     let l : length p ≡ m.rows = ap length is ∙ length-mixture_of w (regrets_before m w t) ∙ length-regrets_before m w t in
     record { each = l; all = sum-count p ∙ ap (λ k. count_below k (λ a. get_or p a 0)) l ∙ ap (λ ys. count_below m.rows (λ a. get_or ys a 0)) is ∙ weight_before m w t s }
 
-pub stage-cols : (m : Grid) (w : ℕ) (p v : List ℕ) → IsShaped m → IsStage m w p v → IsWeighted m.cols w v
+stage-cols : (m : Grid) (w : ℕ) (p v : List ℕ) → IsShaped m → IsStage m w p v → IsWeighted m.cols w v
 stage-cols m w p v s (pure a b f ep ev) = rw ev (all_on-weighted m.cols b w f.saddle.col_in)
 stage-cols m w p v s (mixed n ep ev) =
     let rs = rounds m w in
@@ -98,16 +98,30 @@ weights_sum n w p h = ap (λ k. count_below k (λ a. get_or p a 0)) (sym h.each)
 cell-small : (m : Grid) (a b : ℕ) → IsMatrix m → a < m.rows → b < m.cols → unsigned_abs (cell_at m a b) ≤ 4000000000
 cell-small m a b i h k = i.small_cells (a * m.cols + b) (omega (arith, mul-add-lt a m.cols b m.rows h k, i.shaped.all_cells))
 
-pub row_floor-small : (m : Grid) (w : ℕ) (p : List ℕ) → IsMatrix m → IsWeighted m.rows w p → unsigned_abs (row_floor m p) ≤ 4000000000 * w
+row_floor-small : (m : Grid) (w : ℕ) (p : List ℕ) → IsMatrix m → IsWeighted m.rows w p → unsigned_abs (row_floor m p) ≤ 4000000000 * w
 row_floor-small m w p i h =
     let b = best_reply m p in
     let b_in : b < m.cols = first_least-below m.cols (column_sum m p) (omega (arith, i.shaped.some_col)) in
     let s = weighted_sum-small m.rows 4000000000 (λ a. get_or p a 0) (λ a. cell_at m a b) (λ a l. cell-small m a b i l b_in) in
     omega (arith, s, ap (λ t. 4000000000 * t) (weights_sum m.rows w p h))
 
-pub col_ceiling-small : (m : Grid) (w : ℕ) (v : List ℕ) → IsMatrix m → IsWeighted m.cols w v → unsigned_abs (col_ceiling m v) ≤ 4000000000 * w
+col_ceiling-small : (m : Grid) (w : ℕ) (v : List ℕ) → IsMatrix m → IsWeighted m.cols w v → unsigned_abs (col_ceiling m v) ≤ 4000000000 * w
 col_ceiling-small m w v i h =
     let a = first_greatest m.rows (row_sum m v) in
     let a_in : a < m.rows = first_greatest-below m.rows (row_sum m v) (omega (arith, i.shaped.some_row)) in
     let s = weighted_sum-small m.cols 4000000000 (λ b. get_or v b 0) (λ b. cell_at m a b) (λ b l. cell-small m a b i a_in l) in
     omega (arith, s, ap (λ t. 4000000000 * t) (weights_sum m.cols w v h))
+
+pub stage-solved : (m : Grid) (w : ℕ) (p v : List ℕ) → IsMatrix m → 0 < w → IsStage m w p v → IsSolved m w p v
+stage-solved m w p v i h stage =
+    let rows = stage-rows m w p v i.shaped h stage in
+    let cols = stage-cols m w p v i.shaped stage in
+    record {
+      stage = stage;
+      rows = rows;
+      cols = cols;
+      gap = stage_law m w p v i.shaped stage;
+      resolution = resolution_law m w p v i.shaped stage;
+      small_low = row_floor-small m w p i rows;
+      small_high = col_ceiling-small m w v i cols;
+    }

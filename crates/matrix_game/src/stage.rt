@@ -2,7 +2,7 @@
 
 ghost use Rattle.std.specs.Prelude.{◌≡◌, ◌↔◌, IfOk, OnOk, OnErr, ◌*◌, ◌<◌, ◌≤◌, unsigned_abs};
 ghost use Rattle.matrix_game.specs.Grid.{row_floor, col_ceiling};
-ghost use Rattle.matrix_game.specs.Rounds.{all_on, IsStage, IsWeighted, HasSmallGap, HasResolution};
+ghost use Rattle.matrix_game.specs.Rounds.{all_on, IsStage, IsWeighted, IsSolved, HasSmallGap, HasResolution};
 ghost use Rattle.matrix_game.specs.Budget.{left_of, after_turn};
 
 use crate::budget::Turns;
@@ -37,15 +37,7 @@ impl Matrix {
     fn weights(&self, alloc: Global, weight: u32) -> Result<Solution, AllocError>
         requires some { 1 ≤ weight }
         requires light { weight ≤ 1048576 }
-        ensures stage { IfOk result (λ r. IsStage self.now weight r.p.items r.v.items) }
-        ensures p { IfOk result (λ r. IsWeighted self.now.rows weight r.p.items) }
-        ensures v { IfOk result (λ r. IsWeighted self.now.cols weight r.v.items) }
-        ensures gap { IfOk result
-            (λ r. HasSmallGap self.now weight (row_floor self.now r.p.items) (col_ceiling self.now r.v.items)) }
-        ensures resolution { IfOk result
-            (λ r. HasResolution self.now weight (row_floor self.now r.p.items) (col_ceiling self.now r.v.items)) }
-        ensures small_low { IfOk result (λ r. unsigned_abs (row_floor self.now r.p.items) ≤ 4000000000 * weight) }
-        ensures small_high { IfOk result (λ r. unsigned_abs (col_ceiling self.now r.v.items) ≤ 4000000000 * weight) }
+        ensures { IfOk result (λ r. IsSolved self.now weight r.p.items r.v.items) }
     {
         let rows = self.rows;
         let cols = self.cols;

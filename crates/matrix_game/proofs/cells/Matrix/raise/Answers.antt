@@ -1,4 +1,4 @@
-use Rattle.std.proofs.Common.{◌≡◌, arith, map, pos, ◌+ℤ◌, ap, ◌∙◌, ℕ, List}
+use Rattle.std.proofs.Common.{◌≡◌, arith, map, pos, ◌+ℤ◌, ap, ℕ, List}
 use Rattle.std.proofs.lemmas.List.{length-map, map-set}
 use Rattle.matrix_game.specs.Grid.{Grid}
 use Rattle.matrix_game.specs.Rounds.{positive_part, regret_of, raised_regret}

@@ -7,6 +7,7 @@ use Rattle.plan_book.specs.declared.Sheet.{Sheet}
 use Rattle.plan_book.specs.declared.SheetRow.{SheetRow}
 use Rattle.certificate.specs.declared.report.PositionText.{PositionText}
 use Rattle.certificate.specs.declared.report.PositionText.TheVariants.{Goofspiel, OshiZumo, Tron}
+use Rattle.certificate.specs.declared.report.Ask.{Ask}
 use Rattle.certificate.specs.declared.report.Report.{Report}
 
 abbrev pub Within : ℕ → ℕ → ℕ → Type 0
@@ -51,3 +52,11 @@ pub record IsInRange (r : Report) : Type 0 where
   pub spent : All (λ n. n ≤ 1099511627776) r.spent
   pub one : IsSheetInRange One r.weight r.one
   pub two : IsSheetInRange Two r.weight r.two
+
+pub record IsAskInRange (ask : Ask) : Type 0 where
+  pub gap : Between (pos 0) (pos 8000000000) ask.gap
+  pub weight : Within 8192 1048576 ask.weight
+  pub turns : ask.turns ≤ 1099511627776
+  pub visits : ask.visits ≤ 1099511627776
+  pub rows : Within 1 1048576 ask.rows
+  pub workers : Within 1 16 ask.workers

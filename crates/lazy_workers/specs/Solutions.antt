@@ -1,0 +1,53 @@
+-- What a report says of a game.
+use Rattle.std.specs.Prelude.{◌≡◌, ℕ, ◌≤◌, ℤ, pos, ◌≤ℤ◌, int_le, Bool, cond, length, All}
+use Rattle.sim_game.specs.declared.Side.TheVariants.{One, Two}
+use Rattle.sim_game.specs.Model.{GameModel}
+use Rattle.sim_game.specs.Resolution.{IsResolution}
+use Rattle.plan_book.specs.Expected.{Guarantees}
+use Rattle.plan_book.specs.Sheets.{IsLawful, plan_of, root_bound}
+use Rattle.plan_book.specs.Serial.{serial_bound}
+use Rattle.certificate.specs.declared.report.Ask.{Ask}
+use Rattle.certificate.specs.declared.report.Outcome.{Outcome}
+use Rattle.certificate.specs.declared.report.Outcome.TheVariants.{Closed, Settled, Spent, Full}
+use Rattle.certificate.specs.declared.report.PositionText.{PositionText}
+use Rattle.certificate.specs.declared.report.Report.{Report}
+use Rattle.certificate.specs.Outcomes.{IsAllowed}
+use Rattle.certificate.specs.Ranges.{IsInRange}
+use Rattle.lazy_workers.specs.Searched.{HasRoom, HasVisits, IsPureClose, TooFewTurns}
+
+-- what ended the search
+abbrev pub outcome_for : ℤ → ℤ → ℤ → Bool → Outcome
+outcome_for gap asked resolution was_full = cond (int_le gap asked) Closed (cond (int_le gap resolution) Settled (cond was_full Full Spent))
+
+-- the report tells what was asked
+pub record IsOfAsk (text : PositionText) (ask : Ask) (r : Report) : Type 0 where
+  pub position : r.position ≡ text
+  pub weight : r.weight ≡ ask.weight
+  pub turns : r.turns ≡ ask.turns
+  pub asked : r.asked ≡ ask.gap
+  pub workers : length r.spent ≡ ask.workers
+
+pub record IsSolution {S : Type 0} (m : GameModel S) (text : PositionText) (ask : Ask) (r : Report) : Type 0 where
+  pub of_ask : IsOfAsk text ask r
+  pub in_range : IsInRange r
+  pub resolution : (n : ℕ) × (r.resolution ≡ pos n) × IsResolution m ask.weight n
+  pub outcome : IsAllowed r
+
+  -- the plans, and what they guarantee
+  pub one_lawful : IsLawful m r.one
+  pub two_lawful : IsLawful m r.two
+  pub lower : r.lower ≡ root_bound m r.one
+  pub upper : r.upper ≡ root_bound m r.two
+  pub lower_guaranteed : Guarantees m One (plan_of r.one) r.lower
+  pub upper_guaranteed : Guarantees m Two (plan_of r.two) r.upper
+  pub one_few : length r.one.rows ≤ ask.rows
+  pub two_few : length r.two.rows ≤ ask.rows
+
+  -- what an outcome short of the resolution is owed to
+  pub full : r.outcome ≡ Full → HasRoom m ask → ⊥
+  pub spent : r.outcome ≡ Spent → TooFewTurns m ask
+
+  -- with a row for each state and a visit for each node of the tree
+  pub pure_lower : HasRoom m ask → HasVisits m ask → serial_bound m One m.root ≤ℤ r.lower
+  pub pure_upper : HasRoom m ask → HasVisits m ask → r.upper ≤ℤ serial_bound m Two m.root
+  pub at_once : HasRoom m ask → HasVisits m ask → IsPureClose m ask → (r.outcome ≡ Closed) × All (λ n. n ≡ 0) r.spent

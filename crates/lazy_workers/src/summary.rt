@@ -1,0 +1,70 @@
+//! The report of what was found.
+
+ghost use Rattle.std.specs.Prelude.{◌≡◌, true, false, cond, int_le, IfOk};
+ghost use Rattle.certificate.specs.declared.report.Outcome.TheVariants as outcomes;
+ghost use Rattle.certificate.specs.Ranges.{IsAskInRange, IsPositionInRange};
+ghost use Rattle.lazy_workers.specs.Searched.{IsSearched};
+ghost use Rattle.lazy_workers.specs.Solutions.{IsSolution, outcome_for};
+
+use certificate::{Ask, Outcome, PositionText, Report};
+use plan_book::{Book, bound_of};
+use seq::Seq;
+use sim_game::{Game, NoMemory, Side, resolution};
+
+/// What all workers together have found.
+#[derive(Drop)]
+pub(crate) struct Found {
+    pub book: Book,
+    /// The turns that each worker has spent.
+    pub spent: Seq<u64>,
+    /// Whether the search of some worker ended at a full board.
+    pub was_full: bool,
+}
+
+/// The report on the best entries of the book.
+pub(crate) fn summary<G: Game>(
+    g: G,
+    position: PositionText,
+    ask: &Ask,
+    found: Found,
+) -> Result<Report, NoMemory>
+    requires ask { IsAskInRange ask.now }
+    requires position { IsPositionInRange position }
+    requires total { found.book.total ≡ ask.now.weight }
+    requires searched { IsSearched (G.model g) ask.now found.book.entries found.spent found.was_full }
+    ensures { IfOk result (IsSolution (G.model g) position ask.now) }
+{
+    let one = found.book.sheet(g, Side::One)?;
+    let two = found.book.sheet(g, Side::Two)?;
+    let lower = bound_of(g, &one, g.root());
+    let upper = bound_of(g, &two, g.root());
+    let resolution = resolution(g, ask.weight);
+    let outcome = outcome_for(upper - lower, ask.gap, resolution, found.was_full);
+    Ok(Report {
+        position,
+        weight: ask.weight,
+        turns: ask.turns,
+        asked: ask.gap,
+        resolution,
+        outcome,
+        lower,
+        upper,
+        spent: found.spent,
+        one,
+        two,
+    })
+}
+
+fn outcome_for(gap: i64, asked: i64, resolution: i64, was_full: bool) -> Outcome
+    ensures { result ≡ outcome_for gap asked resolution was_full }
+{
+    if gap <= asked {
+        Outcome::Closed
+    } else if gap <= resolution {
+        Outcome::Settled
+    } else if was_full {
+        Outcome::Full
+    } else {
+        Outcome::Spent
+    }
+}

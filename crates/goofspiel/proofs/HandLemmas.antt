@@ -15,9 +15,9 @@ use Rattle.std.specs.Int.Bits.{bit_and, bit_or}
 use Rattle.std.specs.Int.Count.{ones, ones_step}
 use Rattle.std.specs.List.{All, list_any, position_or_len}
 use Rattle.goofspiel.specs.Cards.{members, cards, rising}
-use Rattle.goofspiel.specs.CardLaws.{filter_agrees, members_count, members_lowest}
+use Rattle.goofspiel.specs.CardLaws.{few_cards, filter_agrees, members_count, members_lowest}
 use Rattle.goofspiel.specs.declared.Setting.{Setting}
-use Rattle.goofspiel.specs.Position.{is_outside, repeat_after, prizes_of, IsPosition}
+use Rattle.goofspiel.specs.Position.{is_outside, repeat_after, prizes_of, IsHandOf, IsPosition}
 
 -- ---- numbers within a range
 pub none_fails : (p : ℕ → Bool) (xs : List ℕ) (i : ℕ) → position p xs ≡ None → i < length xs → p (get_or xs i 0) ≡ false
@@ -124,24 +124,19 @@ gathered_more hand i packed l low high clear g =
       repeat = g.repeat ∙ repeat_step hand i l ∙ ap (λ (b : Bool). cond b (Some card) (repeat_after (take (i + 1) hand) (drop (i + 1) hand))) before;
     }
 
--- all cards of the hand differ, and are packed
-pub record IsHandOf (hand : List ℕ) (packed : ℕ) : Type 0 where
-  pub small : packed < 2 ^ 13
-  pub is : cards packed ≡ rising hand
-  pub count : length (cards packed) ≡ length hand
-  pub none : repeat_after [] hand ≡ None
-
 pub gathered_all : (hand : List ℕ) (packed : ℕ) → IsGathered hand (length hand) packed → IsHandOf hand packed
 unfolding members rising
 gathered_all hand packed g =
     let all = take_all (length hand) hand (omega arith) in
+    let count : length (cards packed) ≡ length hand = members_count 13 1 packed g.small ∙ g.size in
     let nothing = drop_all (length hand) hand (omega arith) in
     record {
       small = g.small;
       is = filter_agrees (λ card. eqb (bit_at packed (card - 1)) 1) (λ card. list_any (λ other. eqb other card) hand) 13 1
           (λ card l u. g.digits card l (omega arith) ∙ ap (list_any (λ other. eqb other card)) all);
-      count = members_count 13 1 packed g.small ∙ g.size;
-      none = g.repeat ∙ ap (repeat_after (take (length hand) hand)) nothing;
+      count = count;
+      few = omega (arith, count, few_cards packed g.small);
+      no_repeat = g.repeat ∙ ap (repeat_after (take (length hand) hand)) nothing;
     }
 
 -- ---- the position of the lists

@@ -57,6 +57,14 @@ first_fault one two prizes score = first_some (
 abbrev pub prizes_of : Setting → List ℕ
 prizes_of g = take g.count g.prizes
 
+-- the packed hand of a list of cards, each of which stands once in it
+pub record IsHandOf (list : List ℕ) (hand : ℕ) : Type 0 where
+  pub small : hand < 2 ^ 13
+  pub is : cards hand ≡ rising list
+  pub count : length (cards hand) ≡ length list
+  pub few : length list ≤ 13
+  pub no_repeat : repeat_after [] list ≡ None
+
 -- the setting holds these cards and prizes
 pub record IsSettingOf (one two prizes : List ℕ) (score : ℤ) (pay : Pay) (g : Setting) : Type 0 where
   pub one_small : g.one < 2 ^ 13

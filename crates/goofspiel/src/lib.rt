@@ -87,7 +87,8 @@ impl Goofspiel {
         requires two { length two.now < 2 ^ 31 }
         requires prizes { length prizes.now < 2 ^ 31 }
         ensures { MatchResult result
-            (λ game. (first_fault one.now two.now prizes.now score ≡ None) × IsSettingOf one.now two.now prizes.now score pay game.setting)
+            (λ game. (first_fault one.now two.now prizes.now score ≡ None)
+            × IsSettingOf one.now two.now prizes.now score pay game.setting)
             (λ fault. first_fault one.now two.now prizes.now score ≡ Some fault) }
     {
         check_cards(Side::One, one)?;

@@ -1,7 +1,6 @@
 //! The rules that the lists of a position keep, tried one by one.
-ghost use Rattle.std.specs.Prelude.{◌≡◌, ℕ, ◌<◌, ◌≤◌, ◌^◌, ◌-◌, [], ◌++◌, IfSome, length, replicate, sum, unsigned_abs, MatchResult, position};
-ghost use Rattle.goofspiel.specs.Cards.{cards, rising};
-ghost use Rattle.goofspiel.specs.Position.{is_outside, card_range, repeat_after, card_twice, lengths, prize_range, score_range};
+ghost use Rattle.std.specs.Prelude.{◌≡◌, ℕ, ◌<◌, ◌≤◌, ◌^◌, ◌-◌, ◌++◌, IfSome, length, replicate, sum, unsigned_abs, MatchResult, position};
+ghost use Rattle.goofspiel.specs.Position.{is_outside, card_range, card_twice, lengths, prize_range, score_range, IsHandOf};
 
 use crate::GoofspielError;
 use sim_game::Side;
@@ -19,7 +18,9 @@ fn first_outside(numbers: &[u8], low: u8, high: u8) -> Option<usize>
 /// Refuses a card that is not 1 to 13.
 pub(crate) fn check_cards(side: Side, hand: &[u8]) -> Result<(), GoofspielError>
     requires { length hand.now < 2 ^ 31 }
-    ensures { MatchResult result (λ _. position (is_outside 1 13) hand.now ≡ None) (λ fault. card_range side hand.now ≡ Some fault) }
+    ensures { MatchResult result
+        (λ _. position (is_outside 1 13) hand.now ≡ None)
+        (λ fault. card_range side hand.now ≡ Some fault) }
 {
     match first_outside(hand, 1, 13) {
         Some(place) => Err(GoofspielError::CardRange {
@@ -33,9 +34,7 @@ pub(crate) fn check_cards(side: Side, hand: &[u8]) -> Result<(), GoofspielError>
 /// The packed hand of a list of cards. Refuses a card that stood before.
 pub(crate) fn hand_of(side: Side, hand: &[u8]) -> Result<u16, GoofspielError>
     requires { position (is_outside 1 13) hand.now ≡ None }
-    ensures { MatchResult result
-        (λ packed. (repeat_after [] hand.now ≡ None) × (packed < 2 ^ 13) × (cards packed ≡ rising hand.now) × (length (cards packed) ≡ length hand.now))
-        (λ fault. card_twice side hand.now ≡ Some fault) }
+    ensures { MatchResult result (IsHandOf hand.now) (λ fault. card_twice side hand.now ≡ Some fault) }
 {
     let mut packed: u16 = 0;
     for card in hand {
@@ -70,7 +69,9 @@ pub(crate) fn check_lengths(one: &[u8], two: &[u8], prizes: &[u8]) -> Result<(),
 /// Refuses a prize that is not 1 to 100.
 pub(crate) fn check_prizes(prizes: &[u8]) -> Result<(), GoofspielError>
     requires { length prizes.now < 2 ^ 31 }
-    ensures { MatchResult result (λ _. position (is_outside 1 100) prizes.now ≡ None) (λ fault. prize_range prizes.now ≡ Some fault) }
+    ensures { MatchResult result
+        (λ _. position (is_outside 1 100) prizes.now ≡ None)
+        (λ fault. prize_range prizes.now ≡ Some fault) }
 {
     match first_outside(prizes, 1, 100) {
         Some(place) => Err(GoofspielError::PrizeRange {

@@ -4,7 +4,7 @@ use Rattle.std.specs.Int.{int_signum}
 use Rattle.std.specs.List.{range_with_len}
 use Rattle.sim_game.specs.declared.Side.{Side}
 use Rattle.sim_game.specs.declared.Side.TheVariants.{One, Two}
-use Rattle.sim_game.specs.Model.{GameModel, Turn, IsTurn, IsEnd, Reachable, after_turn, whole_chance}
+use Rattle.sim_game.specs.Model.{GameModel, Turn, IsEnd, Reachable, after_turn, whole_chance}
 use Rattle.oshi_zumo.specs.declared.Setting.{Setting}
 use Rattle.oshi_zumo.specs.declared.State.{State}
 
@@ -75,11 +75,11 @@ pub record KeepsRules (g : Setting) : Type 0 where
   pub moves : (side : Side) (s : State) → (oshi_zumo_game g).moves side s ≡ length (bids g side s)
   pub label : (side : Side) (s : State) (i : ℕ) → (oshi_zumo_game g).label side s i ≡ slice_index (bids g side s) i
   -- a bid can be paid
-  pub paid : (side : Side) (s : State) (i : ℕ) → Reachable (oshi_zumo_game g) s → i < length (bids g side s) → slice_index (bids g side s) i ≤ coins_of side s
-  pub follows : (s : State) (t : Turn) → Reachable (oshi_zumo_game g) s → IsTurn (oshi_zumo_game g) s t
+  pub paid : (side : Side) (s : State) (i : ℕ) → i < length (bids g side s) → slice_index (bids g side s) i ≤ coins_of side s
+  pub follows : (s : State) (t : Turn)
       → after_turn (oshi_zumo_game g) s t ≡ after_bids s (slice_index (bids g One s) t.one) (slice_index (bids g Two s) t.two)
   -- an end is where the wrestler is off, or where neither side has the least bid
-  pub ends : (s : State) → Reachable (oshi_zumo_game g) s → IsEnd (oshi_zumo_game g) s ↔ ((g.size < unsigned_abs s.place) ⊎ ((s.one < g.least) × (s.two < g.least)))
+  pub ends : (s : State) → IsEnd (oshi_zumo_game g) s ↔ ((g.size < unsigned_abs s.place) ⊎ ((s.one < g.least) × (s.two < g.least)))
   pub payoff : (s : State) → (oshi_zumo_game g).payoff s ≡ int_signum s.place
   pub rank : (s : State) → (oshi_zumo_game g).rank s ≡ rank_of g s
   pub low : (oshi_zumo_game g).low ≡ neg_ℤ (pos 1)

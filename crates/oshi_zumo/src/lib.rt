@@ -55,7 +55,9 @@ impl OshiZumo {
     /// side has at most 31 coins; the least bid is 1 to 31; the place is -size to size.
     pub fn new(size: u8, one: u8, two: u8, least: u8, place: i8) -> Result<OshiZumo, OshiError>
         ensures { let g : Setting = record { size = size; one = one; two = two; least = least; place = place } in
-            MatchResult result (λ game. (first_fault g ≡ None) × (game.setting ≡ g)) (λ fault. first_fault g ≡ Some fault) }
+            MatchResult result
+            (λ game. (first_fault g ≡ None) × (game.setting ≡ g))
+            (λ fault. first_fault g ≡ Some fault) }
     {
         if size > 8 {
             return Err(OshiError::SizeRange);

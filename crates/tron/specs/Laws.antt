@@ -20,7 +20,7 @@ use Rattle.tron.specs.declared.State.{State}
 use Rattle.tron.specs.Cells.{with_cell}
 use Rattle.tron.specs.CellLaws.{set_other, set_below, ones_with, free_and_taken, digits_sum, bit_clear, same_set}
 use Rattle.tron.specs.Position.{IsGrid, IsPosition, IsSettingOf}
-use Rattle.tron.specs.Rules.{Arena, head_of, goes_on, neighbour, is_open, open_directions, is_shut, is_over, ways, entered, free_cells, rank_of, key_of, arena_of, tron_game}
+use Rattle.tron.specs.Rules.{Arena, head_of, goes_on, neighbour, is_open, open_directions, directions_of, is_shut, is_over, ways, entered, free_cells, rank_of, key_of, arena_of, tron_game}
 
 -- ---- the grid
 pub few_cells : (height width : ℕ) → IsGrid height width → height * width ≤ 36
@@ -66,12 +66,12 @@ ways_few false xs top h = h
 -- where the game goes on
 record GoesOn (r : Arena) : Type 0 where
   apart : r.one ≢ r.two
-  some : (side : Side) → 1 ≤ length (open_directions r (head_of side r))
+  some : (side : Side) → 1 ≤ length (directions_of r side)
 
 positive : (n : ℕ) → eqb n 0 ≡ false → 1 ≤ n
 positive n h = let differ = eqb-false n 0 h in omega arith
 
-both_sides : (r : Arena) → is_shut r One ≡ false → is_shut r Two ≡ false → (side : Side) → 1 ≤ length (open_directions r (head_of side r))
+both_sides : (r : Arena) → is_shut r One ≡ false → is_shut r Two ≡ false → (side : Side) → 1 ≤ length (directions_of r side)
 both_sides r one two One = positive (length (open_directions r r.one)) one
 both_sides r one two Two = positive (length (open_directions r r.two)) two
 
@@ -124,16 +124,16 @@ two_more taken one two differ free_one free_two =
     omega (arith, ones_with taken one free_one, ones_with (with_cell taken one) two still)
 
 turn_open : (g : Setting) (side : Side) (s : State) (i : ℕ) → i < length (ways (arena_of g s) side) → is_over (arena_of g s) ≡ false
-turn_open g side s i h = ways_open (is_over (arena_of g s)) (open_directions (arena_of g s) (head_of side (arena_of g s))) i h
+turn_open g side s i h = ways_open (is_over (arena_of g s)) (directions_of (arena_of g s) side) i h
 
-open_ways : (g : Setting) (side : Side) (s : State) → is_over (arena_of g s) ≡ false → ways (arena_of g s) side ≡ open_directions (arena_of g s) (head_of side (arena_of g s))
-open_ways g side s h = ap (λ (b : Bool). cond b [] (open_directions (arena_of g s) (head_of side (arena_of g s)))) h
+open_ways : (g : Setting) (side : Side) (s : State) → is_over (arena_of g s) ≡ false → ways (arena_of g s) side ≡ directions_of (arena_of g s) side
+open_ways g side s h = ap (λ (b : Bool). cond b [] (directions_of (arena_of g s) side)) h
 
-pub open_place : (g : Setting) (side : Side) (s : State) (i : ℕ) → i < length (ways (arena_of g s) side) → i < length (open_directions (arena_of g s) (head_of side (arena_of g s)))
+pub open_place : (g : Setting) (side : Side) (s : State) (i : ℕ) → i < length (ways (arena_of g s) side) → i < length (directions_of (arena_of g s) side)
 open_place g side s i h = rw (open_ways g side s (turn_open g side s i h)) at h
 
 pub way_is : (g : Setting) (side : Side) (s : State) (i : ℕ) → i < length (ways (arena_of g s) side)
-    → get_or (ways (arena_of g s) side) i North ≡ get_or (open_directions (arena_of g s) (head_of side (arena_of g s))) i North
+    → get_or (ways (arena_of g s) side) i North ≡ get_or (directions_of (arena_of g s) side) i North
 way_is g side s i h = ap (λ (xs : List Direction). get_or xs i North) (open_ways g side s (turn_open g side s i h))
 
 module _ (g : Setting) (p : IsPosition g) where
@@ -156,8 +156,8 @@ module _ (g : Setting) (p : IsPosition g) where
   pub free_is : (s : State) → IsSound g s → free_cells (arena_of g s) + ones s.taken ≡ cells
   free_is s here = free_and_taken cells s.taken here.taken_on_grid
 
-  direction_entered : (side : Side) (s : State) (i : ℕ) → IsSound g s → i < length (open_directions (arena_of g s) (head_of side (arena_of g s)))
-      → IsEntered g s (neighbour g.width (head_of side (arena_of g s)) (get_or (open_directions (arena_of g s) (head_of side (arena_of g s))) i North))
+  direction_entered : (side : Side) (s : State) (i : ℕ) → IsSound g s → i < length (directions_of (arena_of g s) side)
+      → IsEntered g s (neighbour g.width (head_of side (arena_of g s)) (get_or (directions_of (arena_of g s) side) i North))
   direction_entered side s i here h =
       let head = head_of side (arena_of g s) in
       let d : Direction = get_or (open_directions (arena_of g s) head) i North in
@@ -242,7 +242,7 @@ module _ (g : Setting) (p : IsPosition g) where
     high_most = omega (arith, ints);
     end_moves = λ side s r h. end_moves side s (sound s r) h;
     other_moves = λ side s r h. some_moves side s h;
-    moves_high = λ side s r. ways_few (is_over (arena_of g s)) (open_directions (arena_of g s) (head_of side (arena_of g s))) 4 (few_directions (arena_of g s) (head_of side (arena_of g s)));
+    moves_high = λ side s r. ways_few (is_over (arena_of g s)) (directions_of (arena_of g s) side) 4 (few_directions (arena_of g s) (head_of side (arena_of g s)));
     rank_high = λ s r. rank_high s (sound s r);
     rank_falls = λ s t r turn. rank_falls s t (sound s r) turn;
     payoff_low = λ s r h. (payoff_small (eqb s.one s.two) (is_shut (arena_of g s) One && is_shut (arena_of g s) Two) (is_shut (arena_of g s) One)).0;

@@ -2,7 +2,7 @@
 use Rattle.std.specs.Prelude.{◌≡◌, ◌↔◌, ℕ, ◌+◌, ◌-◌, ◌*◌, ◌/◌, ◌%◌, ◌^◌, ℤ, pos, neg_ℤ, Bool, true, not, ◌||◌, ◌&&◌, nat_lt, ◌==◌, if◌then◌else◌, List, [], ◌∷◌, length, filter, slice_index_or}
 use Rattle.sim_game.specs.declared.Side.{Side}
 use Rattle.sim_game.specs.declared.Side.TheVariants.{One, Two}
-use Rattle.sim_game.specs.Model.{GameModel, Turn, IsTurn, IsEnd, Reachable, after_turn, whole_chance}
+use Rattle.sim_game.specs.Model.{GameModel, Turn, IsEnd, Reachable, after_turn, whole_chance}
 use Rattle.sums.specs.Sums.{count_below}
 use Rattle.tron.specs.declared.Direction.{Direction}
 use Rattle.tron.specs.declared.Direction.TheVariants.{North, East, South, West}
@@ -46,9 +46,12 @@ is_open r cell direction = goes_on r.height r.width cell direction && not (r.tak
 abbrev pub open_directions : Arena → ℕ → List Direction
 open_directions r cell = filter (is_open r cell) (North ∷ East ∷ South ∷ West ∷ [])
 
+abbrev pub directions_of : Arena → Side → List Direction
+directions_of r side = open_directions r (head_of side r)
+
 -- the head of the side has no free neighbour
 abbrev pub is_shut : Arena → Side → Bool
-is_shut r side = length (open_directions r (head_of side r)) == 0
+is_shut r side = length (directions_of r side) == 0
 
 -- both heads are on one cell, or a head has no free neighbour
 abbrev pub is_over : Arena → Bool
@@ -56,7 +59,7 @@ is_over r = (r.one == r.two) || (is_shut r One || is_shut r Two)
 
 -- where a side may go; nowhere at an end
 abbrev pub ways : Arena → Side → List Direction
-ways r side = if is_over r then [] else open_directions r (head_of side r)
+ways r side = if is_over r then [] else directions_of r side
 
 -- the cell that a side enters by its move of this number
 abbrev pub entered : Arena → Side → ℕ → ℕ
@@ -144,7 +147,7 @@ pub record StandsFor (s : State) (t : Trails) : Type 0 where
 -- each call answers by the rules on the trails that a state stands for
 pub record KeepsRules (g : Setting) : Type 0 where
   pub root : (walls : List ℕ) (one two : ℕ) → IsSettingOf g.height g.width walls one two g → StandsFor (tron_game g).root (first_trails walls one two)
-  pub follows : (s : State) (turn : Turn) (t : Trails) → Reachable (tron_game g) s → IsTurn (tron_game g) s turn → StandsFor s t
+  pub follows : (s : State) (turn : Turn) (t : Trails) → StandsFor s t
       → StandsFor (after_turn (tron_game g) s turn) (after_moves g t turn.one turn.two)
   pub moves : (side : Side) (s : State) (t : Trails) → StandsFor s t → (tron_game g).moves side s ≡ length (ways (arena_of_trails g t) side)
   pub label : (side : Side) (s : State) (t : Trails) (i : ℕ) → StandsFor s t → (tron_game g).label side s i ≡ number_of (slice_index_or (ways (arena_of_trails g t) side) i North)

@@ -5,7 +5,7 @@ ghost use Rattle.std.specs.Prelude.{◌≡◌, ◌*◌, ◌<◌, ◌^◌, true, 
 ghost use Rattle.tron.specs.declared.Direction.TheVariants.{North};
 ghost use Rattle.tron.specs.Laws.{tron_is_game, IsSound};
 ghost use Rattle.tron.specs.Position.{first_fault, IsPosition, IsSettingOf};
-ghost use Rattle.tron.specs.Rules.{arena_of, entered, goes_on, head_of, is_open, is_over, neighbour, number_of, open_directions, tron_game, ways, KeepsRules};
+ghost use Rattle.tron.specs.Rules.{arena_of, directions_of, entered, goes_on, head_of, is_open, is_over, neighbour, number_of, tron_game, ways, KeepsRules};
 
 mod position;
 
@@ -69,7 +69,8 @@ impl Tron {
     pub fn new(height: u8, width: u8, walls: &[u8], one: u8, two: u8) -> Result<Tron, TronError>
         requires { length walls.now < 2 ^ 31 }
         ensures { MatchResult result
-            (λ game. (first_fault height width walls.now one two ≡ None) × IsSettingOf height width walls.now one two game.setting)
+            (λ game. (first_fault height width walls.now one two ≡ None)
+            × IsSettingOf height width walls.now one two game.setting)
             (λ fault. first_fault height width walls.now one two ≡ Some fault) }
     {
         if height == 0 || height > 6 || width == 0 || width > 6 {
@@ -168,7 +169,7 @@ impl Tron {
     #[inline]
     fn open_count(&self, side: Side, s: State) -> u32
         requires { IsSound self.now.setting s }
-        ensures { result ≡ length (open_directions (arena_of self.now.setting s) (head_of side (arena_of self.now.setting s))) }
+        ensures { result ≡ length (directions_of (arena_of self.now.setting s) side) }
     {
         let head = self.head(side, s);
         self.is_open(s, head, Direction::North) as u32
@@ -190,8 +191,8 @@ impl Tron {
     #[inline]
     fn open_direction(&self, side: Side, s: State, i: u32) -> Direction
         requires sound { IsSound self.now.setting s }
-        requires place { i < length (open_directions (arena_of self.now.setting s) (head_of side (arena_of self.now.setting s))) }
-        ensures { result ≡ slice_index_or (open_directions (arena_of self.now.setting s) (head_of side (arena_of self.now.setting s))) i North }
+        requires place { i < length (directions_of (arena_of self.now.setting s) side) }
+        ensures { result ≡ slice_index_or (directions_of (arena_of self.now.setting s) side) i North }
     {
         let head = self.head(side, s);
         let north = self.is_open(s, head, Direction::North) as u32;

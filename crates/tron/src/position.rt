@@ -67,7 +67,8 @@ pub(crate) fn western_column(width: u8) -> u64
 pub(crate) fn check_cells(walls: &[u8], one: u8, two: u8, bound: u8) -> Result<(), TronError>
     requires { length walls.now < 2 ^ 31 }
     ensures { MatchResult result
-        (λ _. (position (λ cell. nat_le bound cell) (named_cells walls.now one two) ≡ None) × All (λ cell. cell < bound) walls.now × (one < bound) × (two < bound))
+        (λ _. (position (λ cell. nat_le bound cell) (named_cells walls.now one two) ≡ None)
+        × All (λ cell. cell < bound) walls.now × (one < bound) × (two < bound))
         (λ fault. cell_range bound (named_cells walls.now one two) ≡ Some fault) }
 {
     match first_past(walls, one, two, bound) {

@@ -13,7 +13,7 @@ returns c =
     let p = c.args._game.now.valid in
     record {
       root = stands_first g;
-      follows = λ s turn t r legal stands. stands_after g s t turn.one turn.two stands;
+      follows = λ s turn t stands. stands_after g s t turn.one turn.two stands;
       moves = λ side s t stands. ap (λ (r : Arena). length (ways r side)) (same_arena g s t stands);
       label = λ side s t i stands. ap (λ (r : Arena). number_of (get_or (ways r side) i North)) (same_arena g s t stands);
       ends = λ s t r stands. (

@@ -2,15 +2,8 @@ use Rattle.std.proofs.Common.{arith, to_z, of_z, w32, sym, refl, ap, sum, ◌∙
 use mir.Val.{SFits}
 use Rattle.std.proofs.lemmas.Int.{to_z-of_z}
 use Rattle.goofspiel.specs.Rules.{low_of, high_of}
-use Rattle.goofspiel.specs.CardLaws.{few_cards}
 use Rattle.goofspiel.proofs.HandLemmas.{position_of, array_prizes}
 use Rattle.goofspiel.proofs.Goofspiel.new.Goals as goal
-
-pub overflow_cast-setting : goal.overflow_cast-setting
-overflow_cast-setting c = omega (arith, c.in_ok-two_hand.ensures.3, c.in_ok-check_lengths.ensures.1, few_cards c.in_ok-two_hand.two_hand c.in_ok-two_hand.ensures.1)
-
-pub prize_array-requires : goal.prize_array-requires
-prize_array-requires c = omega (arith, c.in_ok-two_hand.ensures.3, c.in_ok-check_lengths.ensures.1, few_cards c.in_ok-two_hand.two_hand c.in_ok-two_hand.ensures.1)
 
 pub invariant_of-result : goal.invariant_of-result
 invariant_of-result c =
@@ -19,9 +12,9 @@ invariant_of-result c =
     let least : SFits w32 c.least_payoff.result = record { sfits = c.least_payoff.type_inv } in
     let greatest : SFits w32 c.greatest_payoff.result = record { sfits = c.greatest_payoff.type_inv } in
     record {
-      valid = position_of _ prizes c.in_ok-one_hand.ensures.1 c.in_ok-two_hand.ensures.1
-          (omega (arith, c.in_ok-one_hand.ensures.3, c.in_ok-check_lengths.ensures.0, c.in_ok-check_lengths.ensures.1))
-          (omega (arith, c.in_ok-two_hand.ensures.3, c.in_ok-check_lengths.ensures.1))
+      valid = position_of _ prizes c.in_ok-one_hand.ensures.small c.in_ok-two_hand.ensures.small
+          (omega (arith, c.in_ok-one_hand.ensures.count, c.in_ok-check_lengths.ensures.0, c.in_ok-check_lengths.ensures.1))
+          (omega (arith, c.in_ok-two_hand.ensures.count, c.in_ok-check_lengths.ensures.1))
           refl c.prize_array.ensures c.in_ok-check_prizes.ensures
           c.in_ok-check_score.ensures;
       low_is = to_z-of_z w32 c.least_payoff.result least ∙ c.least_payoff.ensures ∙ ap (low_of c.args.pay (to_z w32 (of_z w32 c.args.score))) total;

@@ -33,5 +33,4 @@ loop-card-preserved c =
 pub returns : goal.returns
 returns c =
     let all : c.loop-card.card-index ≡ length c.args.hand.now = omega arith in
-    let packed = gathered_all c.args.hand.now c.loop-card.packed (subst (λ (n : ℕ). IsGathered c.args.hand.now n c.loop-card.packed) all c.loop-card.invariant) in
-    (packed.none, packed.small, packed.is, packed.count)
+    gathered_all c.args.hand.now c.loop-card.packed (subst (λ (n : ℕ). IsGathered c.args.hand.now n c.loop-card.packed) all c.loop-card.invariant)

@@ -64,7 +64,7 @@ abbrev pub high_of : Pay → ℤ → ℕ → ℤ
 high_of Margin score total = score +ℤ pos total
 high_of Win score total = pos 1
 
--- One's hand, Two's hand and the score plus 2300, in 13 digits each
+-- One's hand, Two's hand and the score plus 2300, in 13 bits each
 abbrev pub key_of : Deal → ℕ
 key_of d = (packed d.one * 2 ^ 13 + packed d.two) * 2 ^ 13 + unsigned_abs (d.score +ℤ pos 2300)
 

@@ -1,4 +1,4 @@
--- The walk over a list of cards that packs them and looks for a repeat.
+-- Lists of cards that are packed into hands, the position that lists make, and the card at a place of a hand.
 use Rattle.std.proofs.Common.{◌≡◌, ℕ, zero, suc, ◌+◌, ◌-◌, ◌*◌, ◌/◌, ◌%◌, ◌^◌, ◌<◌, ◌≤◌, ◌≢◌, Bool, true, false, ◌||◌, cond, eqb, ltb, List, [], ◌∷◌, ◌++◌, length, get_or, take, drop, replicate, Some, None, position, refl, sym, ap, ◌∙◌, subst, inl, inr, arith}
 use Rattle.std.proofs.Math.Nat.{pow-succ', mul-le-mul_left}
 use Rattle.std.proofs.Math.Pow.{pow-lt}
@@ -32,20 +32,20 @@ inside low high number h = let both = or_parts (ltb number low) (ltb high number
 pub number_inside : (low high : ℕ) (xs : List ℕ) (i : ℕ) → position (is_outside low high) xs ≡ None → i < length xs → (low ≤ get_or xs i 0) × (get_or xs i 0 ≤ high)
 number_inside low high xs i none l = inside low high (get_or xs i 0) (none_fails (is_outside low high) xs i none l)
 
--- ---- the digit of a card
+-- ---- the bit of a card
 test_is : (packed k : ℕ) → k < 16 → bit_and packed (1 * 2 ^ k % 65536) ≡ bit_at packed k * 2 ^ k
 test_is packed k l = ap (bit_and packed) (one_shl k 16 l) ∙ and_pow packed k
 
-pub digit_clear : (packed k : ℕ) → k < 16 → bit_and packed (1 * 2 ^ k % 65536) ≡ 0 → bit_at packed k ≡ 0
-digit_clear packed k l h = elim (cases_lt 0 (bit_at packed k)) [
+pub bit_clear : (packed k : ℕ) → k < 16 → bit_and packed (1 * 2 ^ k % 65536) ≡ 0 → bit_at packed k ≡ 0
+bit_clear packed k l h = elim (cases_lt 0 (bit_at packed k)) [
   | inl set ↦ absurd (omega (arith, test_is packed k l, h, pow_pos k, mul-le-mul_left (2 ^ k) set))
   | inr clear ↦ omega arith
 ]
 
-pub digit_set : (packed k : ℕ) → k < 16 → bit_and packed (1 * 2 ^ k % 65536) ≢ 0 → bit_at packed k ≢ 0
-digit_set packed k l h clear = h (test_is packed k l ∙ ap (λ (b : ℕ). b * 2 ^ k) clear ∙ omega arith)
+pub bit_set : (packed k : ℕ) → k < 16 → bit_and packed (1 * 2 ^ k % 65536) ≢ 0 → bit_at packed k ≢ 0
+bit_set packed k l h clear = h (test_is packed k l ∙ ap (λ (b : ℕ). b * 2 ^ k) clear ∙ omega arith)
 
--- ---- one digit more
+-- ---- one bit more
 ones_more : (k n : ℕ) → bit_at n k ≡ 0 → ones (n + 2 ^ k) ≡ ones n + 1
 ones_more zero n h =
     let low : n % 2 ≡ 0 = sym (bit_at_lowest n) ∙ h in
@@ -67,7 +67,7 @@ ones_none = refl
 -- the first `count` cards of the hand differ, and are packed
 pub record IsGathered (hand : List ℕ) (count packed : ℕ) : Type 0 where
   pub small : packed < 2 ^ 13
-  pub digits : (card : ℕ) → 1 ≤ card → card ≤ 13 → eqb (bit_at packed (card - 1)) 1 ≡ list_any (λ other. eqb other card) (take count hand)
+  pub bits : (card : ℕ) → 1 ≤ card → card ≤ 13 → eqb (bit_at packed (card - 1)) 1 ≡ list_any (λ other. eqb other card) (take count hand)
   pub size : ones packed ≡ count
   pub repeat : repeat_after [] hand ≡ repeat_after (take count hand) (drop count hand)
 
@@ -75,7 +75,7 @@ pub gathered_none : (hand : List ℕ) → IsGathered hand 0 0
 unfolding ones
 gathered_none hand = record {
   small = pow_pos 13;
-  digits = λ card l h. ap (λ (b : ℕ). eqb b 1) (bit_at-zero (card - 1));
+  bits = λ card l h. ap (λ (b : ℕ). eqb b 1) (bit_at-zero (card - 1));
   size = refl;
   repeat = refl;
 }
@@ -93,34 +93,34 @@ pub gathered_repeat : (hand : List ℕ) (i packed : ℕ) → i < length hand →
 gathered_repeat hand i packed l low high set g =
     let card = get_or hand i 0 in
     let one : bit_at packed (card - 1) ≡ 1 = omega (arith, bit_at-lt packed (card - 1)) in
-    let before : list_any (λ other. eqb other card) (take i hand) ≡ true = sym (g.digits card low high) ∙ eq-eqb _ _ one in
+    let before : list_any (λ other. eqb other card) (take i hand) ≡ true = sym (g.bits card low high) ∙ eq-eqb _ _ one in
     g.repeat ∙ repeat_step hand i l ∙ ap (λ (b : Bool). cond b (Some card) (repeat_after (take (i + 1) hand) (drop (i + 1) hand))) before
 
 pub gathered_more : (hand : List ℕ) (i packed : ℕ) → i < length hand → 1 ≤ get_or hand i 0 → get_or hand i 0 ≤ 13 → bit_at packed (get_or hand i 0 - 1) ≡ 0
     → IsGathered hand i packed → IsGathered hand (i + 1) (bit_or packed (2 ^ (get_or hand i 0 - 1)))
 gathered_more hand i packed l low high clear g =
     let card = get_or hand i 0 in
-    let digit = card - 1 in
-    let none : bit_at packed digit * 2 ^ digit ≡ 0 = rw clear (omega arith) in
-    let apart : bit_and packed (2 ^ digit) ≡ 0 = and_pow packed digit ∙ none in
-    let zero_digit : eqb (bit_at packed digit) 1 ≡ false = ap (λ (b : ℕ). eqb b 1) clear in
-    let before : list_any (λ other. eqb other card) (take i hand) ≡ false = sym (g.digits card low high) ∙ zero_digit in
-    let room : digit < 13 = omega arith in
+    let bit = card - 1 in
+    let none : bit_at packed bit * 2 ^ bit ≡ 0 = rw clear (omega arith) in
+    let apart : bit_and packed (2 ^ bit) ≡ 0 = and_pow packed bit ∙ none in
+    let zero_bit : eqb (bit_at packed bit) 1 ≡ false = ap (λ (b : ℕ). eqb b 1) clear in
+    let before : list_any (λ other. eqb other card) (take i hand) ≡ false = sym (g.bits card low high) ∙ zero_bit in
+    let room : bit < 13 = omega arith in
     record {
-      small = or_lt 13 packed (2 ^ digit) g.small (pow-lt room);
-      digits = λ other a b. elim (cases_eq other card) [
+      small = or_lt 13 packed (2 ^ bit) g.small (pow-lt room);
+      bits = λ other a b. elim (cases_eq other card) [
         | inl same ↦
-            let e : other - 1 ≡ digit = omega arith in
-            let now : bit_at (bit_or packed (2 ^ digit)) (other - 1) ≡ 1 = rw e (omega (arith, bit_at_or packed (2 ^ digit) digit, bit_at-pow_same digit, bit_at-lt packed digit)) in
+            let e : other - 1 ≡ bit = omega arith in
+            let now : bit_at (bit_or packed (2 ^ bit)) (other - 1) ≡ 1 = rw e (omega (arith, bit_at_or packed (2 ^ bit) bit, bit_at-pow_same bit, bit_at-lt packed bit)) in
             let there : (list_any (λ third. eqb third other) (take i hand) || eqb card other) ≡ true = or_right _ _ (eq-eqb card other (sym same)) in
             eq-eqb _ _ now ∙ sym (list_any_more (λ third. eqb third other) hand i 0 l ∙ there)
         | inr differ ↦
-            let e : other - 1 ≢ digit = λ h. differ (omega arith) in
-            let still : bit_at (bit_or packed (2 ^ digit)) (other - 1) ≡ bit_at packed (other - 1) = omega (arith, bit_at_or packed (2 ^ digit) (other - 1), bit_at-pow_other digit (other - 1) e) in
+            let e : other - 1 ≢ bit = λ h. differ (omega arith) in
+            let still : bit_at (bit_or packed (2 ^ bit)) (other - 1) ≡ bit_at packed (other - 1) = omega (arith, bit_at_or packed (2 ^ bit) (other - 1), bit_at-pow_other bit (other - 1) e) in
             let not_here : eqb card other ≡ false = ne_eqb card other (λ h. differ (sym h)) in
-            ap (λ (b : ℕ). eqb b 1) still ∙ g.digits other a b ∙ sym (list_any_more (λ third. eqb third other) hand i 0 l ∙ or_last _ _ not_here)
+            ap (λ (b : ℕ). eqb b 1) still ∙ g.bits other a b ∙ sym (list_any_more (λ third. eqb third other) hand i 0 l ∙ or_last _ _ not_here)
       ];
-      size = ap ones (or_disjoint packed (2 ^ digit) apart) ∙ ones_more digit packed clear ∙ ap (λ (n : ℕ). n + 1) g.size;
+      size = ap ones (or_disjoint packed (2 ^ bit) apart) ∙ ones_more bit packed clear ∙ ap (λ (n : ℕ). n + 1) g.size;
       repeat = g.repeat ∙ repeat_step hand i l ∙ ap (λ (b : Bool). cond b (Some card) (repeat_after (take (i + 1) hand) (drop (i + 1) hand))) before;
     }
 

@@ -14,7 +14,7 @@ use Rattle.std.specs.List.{All, filter, range_with_len, remove, sum_by}
 use Rattle.std.specs.List.Sorted.{IsStrictlyIncreasing}
 use Rattle.goofspiel.specs.Cards.{members, cards, packed}
 
--- ---- a packed set by halves: its lowest digit, and the others
+-- ---- a packed set by halves: its lowest bit, and the others
 -- two tests that agree on a range keep the same numbers of it
 pub filter_agrees : (p q : ℕ → Bool) (n low : ℕ) → ((x : ℕ) → low ≤ x → x < low + n → p x ≡ q x) → filter p (range_with_len low n) ≡ filter q (range_with_len low n)
 filter_agrees p q zero low h = refl
@@ -33,25 +33,25 @@ members_step n low m =
     let p : ℕ → Bool = λ x. eqb (bit_at m (x - low)) 1 in
     let q : ℕ → Bool = λ x. eqb (bit_at (m / 2) (x - suc low)) 1 in
     let none : low - low ≡ 0 = omega arith in
-    let digit : bit_at m (low - low) ≡ m % 2 = ap (bit_at m) none ∙ bit_at_lowest m in
+    let bit : bit_at m (low - low) ≡ m % 2 = ap (bit_at m) none ∙ bit_at_lowest m in
     let rest : filter p (range_with_len (low + 1) n) ≡ members n (suc low) (m / 2) =
     filter_agrees p q n (low + 1) (λ x l u. let e : x - low ≡ suc (x - suc low) = omega arith in ap (λ (b : ℕ). eqb b 1) (ap (bit_at m) e ∙ bit_at-suc m (x - suc low)))
     ∙ ap (λ (l : ℕ). filter q (range_with_len l n)) (add-one low) in
-    ap (λ (b : ℕ). cond (eqb b 1) (low ∷ filter p (range_with_len (low + 1) n)) (filter p (range_with_len (low + 1) n))) digit
+    ap (λ (b : ℕ). cond (eqb b 1) (low ∷ filter p (range_with_len (low + 1) n)) (filter p (range_with_len (low + 1) n))) bit
     ∙ ap (λ (xs : List ℕ). cond (eqb (m % 2) 1) (low ∷ xs) xs) rest
 
 pub members_even : (n low half : ℕ) → members (suc n) low (2 * half) ≡ members n (suc low) half
 members_even n low half =
-    let digit : 2 * half % 2 ≡ 0 = omega arith in
+    let bit : 2 * half % 2 ≡ 0 = omega arith in
     let rest : 2 * half / 2 ≡ half = omega arith in
-    members_step n low (2 * half) ∙ ap (λ (d : ℕ). cond (eqb d 1) (low ∷ members n (suc low) (2 * half / 2)) (members n (suc low) (2 * half / 2))) digit
+    members_step n low (2 * half) ∙ ap (λ (d : ℕ). cond (eqb d 1) (low ∷ members n (suc low) (2 * half / 2)) (members n (suc low) (2 * half / 2))) bit
     ∙ ap (members n (suc low)) rest
 
 pub members_odd : (n low half : ℕ) → members (suc n) low (2 * half + 1) ≡ low ∷ members n (suc low) half
 members_odd n low half =
-    let digit : (2 * half + 1) % 2 ≡ 1 = omega arith in
+    let bit : (2 * half + 1) % 2 ≡ 1 = omega arith in
     let rest : (2 * half + 1) / 2 ≡ half = omega arith in
-    members_step n low (2 * half + 1) ∙ ap (λ (d : ℕ). cond (eqb d 1) (low ∷ members n (suc low) ((2 * half + 1) / 2)) (members n (suc low) ((2 * half + 1) / 2))) digit
+    members_step n low (2 * half + 1) ∙ ap (λ (d : ℕ). cond (eqb d 1) (low ∷ members n (suc low) ((2 * half + 1) / 2)) (members n (suc low) ((2 * half + 1) / 2))) bit
     ∙ ap (λ (h : ℕ). low ∷ members n (suc low) h) rest
 
 -- each number is twice its half, or one more
@@ -104,15 +104,15 @@ members_lowest (suc n) low zero m e p l = absurd (omega arith)
 members_lowest (suc n) low (suc k) m e p l = by_halves
     (λ (m : ℕ). 0 < m → m < 2 ^ suc n → members (suc n) low m ≡ (low + count_trailing_zeros (suc k) m) ∷ members (suc n) low (bit_and m (m - 1)))
     (λ h p l.
-    let digit : 2 * h % 2 ≡ 0 = omega arith in
+    let bit : 2 * h % 2 ≡ 0 = omega arith in
     let half : 2 * h / 2 ≡ h = omega arith in
     let shift : low + suc (count_trailing_zeros k h) ≡ suc low + count_trailing_zeros k h = omega arith in
     let rest = members_lowest n (suc low) k h (omega arith) (omega arith) (halved n h l) in
-    rw (digit, half, shift, and_even h (omega arith)) (members_even n low h ∙ rest ∙ ap (λ (xs : List ℕ). (suc low + count_trailing_zeros k h) ∷ xs) (sym (members_even n low (bit_and h (h - 1))))))
+    rw (bit, half, shift, and_even h (omega arith)) (members_even n low h ∙ rest ∙ ap (λ (xs : List ℕ). (suc low + count_trailing_zeros k h) ∷ xs) (sym (members_even n low (bit_and h (h - 1))))))
     (λ h p l.
-    let digit : (2 * h + 1) % 2 ≡ 1 = omega arith in
+    let bit : (2 * h + 1) % 2 ≡ 1 = omega arith in
     let first : low + 0 ≡ low = omega arith in
-    rw (digit, first, and_odd h) (members_odd n low h ∙ ap (λ (xs : List ℕ). low ∷ xs) (sym (members_even n low h))))
+    rw (bit, first, and_odd h) (members_odd n low h ∙ ap (λ (xs : List ℕ). low ∷ xs) (sym (members_even n low h))))
     m p l
 
 -- ---- a number is taken out
@@ -128,8 +128,8 @@ double low x h =
     let e : x - low ≡ suc (x - suc low) = omega arith in
     ap (λ (k : ℕ). 2 ^ k) e ∙ pow-succ' 2 (x - suc low)
 
-one_digit : (low : ℕ) → 2 ^ (low - low) ≡ 1
-one_digit low =
+one_bit : (low : ℕ) → 2 ^ (low - low) ≡ 1
+one_bit low =
     let e : low - low ≡ 0 = omega arith in
     ap (λ (k : ℕ). 2 ^ k) e
 
@@ -148,7 +148,7 @@ taken_even n low half i xs t =
 taken_odd : (n low half : ℕ) (xs : List ℕ) → xs ≡ members n (suc low) half → ((i : ℕ) → i < length xs → IsTaken n (suc low) half i xs)
     → (i : ℕ) → i < length (low ∷ xs) → IsTaken (suc n) low (2 * half + 1) i (low ∷ xs)
 taken_odd n low half xs is more zero l =
-    let d = one_digit low in
+    let d = one_bit low in
     let e : 2 * half + 1 - 2 ^ (low - low) ≡ 2 * half = omega (arith, d) in
     record {
       first = omega arith;
@@ -224,7 +224,7 @@ members_packed (suc n) low m l = by_halves (λ (k : ℕ). k < 2 ^ suc n → pack
     (λ h l. let xs = members n (suc low) h in
     let rest = members_packed n (suc low) h (halved n h (omega arith)) in
     let twice = packed_double low (suc low) xs (omega arith) (members_rising n (suc low) h) in
-    let whole : 2 ^ (low - low) + packed_from low xs ≡ 2 * h + 1 = omega (arith, one_digit low, twice, rest) in
+    let whole : 2 ^ (low - low) + packed_from low xs ≡ 2 * h + 1 = omega (arith, one_bit low, twice, rest) in
     ap (packed_from low) (members_odd n low h) ∙ packed_cons low low xs ∙ whole)
     m l
 

@@ -3,11 +3,11 @@ use Rattle.std.specs.Prelude.{ℕ, ◌-◌, ◌^◌, ◌==◌, List, sum_by, fil
 use Rattle.std.specs.Int.{bit_at}
 use Rattle.std.specs.List.{range_with_len, list_any}
 
--- the numbers from `low` to `low + count - 1` whose digits are 1 in a packed set, rising; the lowest digit stands for `low`
+-- the numbers from `low` to `low + count - 1` whose bits are 1 in a packed set, rising; the lowest bit stands for `low`
 unfoldable pub members : ℕ → ℕ → ℕ → List ℕ
 members count low packed = filter (λ number. bit_at packed (number - low) == 1) (range_with_len low count)
 
--- the cards of a packed hand, rising: the digit of card 1 is the lowest, that of card 13 the highest
+-- the cards of a packed hand, rising: the bit of card 1 is the lowest, that of card 13 the highest
 abbrev pub cards : ℕ → List ℕ
 cards hand = members 13 1 hand
 

@@ -9,8 +9,8 @@ use Rattle.goofspiel.specs.declared.Pay.{Pay}
 use Rattle.goofspiel.specs.declared.Pay.TheVariants.{Margin, Win}
 use Rattle.goofspiel.specs.declared.Setting.{Setting}
 use Rattle.goofspiel.specs.declared.State.{State}
-use Rattle.goofspiel.specs.Cards.{cards, packed}
-use Rattle.goofspiel.specs.Position.{prizes_of}
+use Rattle.goofspiel.specs.Cards.{cards, packed, rising}
+use Rattle.goofspiel.specs.Position.{prizes_of, IsSettingOf}
 
 -- ---- the rules
 -- what the players hold, rising, and the score: One's prizes less Two's
@@ -64,7 +64,7 @@ abbrev pub high_of : Pay → ℤ → ℕ → ℤ
 high_of Margin score total = score +ℤ pos total
 high_of Win score total = pos 1
 
--- One's hand, Two's hand and the score plus 2300, in 13 digits each
+-- One's hand, Two's hand and the score plus 2300, in 13 bits each
 abbrev pub key_of : Deal → ℕ
 key_of d = (packed d.one * 2 ^ 13 + packed d.two) * 2 ^ 13 + unsigned_abs (d.score +ℤ pos 2300)
 
@@ -99,7 +99,9 @@ goofspiel_game g = record {
 
 -- the states stand for deals, and each call answers by the rules on them
 pub record KeepsRules (g : Setting) : Type 0 where
-  pub root : deal_of (goofspiel_game g).root ≡ record { one = cards g.one; two = cards g.two; score = g.score }
+  pub root : (one two prizes : List ℕ) (score : ℤ) (pay : Pay) → IsSettingOf one two prizes score pay g
+      → deal_of (goofspiel_game g).root ≡ record { one = rising one; two = rising two; score = score }
+  pub prizes : (one two prizes : List ℕ) (score : ℤ) (pay : Pay) → IsSettingOf one two prizes score pay g → prizes_of g ≡ prizes
   pub is_deal : (s : State) → Reachable (goofspiel_game g) s → IsDeal (deal_of s)
   pub follows : (s : State) (t : Turn) → Reachable (goofspiel_game g) s → IsTurn (goofspiel_game g) s t
       → deal_of (after_turn (goofspiel_game g) s t) ≡ after_bids (prizes_of g) (deal_of s) t.one t.two

@@ -25,7 +25,7 @@ pub enum Pay {
     Win,
 }
 
-/// The hands of both sides, packed, and the score: One's prizes less Two's. In a packed hand the lowest digit
+/// The hands of both sides, packed, and the score: One's prizes less Two's. In a packed hand the lowest bit
 /// stands for card 1, and that of each card held is 1.
 #[derive(Clone, Copy, PartialEq, Eq, Debug)]
 pub struct State {

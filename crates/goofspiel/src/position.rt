@@ -38,11 +38,11 @@ pub(crate) fn hand_of(side: Side, hand: &[u8]) -> Result<u16, GoofspielError>
 {
     let mut packed: u16 = 0;
     for card in hand {
-        let digit = 1 << (*card - 1);
-        if packed & digit != 0 {
+        let bit = 1 << (*card - 1);
+        if packed & bit != 0 {
             return Err(GoofspielError::CardTwice { side, card: *card });
         }
-        packed |= digit;
+        packed |= bit;
     }
     Ok(packed)
 }

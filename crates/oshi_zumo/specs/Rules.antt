@@ -44,7 +44,7 @@ after_bids s one two = record { place = s.place +ℤ push_of one two; one = s.on
 abbrev pub rank_of : Setting → State → ℕ
 rank_of g s = if is_off g s then 0 else max (s.one / g.least) (s.two / g.least)
 
--- the place plus 16, One's coins and Two's coins, in 5 digits each
+-- the place plus 16, One's coins and Two's coins, in 5 bits each
 abbrev pub key_of : State → ℕ
 key_of s = (unsigned_abs (s.place +ℤ pos 16) * 2 ^ 5 + s.one) * 2 ^ 5 + s.two
 

@@ -44,7 +44,7 @@ listed_push cells cell other = list_any-append (λ third. eqb third other) cells
 pub set_more : (cells : List ℕ) (taken cell : ℕ) → IsSetOf cells taken → IsSetOf (cells ++ cell ∷ []) (with_cell taken cell)
 set_more cells taken cell s = record { same = λ other. taken_with taken cell other ∙ ap (λ (b : Bool). b || eqb cell other) (s.same other) ∙ sym (listed_push cells cell other) }
 
--- a number with no digit from n on is below 2 ^ n
+-- a number with no bit from n on is below 2 ^ n
 pub below_bits : (n taken : ℕ) → ((i : ℕ) → n ≤ i → bit_at taken i ≡ 0) → taken < 2 ^ n
 below_bits zero taken h = let none = same_from_bits taken 0 (λ i. h i (omega arith) ∙ sym (bit_at-zero i)) in omega arith
 below_bits (suc n) taken h =
@@ -78,37 +78,37 @@ ones_below (suc n) taken small =
     let rest = count_same n (λ i. bit_at taken (suc i)) (bit_at (taken / 2)) (λ i _. bit_at-suc taken i) in
     omega (arith, count_first n (bit_at taken), bit_at_lowest taken, rest, ones_below n (taken / 2) (omega (arith, pow-succ' 2 n)), ones_step taken)
 
--- a digit by its test
-digit_is : (taken cell : ℕ) → bit_at taken cell ≡ cond (is_taken taken cell) 1 0
-digit_is taken cell = elim (cases_lt (bit_at taken cell) 1) [
+-- a bit by its test
+bit_is : (taken cell : ℕ) → bit_at taken cell ≡ cond (is_taken taken cell) 1 0
+bit_is taken cell = elim (cases_lt (bit_at taken cell) 1) [
   | inl free ↦ let clear : bit_at taken cell ≡ 0 = omega arith in rw clear refl
   | inr set ↦ let one : bit_at taken cell ≡ 1 = omega (arith, bit_at-lt taken cell) in rw one refl
 ]
 
 pub same_set : (taken other : ℕ) → ((cell : ℕ) → is_taken taken cell ≡ is_taken other cell) → taken ≡ other
-same_set taken other agree = same_from_bits taken other (λ cell. digit_is taken cell ∙ ap (λ (b : Bool). cond b 1 0) (agree cell) ∙ sym (digit_is other cell))
+same_set taken other agree = same_from_bits taken other (λ cell. bit_is taken cell ∙ ap (λ (b : Bool). cond b 1 0) (agree cell) ∙ sym (bit_is other cell))
 
 one_of : (b : Bool) → cond b 0 1 + cond b 1 0 ≡ 1
 one_of true = refl
 one_of false = refl
 
-free_digit : (taken cell : ℕ) → cond (is_taken taken cell) 0 1 + bit_at taken cell ≡ 1
-free_digit taken cell = ap (λ (n : ℕ). cond (is_taken taken cell) 0 1 + n) (digit_is taken cell) ∙ one_of (is_taken taken cell)
+free_bit : (taken cell : ℕ) → cond (is_taken taken cell) 0 1 + bit_at taken cell ≡ 1
+free_bit taken cell = ap (λ (n : ℕ). cond (is_taken taken cell) 0 1 + n) (bit_is taken cell) ∙ one_of (is_taken taken cell)
 
 -- each cell is free or taken
 pub free_and_taken : (n taken : ℕ) → taken < 2 ^ n → count_below n (λ cell. cond (is_taken taken cell) 0 1) + ones taken ≡ n
 free_and_taken n taken small =
     let both = count_add n (λ cell. cond (is_taken taken cell) 0 1) (bit_at taken) in
-    let whole = count_same n (λ cell. cond (is_taken taken cell) 0 1 + bit_at taken cell) (λ _. 1) (λ cell _. free_digit taken cell) in
+    let whole = count_same n (λ cell. cond (is_taken taken cell) 0 1 + bit_at taken cell) (λ _. 1) (λ cell _. free_bit taken cell) in
     omega (arith, ones_below n taken small, both, whole, count_constant n 1)
 
--- ---- a set is the sum of its digits
+-- ---- a set is the sum of its bits
 times : (b : Bool) (n : ℕ) → cond b n 0 ≡ cond b 1 0 * n
 times true n = omega arith
 times false n = omega arith
 
-digit_value : (taken cell : ℕ) → cond (is_taken taken cell) (2 ^ cell) 0 ≡ bit_at taken cell * 2 ^ cell
-digit_value taken cell = times (is_taken taken cell) (2 ^ cell) ∙ ap (λ (n : ℕ). n * 2 ^ cell) (sym (digit_is taken cell))
+bit_value : (taken cell : ℕ) → cond (is_taken taken cell) (2 ^ cell) 0 ≡ bit_at taken cell * 2 ^ cell
+bit_value taken cell = times (is_taken taken cell) (2 ^ cell) ∙ ap (λ (n : ℕ). n * 2 ^ cell) (sym (bit_is taken cell))
 
 low_sum : (n taken : ℕ) → count_below n (λ cell. bit_at taken cell * 2 ^ cell) ≡ taken % 2 ^ n
 low_sum zero taken = omega arith
@@ -117,7 +117,7 @@ low_sum (suc n) taken =
     let e : taken % 2 ^ suc n ≡ (taken / 2 ^ n % 2 ^ 1) * 2 ^ n + taken % 2 ^ n = ap (λ (k : ℕ). taken % 2 ^ k) s ∙ mod-pow-add taken 1 n in
     omega (arith, low_sum n taken, e)
 
-pub digits_sum : (n taken : ℕ) → taken < 2 ^ n → count_below n (λ cell. cond (is_taken taken cell) (2 ^ cell) 0) ≡ taken
-digits_sum n taken small =
-    count_same n (λ cell. cond (is_taken taken cell) (2 ^ cell) 0) (λ cell. bit_at taken cell * 2 ^ cell) (λ cell _. digit_value taken cell)
+pub bits_sum : (n taken : ℕ) → taken < 2 ^ n → count_below n (λ cell. cond (is_taken taken cell) (2 ^ cell) 0) ≡ taken
+bits_sum n taken small =
+    count_same n (λ cell. cond (is_taken taken cell) (2 ^ cell) 0) (λ cell. bit_at taken cell * 2 ^ cell) (λ cell _. bit_value taken cell)
     ∙ low_sum n taken ∙ mod-eq_of_lt small

@@ -3,7 +3,7 @@ use Rattle.std.specs.Prelude.{◌≡◌, ◌≢◌, ℕ, Bool, if◌then◌else�
 use Rattle.std.specs.Int.{bit_at}
 use Rattle.std.specs.List.{list_any}
 
--- whether the digit of the cell is 1
+-- whether the bit of the cell is 1
 abbrev pub is_taken : ℕ → ℕ → Bool
 is_taken taken cell = bit_at taken cell == 1
 
@@ -23,7 +23,7 @@ add_cell cells cell = if is_listed cells cell then cells else cells ++ cell ∷ 
 abbrev pub each_once : List ℕ → List ℕ
 each_once cells = fold add_cell [] cells
 
--- the digits of the cells of the list are 1, and no others
+-- the bits of the cells of the list are 1, and no others
 pub record IsSetOf (cells : List ℕ) (taken : ℕ) : Type 0 where
   pub same : (cell : ℕ) → is_taken taken cell ≡ is_listed cells cell
 

@@ -18,7 +18,7 @@ use Rattle.tron.specs.declared.Direction.TheVariants.{North, East, South, West}
 use Rattle.tron.specs.declared.Setting.{Setting}
 use Rattle.tron.specs.declared.State.{State}
 use Rattle.tron.specs.Cells.{with_cell}
-use Rattle.tron.specs.CellLaws.{set_other, set_below, ones_with, free_and_taken, digits_sum, bit_clear, same_set}
+use Rattle.tron.specs.CellLaws.{set_other, set_below, ones_with, free_and_taken, bits_sum, bit_clear, same_set}
 use Rattle.tron.specs.Position.{IsGrid, IsPosition, IsSettingOf}
 use Rattle.tron.specs.Rules.{Arena, head_of, goes_on, neighbour, is_open, open_directions, directions_of, is_shut, is_over, ways, entered, free_cells, rank_of, key_of, arena_of, tron_game}
 
@@ -151,7 +151,7 @@ module _ (g : Setting) (p : IsPosition g) where
   taken_small s here = omega (arith, here.taken_on_grid, pow_mono cells_high)
 
   pub key_is : (s : State) → IsSound g s → key_of (arena_of g s) ≡ (s.taken * 2 ^ 6 + s.one) * 2 ^ 6 + s.two
-  key_is s here = omega (arith, digits_sum 36 s.taken (taken_small s here))
+  key_is s here = omega (arith, bits_sum 36 s.taken (taken_small s here))
 
   pub free_is : (s : State) → IsSound g s → free_cells (arena_of g s) + ones s.taken ≡ cells
   free_is s here = free_and_taken cells s.taken here.taken_on_grid

@@ -79,7 +79,7 @@ free_cells r = count_below (r.height * r.width) (λ cell. if r.taken cell then 0
 abbrev pub rank_of : Arena → ℕ
 rank_of r = if is_over r then 0 else (free_cells r + 1) / 2
 
--- the sum of 2 ^ cell over the taken cells, and the heads, in 36, 6 and 6 digits
+-- the sum of 2 ^ cell over the taken cells, and the heads, in 36, 6 and 6 bits
 abbrev pub key_of : Arena → ℕ
 key_of r = (count_below 36 (λ cell. if r.taken cell then 2 ^ cell else 0) * 2 ^ 6 + r.one) * 2 ^ 6 + r.two
 
@@ -116,7 +116,7 @@ arena_of g s = record { height = g.height; width = g.width; taken = is_taken s.t
 abbrev pub first_state : Setting → State
 first_state g = record { taken = g.taken; one = g.one; two = g.two }
 
--- both heads move, and their digits are set too
+-- both heads move, and their bits are set too
 abbrev pub moved : State → ℕ → ℕ → State
 moved s one two = record { taken = with_cell (with_cell s.taken one) two; one = one; two = two }
 

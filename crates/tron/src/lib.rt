@@ -15,7 +15,7 @@ use state_key::{Key, put};
 use thiserror::Error;
 
 /// The taken cells and both heads. Cells are numbered row by row from the north-west corner; in the set the lowest
-/// digit stands for cell 0, and that of each taken cell is 1.
+/// bit stands for cell 0, and that of each taken cell is 1.
 #[derive(Clone, Copy, PartialEq, Eq, Debug)]
 pub struct State {
     pub taken: u64,

@@ -9,16 +9,16 @@ overflow_sub-result c = let b = card_bid c.args.hand c.args.place c.requires.sma
 pub overflow_shl-result : goal.overflow_shl-result
 overflow_shl-result c = let b = card_bid c.args.hand c.args.place c.requires.small c.requires.place in omega (arith, b.high, c.card_at-card.ensures)
 
--- the digit of the card
-digit_is : (card listed : ℕ) → card ≡ listed → listed ≤ 13 → 1 * 2 ^ (card - 1) % 65536 ≡ 2 ^ (listed - 1)
-digit_is card listed is high = one_shl (card - 1) 16 (omega arith) ∙ ap (λ (n : ℕ). 2 ^ (n - 1)) is
+-- the bit of the card
+bit_is : (card listed : ℕ) → card ≡ listed → listed ≤ 13 → 1 * 2 ^ (card - 1) % 65536 ≡ 2 ^ (listed - 1)
+bit_is card listed is high = one_shl (card - 1) 16 (omega arith) ∙ ap (λ (n : ℕ). 2 ^ (n - 1)) is
 
 pub overflow_sub-result-2 : goal.overflow_sub-result-2
 overflow_sub-result-2 c =
     let b = card_bid c.args.hand c.args.place c.requires.small c.requires.place in
-    rw (digit_is c.card_at-card.result _ c.card_at-card.ensures b.high) b.held
+    rw (bit_is c.card_at-card.result _ c.card_at-card.ensures b.high) b.held
 
 pub returns-clause-rest : goal.returns-clause-rest
 returns-clause-rest c =
     let b = card_bid c.args.hand c.args.place c.requires.small c.requires.place in
-    ap (λ (digit : ℕ). c.args.hand - digit) (digit_is c.card_at-card.result _ c.card_at-card.ensures b.high) ∙ sym b.rest
+    ap (λ (bit : ℕ). c.args.hand - bit) (bit_is c.card_at-card.result _ c.card_at-card.ensures b.high) ∙ sym b.rest

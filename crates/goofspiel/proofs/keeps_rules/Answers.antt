@@ -1,8 +1,9 @@
-use Rattle.std.proofs.Common.{refl, ap, length}
+use Rattle.std.proofs.Common.{ℕ, take, length, refl, ap, ◌∙◌}
 use Rattle.std.proofs.lemmas.List.{nil_from_length}
 use Rattle.goofspiel.specs.CardLaws.{cards_increase, cards_hand}
 use Rattle.goofspiel.specs.Laws.{sound, one_bid, two_bid, same_hands, goofspiel_is_game}
 use Rattle.goofspiel.specs.Rules.{deal_of}
+use Rattle.goofspiel.proofs.HandLemmas.{array_prizes}
 use Rattle.goofspiel.proofs.keeps_rules.Goals as goal
 
 pub returns : goal.returns
@@ -10,7 +11,8 @@ returns c =
     let g = c.args._game.now.setting in
     let p = c.args._game.now.valid in
     record {
-      root = refl;
+      root = λ one two prizes score pay is. same_hands _ _ is.one_is is.two_is is.score_is;
+      prizes = λ one two prizes score pay is. ap (λ (n : ℕ). take n g.prizes) is.count_is ∙ array_prizes prizes g.prizes is.prizes_are;
       is_deal = λ s r. let here = sound g p s r in record {
         one_hand = (cards_increase s.one, cards_hand s.one here.one_small);
         two_hand = (cards_increase s.two, cards_hand s.two here.two_small);

@@ -3,9 +3,9 @@ use Rattle.std.proofs.lemmas.Bool.{agree_below, agree_below_at}
 use Rattle.tron.specs.Cells.{is_taken}
 use Rattle.tron.proofs.position.western_column.Goals as goal
 
--- each digit, compared with the column of its cell
-column : (digits width known : ℕ) → width ≡ known → agree_below (is_taken digits) (λ cell. eqb (cell % known) 0) 37 ≡ true → (cell : ℕ) → cell ≤ 36 → is_taken digits cell ≡ eqb (cell % width) 0
-column digits width known is agree cell l = agree_below_at (is_taken digits) (λ other. eqb (other % known) 0) 37 cell agree (omega arith) ∙ ap (λ (w : ℕ). eqb (cell % w) 0) (sym is)
+-- each bit, compared with the column of its cell
+column : (bits width known : ℕ) → width ≡ known → agree_below (is_taken bits) (λ cell. eqb (cell % known) 0) 37 ≡ true → (cell : ℕ) → cell ≤ 36 → is_taken bits cell ≡ eqb (cell % width) 0
+column bits width known is agree cell l = agree_below_at (is_taken bits) (λ other. eqb (other % known) 0) 37 cell agree (omega arith) ∙ ap (λ (w : ℕ). eqb (cell % w) 0) (sym is)
 
 pub returns-in-1 : goal.returns-in-1
 returns-in-1 c = column 0x1fffffffff c.args.width 1 c.in-1.is refl

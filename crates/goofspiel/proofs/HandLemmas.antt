@@ -133,7 +133,7 @@ gathered_all hand packed g =
     record {
       small = g.small;
       is = filter_agrees (λ card. eqb (bit_at packed (card - 1)) 1) (λ card. list_any (λ other. eqb other card) hand) 13 1
-          (λ card l u. g.digits card l (omega arith) ∙ ap (list_any (λ other. eqb other card)) all);
+          (λ card l u. g.bits card l (omega arith) ∙ ap (list_any (λ other. eqb other card)) all);
       count = count;
       few = omega (arith, count, few_cards packed g.small);
       no_repeat = g.repeat ∙ ap (repeat_after (take (length hand) hand)) nothing;

@@ -1,7 +1,7 @@
 -- A full board has fewer rows than the game has states.
-use Rattle.std.proofs.Common.{◌≡◌, ◌≢◌, ◌⊎◌, inl, inr, ⊎_elim, ℕ, ◌+◌, ◌<◌, ◌≤◌, Some, refl, sym, ap, subst, ◌∙◌, arith}
+use Rattle.std.proofs.Common.{◌≡◌, ◌≢◌, ⊎_elim, ℕ, ◌+◌, ◌<◌, ◌≤◌, Some, refl, sym, ap, subst, ◌∙◌, arith}
 use Rattle.std.proofs.lemmas.Bool.{cases_lt}
-use Rattle.sim_game.specs.Model.{GameModel, Reachable, HasAtMost}
+use Rattle.sim_game.specs.Model.{GameModel, HasAtMost}
 use Rattle.bounds_board.specs.Views.{BoardView, IsLater, IsInnerKey, IsFull, WasFull}
 
 module _ {S G N : Type 0} (m : GameModel S) (v : BoardView G N) (asked : ℕ) (full : IsFull m v asked) where
@@ -40,10 +40,10 @@ full_later m v w later was = let full = was.full in record {
     inner = full.inner;
     others = λ row l. let o = full.others row (subst (λ (n : ℕ). row < n) later.rows l) in (o.0, later.keys row o.0 o.1, o.2, o.3);
     apart = λ row other key l h is_row is_other.
-      let l' = subst (λ (n : ℕ). row < n) later.rows l in let h' = subst (λ (n : ℕ). other < n) later.rows h in
-      let o = full.others row l' in let p = full.others other h' in
-      let a = later.keys row o.0 o.1 in let b = later.keys other p.0 p.1 in
-      let same : o.0 ≡ key = cc in let same' : p.0 ≡ key = cc in
-      full.apart row other key l' h' (subst (λ (k : ℕ). v.key_at row ≡ Some k) same o.1) (subst (λ (k : ℕ). v.key_at other ≡ Some k) same' p.1);
+        let l' = subst (λ (n : ℕ). row < n) later.rows l in let h' = subst (λ (n : ℕ). other < n) later.rows h in
+        let o = full.others row l' in let p = full.others other h' in
+        let a = later.keys row o.0 o.1 in let b = later.keys other p.0 p.1 in
+        let same : o.0 ≡ key = cc in let same' : p.0 ≡ key = cc in
+        full.apart row other key l' h' (subst (λ (k : ℕ). v.key_at row ≡ Some k) same o.1) (subst (λ (k : ℕ). v.key_at other ≡ Some k) same' p.1);
   };
 }

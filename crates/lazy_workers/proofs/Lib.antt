@@ -1,1 +1,3 @@
+pub mod SolutionLemmas
+pub mod SummaryLemmas
 pub mod WorkerLemmas

@@ -1,5 +1,5 @@
 -- What a report says of a game.
-use Rattle.std.specs.Prelude.{◌≡◌, ℕ, ◌≤◌, ℤ, pos, ◌≤ℤ◌, int_le, Bool, cond, length, All}
+use Rattle.std.specs.Prelude.{◌≡◌, ℕ, ◌≤◌, ℤ, pos, ◌≤ℤ◌, ◌<ℤ◌, Bool, true, false, length, All}
 use Rattle.sim_game.specs.declared.Side.TheVariants.{One, Two}
 use Rattle.sim_game.specs.Model.{GameModel}
 use Rattle.sim_game.specs.Resolution.{IsResolution}
@@ -15,9 +15,12 @@ use Rattle.certificate.specs.Outcomes.{IsAllowed}
 use Rattle.certificate.specs.Ranges.{IsInRange}
 use Rattle.lazy_workers.specs.Searched.{HasRoom, HasVisits, IsPureClose, TooFewTurns}
 
--- what ended the search
-abbrev pub outcome_for : ℤ → ℤ → ℤ → Bool → Outcome
-outcome_for gap asked resolution was_full = cond (int_le gap asked) Closed (cond (int_le gap resolution) Settled (cond was_full Full Spent))
+-- which outcome tells of a gap
+abbrev pub IsOutcomeFor : ℤ → ℤ → ℤ → Bool → Outcome → Type 0
+IsOutcomeFor gap asked resolution was_full Closed = gap ≤ℤ asked
+IsOutcomeFor gap asked resolution was_full Settled = asked <ℤ gap × gap ≤ℤ resolution
+IsOutcomeFor gap asked resolution was_full Spent = (asked <ℤ gap) × (resolution <ℤ gap) × (was_full ≡ false)
+IsOutcomeFor gap asked resolution was_full Full = (asked <ℤ gap) × (resolution <ℤ gap) × (was_full ≡ true)
 
 -- the report tells what was asked
 pub record IsOfAsk (text : PositionText) (ask : Ask) (r : Report) : Type 0 where
@@ -32,7 +35,6 @@ pub record IsSolution {S : Type 0} (m : GameModel S) (text : PositionText) (ask 
   pub in_range : IsInRange r
   pub resolution : (n : ℕ) × (r.resolution ≡ pos n) × IsResolution m ask.weight n
   pub outcome : IsAllowed r
-
   -- the plans, and what they guarantee
   pub one_lawful : IsLawful m r.one
   pub two_lawful : IsLawful m r.two
@@ -42,11 +44,9 @@ pub record IsSolution {S : Type 0} (m : GameModel S) (text : PositionText) (ask 
   pub upper_guaranteed : Guarantees m Two (plan_of r.two) r.upper
   pub one_few : length r.one.rows ≤ ask.rows
   pub two_few : length r.two.rows ≤ ask.rows
-
   -- what an outcome short of the resolution is owed to
   pub full : r.outcome ≡ Full → HasRoom m ask → ⊥
   pub spent : r.outcome ≡ Spent → TooFewTurns m ask
-
   -- with a row for each state and a visit for each node of the tree
   pub pure_lower : HasRoom m ask → HasVisits m ask → serial_bound m One m.root ≤ℤ r.lower
   pub pure_upper : HasRoom m ask → HasVisits m ask → r.upper ≤ℤ serial_bound m Two m.root

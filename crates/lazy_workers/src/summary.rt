@@ -1,10 +1,9 @@
 //! The report of what was found.
 
-ghost use Rattle.std.specs.Prelude.{◌≡◌, true, false, cond, int_le, IfOk};
-ghost use Rattle.certificate.specs.declared.report.Outcome.TheVariants as outcomes;
+ghost use Rattle.std.specs.Prelude.{◌≡◌, IfOk};
 ghost use Rattle.certificate.specs.Ranges.{IsAskInRange, IsPositionInRange};
 ghost use Rattle.lazy_workers.specs.Searched.{IsSearched};
-ghost use Rattle.lazy_workers.specs.Solutions.{IsSolution, outcome_for};
+ghost use Rattle.lazy_workers.specs.Solutions.{IsSolution, IsOutcomeFor};
 
 use certificate::{Ask, Outcome, PositionText, Report};
 use plan_book::{Book, bound_of};
@@ -22,7 +21,7 @@ pub(crate) struct Found {
 }
 
 /// The report on the best entries of the book.
-pub(crate) fn summary<G: Game>(
+pub(crate) fn report_of<G: Game>(
     g: G,
     position: PositionText,
     ask: &Ask,
@@ -56,7 +55,7 @@ pub(crate) fn summary<G: Game>(
 }
 
 fn outcome_for(gap: i64, asked: i64, resolution: i64, was_full: bool) -> Outcome
-    ensures { result ≡ outcome_for gap asked resolution was_full }
+    ensures { IsOutcomeFor gap asked resolution was_full result }
 {
     if gap <= asked {
         Outcome::Closed

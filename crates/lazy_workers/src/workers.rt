@@ -5,11 +5,11 @@ ghost use Rattle.certificate.specs.Ranges.{IsAskInRange, IsPositionInRange};
 ghost use Rattle.lazy_workers.specs.Searched.{IsSearched};
 ghost use Rattle.lazy_workers.specs.Solutions.{IsSolution};
 
-use crate::summary::{Found, summary};
+use crate::summary::{Found, report_of};
 use bounds_board::PlainBoard;
 use certificate::{Ask, PositionText, Report};
 use matrix_game::Turns;
-use oracle_search::{Gate, SearchEnd, Settled, search};
+use oracle_search::{Gate, Settled, search};
 use plan_book::Book;
 use seq::Seq;
 use serial_ab::Visits;
@@ -32,10 +32,10 @@ pub fn solve<G: Game, T: Gate>(
 {
     if g.rank(g.root()) == 0 {
         let found = nothing(alloc, g, ask)?;
-        return summary(g, position, ask, found);
+        return report_of(g, position, ask, found);
     }
     let found = search_alone(alloc, g, ask, gate)?;
-    summary(g, position, ask, found)
+    report_of(g, position, ask, found)
 }
 
 /// What is found where the root is an end: it needs no search.
@@ -87,6 +87,6 @@ fn search_alone<G: Game, T: Gate>(
     Ok(Found {
         book: board.into_book(),
         spent: Seq::from_vec(spent),
-        was_full: end == SearchEnd::Full,
+        was_full: end.is_full(),
     })
 }

@@ -1,5 +1,7 @@
 //! How a search ends.
 
+ghost use Rattle.std.specs.Prelude.{◌≡◌, ◌≢◌, MatchBool};
+
 /// How a search ended.
 #[derive(Clone, Copy, PartialEq, Eq, Debug)]
 pub enum SearchEnd {
@@ -11,4 +13,15 @@ pub enum SearchEnd {
     Spent,
     /// A claim found the board full.
     Full,
+}
+
+impl SearchEnd {
+    pub fn is_full(self) -> bool
+        ensures { MatchBool result (self ≡ SearchEnd.Full) (self ≢ SearchEnd.Full) }
+    {
+        match self {
+            SearchEnd::Full => true,
+            SearchEnd::Reached | SearchEnd::Settled | SearchEnd::Spent => false,
+        }
+    }
 }

@@ -54,10 +54,10 @@ module _ {S : Type 0} (m : GameModel S) (side : Side) (rows others : ℕ → Opt
   reached_too s r = record { history = r.history; kept = agree_along m.root r.history (reached_root m side rows) r.kept; leads = r.leads }
 
 -- ---- the best entry
-record IsFound (P : Entry → Type 0) (side : Side) (key : ℕ) (e : Entry) : Type 0 where
-  holds : P e
-  is_key : e.key ≡ key
-  is_side : e.side ≡ side
+pub record IsFound (P : Entry → Type 0) (side : Side) (key : ℕ) (e : Entry) : Type 0 where
+  pub holds : P e
+  pub is_key : e.key ≡ key
+  pub is_side : e.side ≡ side
 
 kept_after : (P : Entry → Type 0) (side : Side) (key : ℕ) (here : Bool) (kept : Option Entry) (e f : Entry) → ((g : Entry) → kept ≡ Some g → IsFound P side key g) → (here ≡ true → IsFound P side key e)
     → cond here (Some e) kept ≡ Some f → IsFound P side key f
@@ -77,7 +77,7 @@ best_found : (P : Entry → Type 0) (side : Side) (entries : List Entry) (key : 
 best_found P side entries key e all h = found_from P side entries key None e all (λ g h'. absurd (cc)) h
 
 -- the entry behind a row
-row_entry : (P : Entry → Type 0) (side : Side) (entries : List Entry) (key : ℕ) (r : SheetRow) → All P entries → best_row side entries key ≡ Some r → (e : Entry) × IsFound P side key e × (row_of e ≡ r)
+pub row_entry : (P : Entry → Type 0) (side : Side) (entries : List Entry) (key : ℕ) (r : SheetRow) → All P entries → best_row side entries key ≡ Some r → (e : Entry) × IsFound P side key e × (row_of e ≡ r)
 row_entry P side entries key r all h = go (best_entry side entries key) refl h
   where
     go : (o : Option Entry) → best_entry side entries key ≡ o → option_map row_of o ≡ Some r → (e : Entry) × IsFound P side key e × (row_of e ≡ r)

@@ -1,0 +1,120 @@
+-- What the sheets of the best entries say.
+use Rattle.std.proofs.Common.{◌≡◌, ℕ, suc, ◌<◌, ◌≤◌, ℤ, pos, neg_ℤ, ◌≤ℤ◌, Bool, true, false, eqb, ◌||◌, Option, Some, List, [], ◌∷◌, length, map, sum, All, refl, sym, ap, subst, ◌∙◌, arith}
+use Rattle.std.specs.List.{IsDistinct, AllByRecursion, list_any}
+use Rattle.std.specs.List.Sorted.{IsStrictlyIncreasing}
+use Rattle.std.proofs.lemmas.List.Kept.{AllPairs-from_increasing}
+use Rattle.std.proofs.lemmas.Map.Made.{IsDistinct-from_AllPairs}
+use Rattle.std.proofs.lemmas.Bool.Decides.{Decides-eqb}
+use Rattle.std.proofs.lemmas.Map.Steps.{length-le_from_distinct_below}
+use Rattle.std.proofs.lemmas.List.Elements.{recursion_from_All, All-from_recursion, All-map, All-weaker}
+use Rattle.std.proofs.lemmas.List.{length-map}
+use Rattle.std.proofs.lemmas.List.Sums.{sum_by-cons}
+use Rattle.std.proofs.lemmas.Int.{ints}
+use Rattle.std.specs.Int.RustNames.{unsigned_abs}
+use Rattle.std.proofs.lemmas.Bool.{eqb-true, eqb-false}
+use Rattle.sim_game.specs.declared.Side.{Side}
+use Rattle.sim_game.specs.declared.Side.TheVariants.{One, Two}
+use Rattle.sim_game.specs.Model.{GameModel, IsGame}
+use Rattle.sim_game.specs.Sides.{opening_bound}
+use Rattle.plan_book.specs.declared.Entry.{Entry}
+use Rattle.plan_book.specs.declared.Sheet.{Sheet}
+use Rattle.plan_book.specs.declared.SheetRow.{SheetRow}
+use Rattle.plan_book.specs.Books.{IsClosed, IsBooked, IsBestSheet, best_row, book_bound}
+use Rattle.plan_book.specs.Sheets.{IsLawful, IsLawfulRow, IsReached, row_at, bound_or, root_bound}
+use Rattle.plan_book.proofs.SheetLemmas.{reached_reachable}
+use Rattle.certificate.specs.Ranges.{IsRowInRange, IsSheetInRange}
+use Rattle.plan_book.proofs.BestLemmas.{book_row, reached_root, row_entry}
+use Rattle.plan_book.proofs.ExpectedLemmas.{is_other}
+use Rattle.sim_game.proofs.ReachLemmas.{reachable_root}
+use Rattle.lazy_workers.specs.Searched.{HasKeysIn}
+
+-- ---- rows of distinct keys that are kept in so many places are no more
+module _ (most : ℕ) (key_at : ℕ → Option ℕ) where
+  abbrev IsKept : ℕ → Type 0
+  IsKept key = (place : ℕ) × (place < most) × (key_at place ≡ Some key)
+
+  abbrev places : (keys : List ℕ) → AllByRecursion IsKept keys → List ℕ
+  places [] kept = []
+  places (key ∷ keys) kept = kept.0.0 ∷ places keys kept.1
+
+  places_count : (keys : List ℕ) (kept : AllByRecursion IsKept keys) → length (places keys kept) ≡ length keys
+  places_count [] kept = refl
+  places_count (key ∷ keys) kept = ap suc (places_count keys kept.1)
+
+  places_below : (keys : List ℕ) (kept : AllByRecursion IsKept keys) (place : ℕ) → list_any (eqb place) (places keys kept) ≡ true → place < most
+  places_below [] kept place e = let wrong : false ≡ true = e in absurd (cc)
+  places_below (key ∷ keys) kept place e = first (eqb place kept.0.0) refl (λ h. places_below keys kept.1 place h) e where
+    first : (b : Bool) → eqb place kept.0.0 ≡ b → (list_any (eqb place) (places keys kept.1) ≡ true → place < most) → (b || list_any (eqb place) (places keys kept.1)) ≡ true → place < most
+    first true is rest h = subst (λ (p : ℕ). p < most) (sym (eqb-true place kept.0.0 is)) kept.0.1
+    first false is rest h = rest h
+
+  other : (key place k p : ℕ) → key_at place ≡ Some key → key_at p ≡ Some k → eqb key k ≡ false → place ≡ p → ⊥
+  other key place k p is at apart same = let found : key_at place ≡ Some k = ap key_at same ∙ at in let both : key ≡ k = cc in eqb-false key k apart both
+
+  others : (key place : ℕ) → key_at place ≡ Some key → (keys : List ℕ) (kept : AllByRecursion IsKept keys) → AllByRecursion (λ k. eqb key k ≡ false) keys → AllByRecursion (λ p. eqb place p ≡ false) (places keys kept)
+  others key place is [] kept apart = tt
+  others key place is (k ∷ keys) kept apart = (is_other place kept.0.0 (λ e. other key place k kept.0.0 is kept.0.2 apart.0 e), others key place is keys kept.1 apart.1)
+
+  places_apart : (keys : List ℕ) (kept : AllByRecursion IsKept keys) → IsDistinct eqb keys → IsDistinct eqb (places keys kept)
+  unfolding IsDistinct
+  places_apart [] kept apart = tt
+  places_apart (key ∷ keys) kept apart = (others key kept.0.0 kept.0.2 keys kept.1 apart.0, places_apart keys kept.1 apart.1)
+
+  pub kept_few : (keys : List ℕ) → All IsKept keys → IsStrictlyIncreasing keys → length keys ≤ most
+  kept_few keys all rising =
+      let kept = recursion_from_All IsKept keys all in
+      let rises = AllPairs-from_increasing keys rising in
+      let apart : IsDistinct eqb keys = IsDistinct-from_AllPairs Decides-eqb keys (λ i j d l h e. let below = rises i j d l h in absurd (omega arith)) in
+      subst (λ (n : ℕ). n ≤ most) (places_count keys kept)
+      (length-le_from_distinct_below (places keys kept) most (places_apart keys kept apart) (places_below keys kept))
+
+module _ {S : Type 0} (m : GameModel S) (game : IsGame m) (total : ℕ) (entries : List Entry) (closed : IsClosed m total entries) (sheet : Sheet) (best : IsBestSheet m sheet.side entries sheet.rows) where
+  -- the bound at the root is the book's
+  pub root_is : root_bound m sheet ≡ book_bound m entries sheet.side m.root
+  root_is = ap (bound_or m sheet.side m.root) (best.kept m.root (reached_root m sheet.side _)) ∙ sym (book_row m game total (IsBooked m entries) entries closed sheet.side m.root (reachable_root m))
+
+  -- there are no more rows than the board has
+  pub rows_few : (rows : ℕ) → HasKeysIn rows entries → length sheet.rows ≤ rows
+  rows_few rows held = subst (λ (n : ℕ). n ≤ rows) (length-map sheet.rows (λ (r : SheetRow). r.key))
+      (kept_few rows held.key_at (map (λ r. r.key) sheet.rows) (All-map (IsKept rows held.key_at) (λ r. r.key) sheet.rows (All-weaker _ (λ r. IsKept rows held.key_at r.key) kept sheet.rows best.only)) best.rising) where
+        kept : (r : SheetRow) → (s : S) × IsReached m sheet.side (best_row sheet.side entries) s × (m.key s ≡ r.key) × (best_row sheet.side entries r.key ≡ Some r) → IsKept rows held.key_at r.key
+        kept r only =
+            let behind = row_entry (λ e. IsKept rows held.key_at e.key) sheet.side entries r.key r held.held only.3 in
+            subst (IsKept rows held.key_at) behind.1.is_key behind.1.holds
+
+-- ---- the ranges of what a report tells
+parts_small : (ws : List ℕ) (most : ℕ) → sum ws ≤ most → AllByRecursion (λ w. w ≤ most) ws
+parts_small [] most h = tt
+parts_small (w ∷ ws) most h = (omega (arith, sum_by-cons (λ x. x) w ws), parts_small ws most (omega (arith, sum_by-cons (λ x. x) w ws)))
+
+pub abs_small : (z : ℤ) → neg_ℤ (pos 4000000000) ≤ℤ z → z ≤ℤ pos 4000000000 → unsigned_abs z ≤ 4000000000
+abs_small z low high = omega (arith, ints)
+
+module _ {S : Type 0} (m : GameModel S) (game : IsGame m) where
+  pub scaled_low : (z : ℤ) → opening_bound m One ≤ℤ z → neg_ℤ (pos 4000000000) ≤ℤ z
+  scaled_low z low = let least = game.low_least in omega (arith, ints)
+
+  pub scaled_high : (z : ℤ) → z ≤ℤ opening_bound m Two → z ≤ℤ pos 4000000000
+  scaled_high z high = let most = game.high_most in omega (arith, ints)
+
+  row_in_range : (side : Side) (total : ℕ) (rows : List SheetRow) (r : SheetRow) → total ≤ 1048576 → IsLawfulRow m side total rows r → IsRowInRange r
+  row_in_range side total rows r small lawful =
+      let reached = reached_reachable m side (row_at rows) lawful.state lawful.reached in
+      let key = game.key_high lawful.state reached in
+      let some = game.other_moves side lawful.state reached lawful.step.goes_on in
+      let few = game.moves_high side lawful.state reached in let width = game.width_high in
+      let one_each = lawful.step.one_each in let is_key = lawful.is_key in let sums = lawful.step.sums in record {
+        key = omega arith;
+        bound = abs_small r.bound (scaled_low r.bound lawful.low) (scaled_high r.bound lawful.high);
+        moves = (omega arith, omega arith);
+        weights = All-from_recursion (λ w. w ≤ 1048576) r.weights (parts_small r.weights 1048576 (omega arith));
+      }
+
+  pub sheet_in_range : (sheet : Sheet) → IsLawful m sheet → sheet.total ≤ 1048576 → length sheet.rows ≤ 1048576 → IsSheetInRange sheet.side sheet.total sheet
+  sheet_in_range sheet lawful small few = record {
+    side_is = refl;
+    total_is = refl;
+    few = few;
+    rows = All-weaker (IsLawfulRow m sheet.side sheet.total sheet.rows) IsRowInRange (λ r. row_in_range sheet.side sheet.total sheet.rows r small) sheet.rows lawful.rows;
+    rising = lawful.rising;
+  }

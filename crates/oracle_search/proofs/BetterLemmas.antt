@@ -71,11 +71,16 @@ pub serial_met : {S G N : Type 0} (m : GameModel S) (game : IsGame m) (s : S) (v
 serial_met m game s v r both same One = subst (λ (x : ℤ). serial_bound m One s ≤ℤ x) (sym same) (backed_meet m game s (serial_bound m One s) (v.seen Two (m.key s)) r (serial_backed m game One s r) both.upper_backed)
 serial_met m game s v r both same Two = subst (λ (x : ℤ). x ≤ℤ serial_bound m Two s) same (backed_meet m game s (v.seen One (m.key s)) (serial_bound m Two s) r both.lower_backed (serial_backed m game Two s r))
 
-pub serial_closed : {S G N : Type 0} (m : GameModel S) (game : IsGame m) (s : S) (v : BoardView G N) (gap : ℤ) → Reachable m s → IsEnclosure m (v.seen One (m.key s)) (v.seen Two (m.key s)) s
-    → gap ≡ v.seen Two (m.key s) -ℤ v.seen One (m.key s) → of_z w64 gap ≡ 0 → IsPureTight m s v
-serial_closed m game s v gap r both is none =
+-- a gap read as none
+pub gap_closed : {S G N : Type 0} (m : GameModel S) (game : IsGame m) (s : S) (v : BoardView G N) (gap : ℤ) → IsEnclosure m (v.seen One (m.key s)) (v.seen Two (m.key s)) s
+    → gap ≡ v.seen Two (m.key s) -ℤ v.seen One (m.key s) → of_z w64 gap ≡ 0 → v.seen One (m.key s) ≡ v.seen Two (m.key s)
+gap_closed m game s v gap both is none =
     let a = game.low_least in let b = game.high_most in
     let c = both.lower_low in let d = both.lower_high in let e = both.upper_low in let f = both.upper_high in
     let fits : SFits w64 gap = rw is (omega (arith, ints)) in
     let zero : gap ≡ pos 0 = sym (to_z-of_z w64 gap fits) ∙ ap (to_z w64) none in
-    serial_met m game s v r both (omega (arith, ints))
+    omega (arith, ints)
+
+pub serial_closed : {S G N : Type 0} (m : GameModel S) (game : IsGame m) (s : S) (v : BoardView G N) (gap : ℤ) → Reachable m s → IsEnclosure m (v.seen One (m.key s)) (v.seen Two (m.key s)) s
+    → gap ≡ v.seen Two (m.key s) -ℤ v.seen One (m.key s) → of_z w64 gap ≡ 0 → IsPureTight m s v
+serial_closed m game s v gap r both is none = serial_met m game s v r both (gap_closed m game s v gap both is none)

@@ -1,2 +1,3 @@
 pub mod BetterLemmas
+pub mod GrowLemmas
 pub mod WorkLemmas

@@ -6,7 +6,7 @@ use Rattle.sim_game.specs.declared.Side.TheVariants.{One, Two}
 use Rattle.sim_game.specs.Model.{GameModel}
 use Rattle.sim_game.proofs.SideLemmas.{looser_trans}
 use Rattle.plan_book.specs.Serial.{serial_bound}
-use Rattle.matrix_game.specs.Budget.{Budget}
+use Rattle.matrix_game.specs.Budget.{Budget, left_of}
 use Rattle.bounds_board.specs.Views.{BoardView, IsLater, WasFull}
 use Rattle.bounds_board.proofs.FullLemmas.{full_later}
 use Rattle.serial_ab.specs.Counts.{VisitsView}
@@ -21,10 +21,12 @@ pub visited_after : (u v w : VisitsView) → HasVisited u v → HasVisited v w �
 visited_after u v w p q = record { limit = q.limit ∙ p.limit; rises = λ side. omega (arith, p.rises side, q.rises side) }
 
 pub turned_none : (t : Budget) → HasTurned t t
-turned_none t = record { limit = refl; rises = omega arith }
+turned_none t = record { limit = refl; rises = omega arith; none = λ _. refl }
 
 pub turned_after : (t u v : Budget) → HasTurned t u → HasTurned u v → HasTurned t v
-turned_after t u v p q = record { limit = q.limit ∙ p.limit; rises = omega (arith, p.rises, q.rises) }
+turned_after t u v p q =
+    let left : left_of t ≡ 0 → left_of u ≡ 0 = λ e. let same = p.none e in let limit = p.limit in omega arith in
+    record { limit = q.limit ∙ p.limit; rises = omega (arith, p.rises, q.rises); none = λ e. q.none (left e) ∙ p.none e }
 
 module _ {S G N : Type 0} (m : GameModel S) where
   -- ---- numbers only come closer
@@ -71,7 +73,7 @@ module _ {S G N : Type 0} (m : GameModel S) where
   extended_none : (total limit : ℕ) (v : BoardView G N) (old new : FinishedView) → new.keys ≡ old.keys → (old.was_full ≡ true → new.was_full ≡ true) → IsExtended m total v limit old new
   extended_none total limit v old new same full = record { more = []; joins = same ∙ sym (append-nil old.keys); each = All-nil (IsFinished m total v limit); full = full }
 
-  extended_after : (total a b c : ℕ) (v w : BoardView G N) (x y z : FinishedView) → IsLater v w → a ≤ c → b ≤ c → IsExtended m total v a x y → IsExtended m total w b y z → IsExtended m total w c x z
+  pub extended_after : (total a b c : ℕ) (v w : BoardView G N) (x y z : FinishedView) → IsLater v w → a ≤ c → b ≤ c → IsExtended m total v a x y → IsExtended m total w b y z → IsExtended m total w c x z
   extended_after total a b c v w x y z later wide wider p q = record {
     more = p.more ++ q.more;
     joins = q.joins ∙ ap (λ (l : List ℕ). l ++ q.more) p.joins ∙ append_assoc x.keys p.more q.more;

@@ -1,5 +1,5 @@
 -- What a search keeps, and how it ends.
-use Rattle.std.specs.Prelude.{◌≡◌, ◌⊎◌, ℕ, ◌+◌, ◌*◌, ◌≤◌, ℤ, true, length}
+use Rattle.std.specs.Prelude.{◌≡◌, ◌⊎◌, ℕ, ◌+◌, ◌*◌, ◌<◌, ◌≤◌, ℤ, true, false, Option, None, Some, length}
 use Rattle.sim_game.specs.declared.Side.{Side}
 use Rattle.sim_game.specs.Model.{GameModel}
 use Rattle.sim_game.specs.Sides.{IsNoTighter}
@@ -11,6 +11,8 @@ use Rattle.bounds_board.specs.Views.{BoardView, IsLater, WasFull}
 use Rattle.serial_ab.specs.Counts.{VisitsView, spent_on, left_on}
 use Rattle.oracle_search.specs.declared.ends.SearchEnd.{SearchEnd}
 use Rattle.oracle_search.specs.declared.ends.SearchEnd.TheVariants.{Reached, Settled, Spent, Full}
+use Rattle.oracle_search.specs.declared.ends.Stop.{Stop}
+use Rattle.oracle_search.specs.declared.ends.Stop.TheVariants as stops
 use Rattle.oracle_search.specs.Finished.{FinishedView, IsWithin, IsBeyond, IsClose, AreFinished, IsExtended}
 
 -- the board knows no less, and only lawful entries were posted
@@ -23,10 +25,11 @@ pub record HasVisited (old new : VisitsView) : Type 0 where
   pub limit : new.limit ≡ old.limit
   pub rises : (side : Side) → spent_on side old ≤ spent_on side new
 
--- turns were taken, with the same limit
+-- turns were taken, with the same limit, and none where none was left
 pub record HasTurned (old new : Budget) : Type 0 where
   pub limit : new.limit ≡ old.limit
   pub rises : old.spent ≤ new.spent
+  pub none : left_of old ≡ 0 → new.spent ≡ old.spent
 
 -- what a worker works on
 pub record WorkView (G N : Type 0) : Type 0 where
@@ -58,6 +61,10 @@ Ends m s target v Full = v.settled.was_full ≡ true
 abbrev pub TakesTurns : {G N : Type 0} → ℕ → WorkView G N → WorkView G N → Type 0
 TakesTurns states old new = new.turns.spent + 63 * length old.settled.keys ≤ old.turns.spent + 63 * (length new.settled.keys + states)
 
+-- as long as no claim was full: so many turns, or no turn is left and there were no more than for the most states
+abbrev pub HasTaken : {G N : Type 0} → ℕ → ℕ → WorkView G N → WorkView G N → Type 0
+HasTaken states most old new = new.settled.was_full ≡ false → TakesTurns states old new ⊎ ((left_of new.turns ≡ 0) × TakesTurns most old new)
+
 -- how many states a search that ended so may have taken turns at, itself included, that are not finished
 abbrev pub open_states : ℕ → SearchEnd → ℕ
 open_states rank Reached = 1
@@ -73,3 +80,35 @@ HasVisits m s visits = (side : Side) → tree_size m s ≤ left_on side visits
 -- the bounds seen at the state are as tight as pure plans can make them
 abbrev pub IsPureTight : {S G N : Type 0} → GameModel S → S → BoardView G N → Type 0
 IsPureTight m s v = (side : Side) → IsNoTighter side (serial_bound m side s) (v.seen side (m.key s))
+
+-- ---- the states after held moves
+-- why not all of them were finished
+abbrev pub IsStop : {G N : Type 0} → WorkView G N → Stop → Type 0
+IsStop v stops.Spent = left_of v.turns ≡ 0
+IsStop v stops.Full = v.settled.was_full ≡ true
+
+-- why the search of a state ends that of the states among which it is, if it does
+abbrev pub stop_of : SearchEnd → Option Stop
+stop_of Reached = None
+stop_of Settled = None
+stop_of Spent = Some stops.Spent
+stop_of Full = Some stops.Full
+
+-- an end, or its bounds are as close as its rank allows
+abbrev pub IsDone : {S G N : Type 0} → GameModel S → BoardView G N → S → Type 0
+IsDone m v s = 1 ≤ m.rank s → IsClose m v.total v s
+
+-- each state after a move of One and a move of Two is done
+abbrev pub AreDone : {S G N : Type 0} → GameModel S → BoardView G N → S → ℕ → ℕ → Type 0
+AreDone m v s one two = (draw : ℕ) → draw < m.draws s one two → IsDone m v (m.drawn s one two draw)
+
+abbrev pub open_after : ℕ → Option Stop → ℕ
+open_after states None = 0
+open_after states (Some stop) = states
+
+-- how a search ends that stopped: it is reached all the same where the bounds seen are within the target
+abbrev pub IsStoppedAs : {G N : Type 0} → BoardView G N → ℕ → ℤ → Stop → SearchEnd → Type 0
+IsStoppedAs v key target stop Reached = IsWithin v key target
+IsStoppedAs v key target stop Settled = ⊥
+IsStoppedAs v key target stop Spent = IsBeyond v key target × (stop ≡ stops.Spent)
+IsStoppedAs v key target stop Full = IsBeyond v key target × (stop ≡ stops.Full)

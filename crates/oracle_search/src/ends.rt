@@ -1,6 +1,7 @@
 //! How a search ends.
 
 ghost use Rattle.std.specs.Prelude.{◌≡◌, ◌≢◌, MatchBool};
+ghost use Rattle.oracle_search.specs.Searches.{stop_of};
 
 /// How a search ended.
 #[derive(Clone, Copy, PartialEq, Eq, Debug)]
@@ -24,4 +25,22 @@ impl SearchEnd {
             SearchEnd::Reached | SearchEnd::Settled | SearchEnd::Spent => false,
         }
     }
+
+    /// Why a search of the states after held moves stops at a state whose own search ended so.
+    pub(crate) fn stop(self) -> Option<Stop>
+        ensures { result ≡ stop_of self }
+    {
+        match self {
+            SearchEnd::Reached | SearchEnd::Settled => None,
+            SearchEnd::Spent => Some(Stop::Spent),
+            SearchEnd::Full => Some(Stop::Full),
+        }
+    }
+}
+
+/// Why the search of the states after held moves stopped before all were finished.
+#[derive(Clone, Copy, PartialEq, Eq, Debug)]
+pub(crate) enum Stop {
+    Spent,
+    Full,
 }

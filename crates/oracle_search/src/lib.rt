@@ -1,9 +1,12 @@
 //! The double-oracle search of one worker.
 #![tactic(auto)]
 
+mod children;
 mod ends;
 mod finished;
+mod gap;
 mod gate;
+mod growth;
 mod serial_bounds;
 mod state;
 

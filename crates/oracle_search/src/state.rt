@@ -1,17 +1,17 @@
 //! The search of a state.
 
-ghost use Rattle.std.specs.Prelude.{◌≡◌, ◌<◌, ◌≤◌, ◌≤ℤ◌, ◌+ℤ◌, ℤ, false, pos, Some, Ok, IfOk, MatchResult, ◌-ℤ◌};
+ghost use Rattle.std.specs.Prelude.{◌≡◌, ◌<◌, ◌≤◌, ◌≤ℤ◌, ◌+ℤ◌, ℤ, false, pos, Some, Ok, IfOk};
 ghost use Rattle.sim_game.specs.declared.Side.TheVariants.{One, Two};
 ghost use Rattle.sim_game.specs.Model.{Reachable};
 ghost use Rattle.plan_book.specs.Serial.{serial_bound};
-ghost use Rattle.matrix_game.specs.Budget.{left_of};
-ghost use Rattle.bounds_board.specs.Views.{IsLater, IsEnclosure};
 ghost use Rattle.oracle_search.specs.Finished.{AreFinished};
-ghost use Rattle.oracle_search.specs.Searches.{IsWorked, Ends, TakesTurns, open_states, at_work, HasVisits, IsPureTight};
+ghost use Rattle.oracle_search.specs.Searches.{IsWorked, Ends, HasTaken, open_states, at_work, HasVisits, IsPureTight};
 
-use crate::ends::SearchEnd;
+use crate::ends::{SearchEnd, Stop};
 use crate::finished::Settled;
+use crate::gap::{gap_at, is_within, stopped};
 use crate::gate::Gate;
+use crate::growth::grow;
 use crate::serial_bounds::bound_both;
 use bounds_board::{Bounds, Row};
 use matrix_game::Turns;
@@ -23,6 +23,7 @@ use std::alloc::Global;
 ///
 /// The double-oracle search of Bošanský et al. (2016): bounds by pure plans first, then a game on a few moves of each
 /// side that grows by best replies, with its children searched before each turn.
+#[cycle(search)]
 pub fn search<G: Game, B: Bounds<G>, T: Gate>(
     alloc: Global,
     g: G,
@@ -39,12 +40,9 @@ pub fn search<G: Game, B: Bounds<G>, T: Gate>(
     requires reachable { Reachable (G.model g) s }
     requires target { pos 0 ≤ℤ target }
     requires finished { AreFinished (G.model g) (B.view board.old).total (B.view board.old) settled.old.keys }
-    requires none_left { left_of turns.old ≡ 0 }
     ensures worked { IsWorked (G.model g) ((G.model g).rank s) (at_work (B.view board.old) turns.old visits.old settled.old) (at_work (B.view board.new) turns.new visits.new settled.new) }
     ensures ends { IfOk result (Ends (G.model g) s target (at_work (B.view board.new) turns.new visits.new settled.new)) }
-    ensures turns { MatchResult result
-        (λ end. TakesTurns (open_states ((G.model g).rank s) end) (at_work (B.view board.old) turns.old visits.old settled.old) (at_work (B.view board.new) turns.new visits.new settled.new))
-        (λ _. TakesTurns ((G.model g).rank s) (at_work (B.view board.old) turns.old visits.old settled.old) (at_work (B.view board.new) turns.new visits.new settled.new)) }
+    ensures turns { IfOk result (λ end. HasTaken (open_states ((G.model g).rank s) end) ((G.model g).rank s) (at_work (B.view board.old) turns.old visits.old settled.old) (at_work (B.view board.new) turns.new visits.new settled.new)) }
 
     // With visits for the whole tree, and no full board.
     ensures pure { HasVisits (G.model g) s visits.old → settled.new.was_full ≡ false → IfOk result (λ _. 1 ≤ (G.model g).rank s → IsPureTight (G.model g) s (B.view board.new)) }
@@ -66,6 +64,7 @@ pub fn search<G: Game, B: Bounds<G>, T: Gate>(
 }
 
 /// Bounds a state that has a row.
+#[cycle(search)]
 fn search_row<G: Game, B: Bounds<G>, T: Gate>(
     alloc: Global,
     g: G,
@@ -85,12 +84,9 @@ fn search_row<G: Game, B: Bounds<G>, T: Gate>(
     requires row { (B.view board.old).key_at row ≡ Some ((G.model g).key s) }
     requires target { pos 0 ≤ℤ target }
     requires finished { AreFinished (G.model g) (B.view board.old).total (B.view board.old) settled.old.keys }
-    requires none_left { left_of turns.old ≡ 0 }
     ensures worked { IsWorked (G.model g) ((G.model g).rank s) (at_work (B.view board.old) turns.old visits.old settled.old) (at_work (B.view board.new) turns.new visits.new settled.new) }
     ensures ends { IfOk result (Ends (G.model g) s target (at_work (B.view board.new) turns.new visits.new settled.new)) }
-    ensures turns { MatchResult result
-        (λ end. TakesTurns (open_states ((G.model g).rank s) end) (at_work (B.view board.old) turns.old visits.old settled.old) (at_work (B.view board.new) turns.new visits.new settled.new))
-        (λ _. TakesTurns ((G.model g).rank s) (at_work (B.view board.old) turns.old visits.old settled.old) (at_work (B.view board.new) turns.new visits.new settled.new)) }
+    ensures turns { IfOk result (λ end. HasTaken (open_states ((G.model g).rank s) end) ((G.model g).rank s) (at_work (B.view board.old) turns.old visits.old settled.old) (at_work (B.view board.new) turns.new visits.new settled.new)) }
     ensures pure { HasVisits (G.model g) s visits.old → settled.new.was_full ≡ false → IfOk result (λ _. IsPureTight (G.model g) s (B.view board.new)) }
     ensures at_once { HasVisits (G.model g) s visits.old → settled.new.was_full ≡ false → serial_bound (G.model g) Two s ≤ℤ (serial_bound (G.model g) One s +ℤ target)
         → IfOk result (λ end. (end ≡ SearchEnd.Reached) × (turns.new ≡ turns.old)) }
@@ -100,32 +96,17 @@ fn search_row<G: Game, B: Bounds<G>, T: Gate>(
     }
     match bound_both(alloc, g, s, row, visits, board) {
         Ok(false) => {
-            if gap_at(g, s, row, board) <= target {
+            if is_within(g, s, row, target, board) {
                 return Ok(SearchEnd::Reached);
             }
-            Ok(SearchEnd::Spent)
+            grow(
+                alloc, g, s, row, target, worker, gate, turns, visits, settled, board,
+            )
         }
         Ok(true) => {
             settled.note_full();
-            if gap_at(g, s, row, board) <= target {
-                return Ok(SearchEnd::Reached);
-            }
-            Ok(SearchEnd::Full)
+            Ok(stopped(g, s, row, target, Stop::Full, board))
         }
         Err(_) => Err(NoMemory),
     }
-}
-
-/// How far the bounds at the state are apart, read anew.
-fn gap_at<G: Game, B: Bounds<G>>(g: G, s: G::State, row: Row, board: &mut B) -> i64
-    requires game { (B.view board.old).game ≡ g }
-    requires reachable { Reachable (G.model g) s }
-    requires row { (B.view board.old).key_at row ≡ Some ((G.model g).key s) }
-    ensures later { IsLater (B.view board.old) (B.view board.new) }
-    ensures entries { (B.view board.new).entries ≡ (B.view board.old).entries }
-    ensures gap { result ≡ (B.view board.new).seen Two ((G.model g).key s) -ℤ (B.view board.new).seen One ((G.model g).key s) }
-    ensures enclosed { IsEnclosure (G.model g) ((B.view board.new).seen One ((G.model g).key s)) ((B.view board.new).seen Two ((G.model g).key s)) s }
-{
-    let enclosure = board.read(row);
-    enclosure.upper - enclosure.lower
 }

@@ -1,5 +1,5 @@
 use Rattle.oracle_search.proofs.BetterLemmas.{gap_read}
-use Rattle.oracle_search.proofs.state.gap_at.Goals as goal
+use Rattle.oracle_search.proofs.gap.gap_at.Goals as goal
 
 pub returns-clause-gap : goal.returns-clause-gap
 returns-clause-gap g c =

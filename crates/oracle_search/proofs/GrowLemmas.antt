@@ -1,0 +1,363 @@
+-- Searches of the states after held moves, one after another.
+use Rattle.std.proofs.Common.{◌≡◌, ◌⊎◌, inl, inr, ⊎_elim, ℕ, ◌+◌, ◌-◌, ◌*◌, ◌<◌, ◌≤◌, ℤ, pos, Bool, true, false, cond, List, [], ◌∷◌, ◌++◌, length, get_or, slice_index, Some, None, Contains, refl, sym, ap, subst, ◌∙◌, arith}
+use Rattle.std.proofs.lemmas.Int.{ints}
+use Rattle.std.proofs.lemmas.Bool.{cases_lt}
+use Rattle.std.proofs.lemmas.List.{length-append, get_or_append_left, get_or-append_right}
+use Rattle.std.proofs.lemmas.List.Elements.{All-contains, All-from_get_or, All-nil, All-push, Contains-get_or, Contains-append_cases}
+use Rattle.sim_game.specs.declared.Side.TheVariants.{One, Two}
+use Rattle.sim_game.specs.Model.{GameModel, IsGame, IsTurn, Reachable}
+use Rattle.sim_game.specs.Resolution.{IsStageGap}
+use Rattle.plan_book.specs.Books.{Grows}
+use Rattle.plan_book.specs.Entries.{IsLawfulEntry}
+use Rattle.matrix_game.specs.Budget.{Budget, left_of, after_turn}
+use Rattle.bounds_board.specs.Views.{BoardView, IsLater, WasFull}
+use Rattle.bounds_board.proofs.ViewLemmas.{later_refl, later_trans}
+use Rattle.restricted_game.specs.declared.held.StepEnd.{StepEnd}
+use Rattle.restricted_game.specs.declared.held.StepEnd.TheVariants.{Grown, Done}
+use Rattle.restricted_game.specs.Held.{HeldMoves, count_held, held_after}
+use Rattle.restricted_game.specs.Gaps.{AreClose, HasStepGap}
+use Rattle.oracle_search.specs.Finished.{FinishedView, IsWithin, IsClose, IsFinished, AreFinished, AreApart, IsExtended, rank_gap}
+use Rattle.oracle_search.specs.declared.ends.SearchEnd.{SearchEnd}
+use Rattle.oracle_search.specs.declared.ends.SearchEnd.TheVariants.{Reached, Settled, Spent, Full}
+use Rattle.oracle_search.specs.declared.ends.Stop.{Stop}
+use Rattle.oracle_search.specs.declared.ends.Stop.TheVariants as stops
+use Rattle.oracle_search.specs.Searches.{WorkView, IsBetter, IsWorked, HasVisited, HasTurned, TakesTurns, HasTaken, Ends, open_states, IsStop, stop_of, IsStoppedAs, IsDone, AreDone}
+use Rattle.serial_ab.proofs.KeptLemmas.{grows_none}
+use Rattle.oracle_search.proofs.BetterLemmas.{better_quiet}
+use Rattle.std.proofs.Math.Nat.{mul-le-mul_right}
+use Rattle.oracle_search.proofs.WorkLemmas.{visited_none, turned_none, worked_by, worked_none, worked_after, within_later, extended_after}
+
+-- what was kept, that no turn was taken but at states that were finished, and what is done
+pub record IsPassed {S G N : Type 0} (m : GameModel S) (limit : ℕ) (old new : WorkView G N) (Known : Type 0) : Type 0 where
+  pub worked : IsWorked m limit old new
+  pub turns : HasTaken 0 (limit - 1) old new
+  pub done : Known
+
+-- turns of one state, with a turn left over for each move that may still be added
+abbrev pub TakesGrowing : {G N : Type 0} → ℕ → HeldMoves → WorkView G N → WorkView G N → Type 0
+TakesGrowing most held old new = new.settled.was_full ≡ false → (new.turns.spent + 63 * length old.settled.keys + 2 ≤ old.turns.spent + 63 * length new.settled.keys + count_held held) ⊎ ((left_of new.turns ≡ 0) × TakesTurns most old new)
+
+-- a restricted game that grows
+pub record IsGrowing {S G N : Type 0} (m : GameModel S) (s : S) (old new : WorkView G N) (held : HeldMoves) : Type 0 where
+  pub worked : IsWorked m (m.rank s) old new
+  pub turns : TakesGrowing (m.rank s) held old new
+  pub few : count_held held ≤ 64
+  pub rows : held.most_rows ≡ m.moves One s
+  pub cols : held.most_cols ≡ m.moves Two s
+
+not_before : (a b : Bool) → (a ≡ true → b ≡ true) → b ≡ false → a ≡ false
+not_before false b f e = refl
+not_before true b f e = let wrong : true ≡ false = sym (f refl) ∙ e in absurd (cc)
+
+below_next : (i n : ℕ) → i < n + 1 → (i < n) ⊎ (i ≡ n)
+below_next i n l = ⊎_elim (λ (a : i < n). inl a) (λ (b : n ≤ i). inr (omega arith)) (cases_lt i n)
+
+-- what is done for all before, and for one more
+pub each_more : (P : ℕ → Type 0) (n : ℕ) → ((i : ℕ) → i < n → P i) → P n → (i : ℕ) → i < n + 1 → P i
+each_more P n before last i l = ⊎_elim (λ (a : i < n). before i a) (λ (b : i ≡ n). subst P (sym b) last) (below_next i n l)
+
+-- what holds of each element by its place holds of those that the list contains
+pub contained : (P : ℕ → Type 0) (xs : List ℕ) → ((i : ℕ) → i < length xs → P (slice_index xs i)) → (x : ℕ) → Contains xs x → P x
+contained P xs each x has = All-contains P xs x (All-from_get_or P xs 0 each) has
+
+one_rank : (r k : ℕ) → 1 ≤ r → (r - 1) * k + k ≡ r * k
+one_rank r k some = let is : r ≡ (r - 1) + 1 = omega arith in let more : ((r - 1) + 1) * k ≡ (r - 1) * k + k = omega arith in sym (ap (λ (n : ℕ). n * k) is ∙ more)
+
+module _ {G N : Type 0} where
+  pub taken_none : (most : ℕ) (v : WorkView G N) → HasTaken 0 most v v
+  taken_none most v not = inl (omega arith)
+
+  pub taken_by : (states most : ℕ) (u v : WorkView G N) → TakesTurns states u v → HasTaken states most u v
+  taken_by states most u v takes not = inl takes
+
+module _ {S G N : Type 0} (m : GameModel S) where
+  longer : (total limit : ℕ) (v : BoardView G N) (x y : FinishedView) → IsExtended m total v limit x y → length x.keys ≤ length y.keys
+  longer total limit v x y more = rw (more.joins, length-append x.keys more.more) (omega arith)
+
+  pub taken_after : (limit states other most : ℕ) (u v w : WorkView G N) → IsWorked m limit v w → other ≤ most → HasTaken 0 most u v → HasTaken states other v w → HasTaken states most u w
+  taken_after limit states other most u v w worked few p q not =
+      let more = longer w.board.total limit w.board v.settled w.settled worked.settled in
+      let left : left_of v.turns ≡ 0 → left_of w.turns ≡ 0 = λ e. let same = worked.turns.none e in let same_limit = worked.turns.limit in omega arith in
+      ⊎_elim
+      (λ (a : TakesTurns 0 u v). ⊎_elim
+      (λ (b : TakesTurns states v w). inl (omega arith))
+      (λ (b : (left_of w.turns ≡ 0) × TakesTurns other v w). let b1 = b.1 in inr (b.0, omega arith))
+      (q not))
+      (λ (a : (left_of v.turns ≡ 0) × TakesTurns most u v). let a1 = a.1 in let same = worked.turns.none a.0 in inr (left a.0, omega arith))
+      (p (not_before v.settled.was_full w.settled.was_full worked.settled.full not))
+
+  -- ---- what is done stays done
+  pub done_later : (s : S) (v w : BoardView G N) → IsLater v w → IsDone m v s → IsDone m w s
+  done_later s v w later done goes_on stage is = within_later m v w (m.key s) (pos (rank_gap m stage (m.rank s))) later (done goes_on stage (subst (λ (total : ℕ). IsStageGap m total stage) later.total is))
+
+  pub are_done_later : (s : S) (one two : ℕ) (v w : BoardView G N) → IsLater v w → AreDone m v s one two → AreDone m w s one two
+  are_done_later s one two v w later done draw l = done_later (m.drawn s one two draw) v w later (done draw l)
+
+  -- bounds that meet, or that a search of the state brought together
+  pub done_within : (s : S) (v : BoardView G N) → IsWithin v (m.key s) (pos 0) → IsDone m v s
+  done_within s v within goes_on stage is = omega (arith, ints)
+
+  -- ---- one part after another
+  pub passed_none : (limit : ℕ) (v : WorkView G N) (Known : Type 0) → AreFinished m v.board.total v.board v.settled.keys → Known → IsPassed m limit v v Known
+  passed_none limit v Known finished done = record { worked = worked_none m limit v finished; turns = taken_none (limit - 1) v; done = done }
+
+  pub passed_after : (limit other : ℕ) (u v w : WorkView G N) (Known More : Type 0) → other ≤ limit → IsPassed m limit u v Known → IsWorked m other v w → HasTaken 0 (other - 1) v w → (IsLater v.board w.board → Known → More) → IsPassed m limit u w More
+  passed_after limit other u v w Known More few p worked taken more = record {
+    worked = worked_after m limit other limit u v w (omega arith) few p.worked worked;
+    turns = taken_after other 0 (other - 1) (limit - 1) u v w worked (omega arith) p.turns taken;
+    done = more worked.board.later p.done;
+  }
+
+  -- the part that stops
+  pub stopped_worked : (limit other : ℕ) (u v w : WorkView G N) (Known : Type 0) → other ≤ limit → IsPassed m limit u v Known → IsWorked m other v w → IsWorked m limit u w
+  stopped_worked limit other u v w Known few p worked = worked_after m limit other limit u v w (omega arith) few p.worked worked
+
+  pub stopped_taken : (limit other : ℕ) (u v w : WorkView G N) (Known : Type 0) → other ≤ limit → IsPassed m limit u v Known → IsWorked m other v w → HasTaken (other - 1) (other - 1) v w → HasTaken (limit - 1) (limit - 1) u w
+  stopped_taken limit other u v w Known few p worked taken not = ⊎_elim
+      (λ (a : TakesTurns (other - 1) u w). inl (omega arith))
+      (λ (b : (left_of w.turns ≡ 0) × TakesTurns (limit - 1) u w). inr b)
+      (taken_after other (other - 1) (other - 1) (limit - 1) u v w worked (omega arith) p.turns taken not)
+
+  -- ---- the states that were finished
+  module _ (game : IsGame m) (s : S) (r : Reachable m s) where
+    pub done_finished : (total : ℕ) (v : BoardView G N) (keys : List ℕ) → total ≡ v.total → AreFinished m total v keys → Contains keys (m.key s) → IsDone m v s
+    done_finished total v keys is_total finished has goes_on stage is =
+        let it : IsFinished m total v 32 (m.key s) = All-contains (IsFinished m total v 32) keys (m.key s) finished.each has in
+        let same : it.state ≡ s = game.same_key it.state s it.reachable r it.is_key in
+        subst (λ (t : S). IsWithin v (m.key t) (pos (rank_gap m stage (m.rank t)))) same (it.close stage (subst (λ (n : ℕ). IsStageGap m n stage) (sym is_total) is))
+
+    -- a search below a state does not finish the state
+    pub not_again : (total : ℕ) (v : BoardView G N) (x y : FinishedView) → IsExtended m total v (m.rank s) x y → (Contains x.keys (m.key s) → ⊥) → Contains y.keys (m.key s) → ⊥
+    not_again total v x y more not has = ⊎_elim
+        (λ (a : Contains x.keys (m.key s)). not a)
+        (λ (b : Contains more.more (m.key s)).
+        let it : IsFinished m total v (m.rank s) (m.key s) = All-contains (IsFinished m total v (m.rank s)) more.more (m.key s) more.each b in
+        let same = ap m.rank (game.same_key it.state s it.reachable r it.is_key) in let below = it.below in absurd (omega arith))
+        (Contains-append_cases x.keys more.more (m.key s) (subst (λ (keys : List ℕ). Contains keys (m.key s)) more.joins has))
+
+apart_more : (keys : List ℕ) (key : ℕ) → AreApart keys → (Contains keys key → ⊥) → AreApart (keys ++ key ∷ [])
+apart_more keys key apart not i j l h same =
+    let length_is = length-append keys (key ∷ []) in
+    let low : i < length keys = omega arith in
+    let first : get_or (keys ++ key ∷ []) i 0 ≡ get_or keys i 0 = get_or_append_left keys (key ∷ []) 0 i low in
+    ⊎_elim
+    (λ (a : j < length keys). apart i j l a (sym first ∙ same ∙ get_or_append_left keys (key ∷ []) 0 j a))
+    (λ (b : length keys ≤ j).
+    let last : get_or (keys ++ key ∷ []) j 0 ≡ get_or (key ∷ []) (j - length keys) 0 = get_or-append_right keys (key ∷ []) (length keys) j 0 refl b in
+    let none : j - length keys ≡ 0 = omega arith in
+    let is : get_or keys i 0 ≡ key = sym first ∙ same ∙ last ∙ ap (λ (n : ℕ). get_or (key ∷ []) n 0) none in
+    not (subst (Contains keys) is (Contains-get_or keys i 0 low)))
+    (cases_lt j (length keys))
+
+module _ {S G N : Type 0} (m : GameModel S) (game : IsGame m) (s : S) (r : Reachable m s) (goes_on : 1 ≤ m.rank s) where
+  finished_now : (total limit : ℕ) (v : BoardView G N) → m.rank s < limit → IsClose m total v s → IsFinished m total v limit (m.key s)
+  finished_now total limit v below close = record { state = s; reachable = r; goes_on = goes_on; below = below; is_key = refl; close = close }
+
+  -- a search that finished its state, whose key was added
+  pub added_worked : (u v : WorkView G N) (new : FinishedView) → IsWorked m (m.rank s) u v → new ≡ record v.settled { keys = v.settled.keys ++ m.key s ∷ [] }
+      → (Contains v.settled.keys (m.key s) → ⊥) → IsClose m v.board.total v.board s → IsWorked m (m.rank s + 1) u (record v { settled = new })
+  added_worked u v new worked is not close =
+      let key = m.key s in
+      let total = v.board.total in
+      let keys : new.keys ≡ v.settled.keys ++ key ∷ [] = ap (λ (f : FinishedView). f.keys) is in
+      let high = game.rank_high s r in
+      let more : IsExtended m total v.board (m.rank s + 1) v.settled new = record {
+        more = key ∷ [];
+        joins = keys;
+        each = All-push (IsFinished m total v.board (m.rank s + 1)) [] key (All-nil (IsFinished m total v.board (m.rank s + 1))) (finished_now total (m.rank s + 1) v.board (omega arith) close);
+        full = λ e. ap (λ (f : FinishedView). f.was_full) is ∙ e;
+      } in
+      record {
+        board = worked.board;
+        turns = worked.turns;
+        visits = worked.visits;
+        settled = extended_after m total (m.rank s) (m.rank s + 1) (m.rank s + 1) v.board v.board u.settled v.settled new (later_refl v.board) (omega arith) (omega arith) worked.settled more;
+        finished = subst (λ (l : List ℕ). AreFinished m total v.board l) (sym keys) (record {
+          each = All-push (IsFinished m total v.board 32) v.settled.keys key worked.finished.each (finished_now total 32 v.board (omega arith) close);
+          apart = apart_more v.settled.keys key worked.finished.apart not;
+        });
+        cause = λ e. worked.cause (sym (ap (λ (f : FinishedView). f.was_full) is) ∙ e);
+      }
+
+  pub added_taken : (u v : WorkView G N) (new : FinishedView) → new ≡ record v.settled { keys = v.settled.keys ++ m.key s ∷ [] } → HasTaken 1 (m.rank s) u v → HasTaken 0 (m.rank s) u (record v { settled = new })
+  added_taken u v new is takes not =
+      let keys : new.keys ≡ v.settled.keys ++ m.key s ∷ [] = ap (λ (f : FinishedView). f.keys) is in
+      let count : length new.keys ≡ length v.settled.keys + 1 = ap length keys ∙ length-append v.settled.keys (m.key s ∷ []) in
+      ⊎_elim
+      (λ (a : TakesTurns 1 u v). inl (omega arith))
+      (λ (b : (left_of v.turns ≡ 0) × TakesTurns (m.rank s) u v). let b1 = b.1 in inr (b.0, omega arith))
+      (takes (sym (ap (λ (f : FinishedView). f.was_full) is) ∙ not))
+
+-- ---- the parts of a search that finish no state
+module _ {S G N : Type 0} (m : GameModel S) (limit : ℕ) (v : WorkView G N) (finished : AreFinished m v.board.total v.board v.settled.keys) where
+  pub worked_step : (board : BoardView G N) (turns : Budget) → IsLater v.board board → Grows (IsLawfulEntry m v.board.total) v.board.entries board.entries → HasTurned v.turns turns
+      → IsWorked m limit v (record v { board = board; turns = turns })
+  worked_step board turns later posted turned = worked_by m limit v (record v { board = board; turns = turns }) (record { later = later; posted = posted }) turned (visited_none v.visits) refl (λ e. e) finished (λ e. inl e)
+
+  pub worked_quiet : (board : BoardView G N) → IsLater v.board board → board.entries ≡ v.board.entries → IsWorked m limit v (record v { board = board })
+  worked_quiet board later same = worked_step board v.turns later (grows_none (IsLawfulEntry m v.board.total) v.board.entries board.entries same) (turned_none v.turns)
+
+  pub worked_twice : (x y : BoardView G N) → IsLater v.board x → x.entries ≡ v.board.entries → IsLater x y → y.entries ≡ x.entries → IsWorked m limit v (record v { board = y })
+  worked_twice x y later same next next_same = worked_quiet y (later_trans v.board x y later next) (next_same ∙ same)
+
+  -- a claim that was full
+  pub worked_full : (board : BoardView G N) (settled : FinishedView) → IsLater v.board board → board.entries ≡ v.board.entries → settled ≡ record v.settled { was_full = true } → WasFull m board
+      → IsWorked m limit v (record v { board = board; settled = settled })
+  worked_full board settled later same is was = worked_by m limit v (record v { board = board; settled = settled }) (better_quiet m v.board.total v.board board later same) (turned_none v.turns) (visited_none v.visits)
+      (ap (λ (f : FinishedView). f.keys) is) (λ _. ap (λ (f : FinishedView). f.was_full) is) finished (λ _. inr was)
+
+-- a part that bounds a state, after another
+pub bounded_worked : {S G N : Type 0} (m : GameModel S) (limit : ℕ) (u b d : WorkView G N) → IsWorked m limit u b → IsBetter m b.board.total b.board d.board → d.turns ≡ b.turns → HasVisited b.visits d.visits → d.settled ≡ b.settled → IsWorked m limit u d
+bounded_worked m limit u b d p better turns visited settled = worked_after m limit limit limit u b d (omega arith) (omega arith) p
+    (worked_by m limit b d better (subst (λ (t : Budget). HasTurned b.turns t) (sym turns) (turned_none b.turns)) visited (ap (λ (f : FinishedView). f.keys) settled) (λ e. ap (λ (f : FinishedView). f.was_full) settled ∙ e) p.finished
+    (λ e. inl (sym (ap (λ (f : FinishedView). f.was_full) settled) ∙ e)))
+
+pub step_turned : (old new : Budget) → (left_of old ≡ 0 → new ≡ old) → (new ≡ old) ⊎ (new ≡ after_turn old) → HasTurned old new
+step_turned old new none one = ⊎_elim
+    (λ (a : new ≡ old). rw a (turned_none old))
+    (λ (b : new ≡ after_turn old).
+    let limit : new.limit ≡ old.limit = ap (λ (t : Budget). t.limit) b in
+    let spent : new.spent ≡ old.spent + 1 = ap (λ (t : Budget). t.spent) b in
+    record { limit = limit; rises = omega arith; none = λ e. ap (λ (t : Budget). t.spent) (none e) })
+    one
+
+-- ---- how the search of one of the states ended
+module _ {S G N : Type 0} (m : GameModel S) (s : S) where
+  pub ended_close : (v : WorkView G N) (end : SearchEnd) → 1 ≤ m.rank s → stop_of end ≡ None → Ends m s (pos 0) v end → IsClose m v.board.total v.board s
+  ended_close v Reached goes_on is ends stage stage_is = done_within m s v.board (ends goes_on) goes_on stage stage_is
+  ended_close v Settled goes_on is ends stage stage_is = ends.2 stage stage_is
+  ended_close v Spent goes_on is ends stage stage_is = absurd (cc)
+  ended_close v Full goes_on is ends stage stage_is = absurd (cc)
+
+  pub ended_one : (rank : ℕ) (u v : WorkView G N) (end : SearchEnd) → stop_of end ≡ None → HasTaken (open_states rank end) rank u v → HasTaken 1 rank u v
+  ended_one rank u v Reached is taken = taken
+  ended_one rank u v Settled is taken = taken
+  ended_one rank u v Spent is taken = absurd (cc)
+  ended_one rank u v Full is taken = absurd (cc)
+
+  pub ended_stop : (v : WorkView G N) (end : SearchEnd) (target : ℤ) (stop : Stop) → stop_of end ≡ Some stop → Ends m s target v end → IsStop v stop
+  ended_stop v Reached target stop is ends = absurd (cc)
+  ended_stop v Settled target stop is ends = absurd (cc)
+  ended_stop v Spent target stop is ends = let same : stops.Spent ≡ stop = cc in subst (λ (x : Stop). IsStop v x) same ends.2
+  ended_stop v Full target stop is ends = let same : stops.Full ≡ stop = cc in subst (λ (x : Stop). IsStop v x) same ends
+
+  pub ended_open : (rank : ℕ) (u v : WorkView G N) (end : SearchEnd) (stop : Stop) → stop_of end ≡ Some stop → HasTaken (open_states rank end) rank u v → HasTaken rank rank u v
+  ended_open rank u v Reached stop is taken = absurd (cc)
+  ended_open rank u v Settled stop is taken = absurd (cc)
+  ended_open rank u v Spent stop is taken = taken
+  ended_open rank u v Full stop is taken = taken
+
+-- why a search stops does not hang on the board
+pub stop_kept : {G N : Type 0} (v w : WorkView G N) (stop : Stop) → w.turns ≡ v.turns → w.settled ≡ v.settled → IsStop v stop → IsStop w stop
+stop_kept v w stops.Spent turns settled is = ap left_of turns ∙ is
+stop_kept v w stops.Full turns settled is = ap (λ (f : FinishedView). f.was_full) settled ∙ is
+
+-- ---- a restricted game that grows
+pub after_rows : (h : HeldMoves) (end : StepEnd) → (held_after h end).most_rows ≡ h.most_rows
+after_rows h (Grown row col) = refl
+after_rows h (Done lower upper) = refl
+
+pub after_cols : (h : HeldMoves) (end : StepEnd) → (held_after h end).most_cols ≡ h.most_cols
+after_cols h (Grown row col) = refl
+after_cols h (Done lower upper) = refl
+
+module _ {S G N : Type 0} (m : GameModel S) (s : S) (goes_on : 1 ≤ m.rank s) where
+  pub growing_none : (v : WorkView G N) (held : HeldMoves) → AreFinished m v.board.total v.board v.settled.keys → count_held held ≡ 2 → held.most_rows ≡ m.moves One s → held.most_cols ≡ m.moves Two s → IsGrowing m s v v held
+  growing_none v held finished two rows cols = record { worked = worked_none m (m.rank s) v finished; turns = λ _. inl (omega arith); few = omega arith; rows = rows; cols = cols }
+
+  -- what a restricted game and the states after its moves took, wherever these stopped
+  pub growing_taken : (u v w : WorkView G N) (held : HeldMoves) → IsGrowing m s u v held → IsWorked m (m.rank s) v w → HasTaken (m.rank s - 1) (m.rank s - 1) v w → HasTaken (m.rank s) (m.rank s) u w
+  growing_taken u v w held g worked taken not =
+      let more = longer m w.board.total (m.rank s) w.board v.settled w.settled worked.settled in
+      let few = g.few in
+      ⊎_elim
+      (λ (a : v.turns.spent + 63 * length u.settled.keys + 2 ≤ u.turns.spent + 63 * length v.settled.keys + count_held held). ⊎_elim
+      (λ (b : TakesTurns (m.rank s - 1) v w). inl (omega arith))
+      (λ (b : (left_of w.turns ≡ 0) × TakesTurns (m.rank s - 1) v w). let b1 = b.1 in inl (omega arith))
+      (taken not))
+      (λ (a : (left_of v.turns ≡ 0) × TakesTurns (m.rank s) u v). let a1 = a.1 in let same = worked.turns.none a.0 in inl (omega arith))
+      (g.turns (not_before v.settled.was_full w.settled.was_full worked.settled.full not))
+
+  -- the states after held moves, all done
+  pub growing_passed : (u v w : WorkView G N) (held : HeldMoves) → IsGrowing m s u v held → IsWorked m (m.rank s) v w → HasTaken 0 (m.rank s - 1) v w → IsGrowing m s u w held
+  growing_passed u v w held g worked taken =
+      let more = longer m w.board.total (m.rank s) w.board v.settled w.settled worked.settled in
+      let few = g.few in
+      let left : left_of v.turns ≡ 0 → left_of w.turns ≡ 0 = λ e. let same = worked.turns.none e in let same_limit = worked.turns.limit in omega arith in
+      record {
+        worked = worked_after m (m.rank s) (m.rank s) (m.rank s) u v w (omega arith) (omega arith) g.worked worked;
+        turns = λ not. ⊎_elim
+            (λ (a : v.turns.spent + 63 * length u.settled.keys + 2 ≤ u.turns.spent + 63 * length v.settled.keys + count_held held). ⊎_elim
+            (λ (b : TakesTurns 0 v w). inl (omega arith))
+            (λ (b : (left_of w.turns ≡ 0) × TakesTurns (m.rank s - 1) v w). let b1 = b.1 in inr (b.0, omega arith))
+            (taken not))
+            (λ (a : (left_of v.turns ≡ 0) × TakesTurns (m.rank s) u v). let a1 = a.1 in let same = worked.turns.none a.0 in inr (left a.0, omega arith))
+            (g.turns (not_before v.settled.was_full w.settled.was_full worked.settled.full not));
+        few = g.few;
+        rows = g.rows;
+        cols = g.cols;
+      }
+
+  -- one turn, of a game that may grow no more
+  pub growing_turn : (u v w : WorkView G N) (held : HeldMoves) → IsGrowing m s u v held → (left_of v.turns ≡ 0 → ⊥) → w.turns ≡ after_turn v.turns → w.settled ≡ v.settled → HasTaken 1 (m.rank s) u w
+  growing_turn u v w held g some turn same not =
+      let spent : w.turns.spent ≡ v.turns.spent + 1 = ap (λ (t : Budget). t.spent) turn in
+      let keys : length w.settled.keys ≡ length v.settled.keys = ap (λ (f : FinishedView). length f.keys) same in
+      let few = g.few in
+      ⊎_elim
+      (λ (a : v.turns.spent + 63 * length u.settled.keys + 2 ≤ u.turns.spent + 63 * length v.settled.keys + count_held held). inl (omega arith))
+      (λ (a : (left_of v.turns ≡ 0) × TakesTurns (m.rank s) u v). absurd (some a.0))
+      (g.turns (sym (ap (λ (f : FinishedView). f.was_full) same) ∙ not))
+
+  -- one turn, with a move added
+  pub growing_more : (u v w : WorkView G N) (held new : HeldMoves) → IsGrowing m s u v held → (left_of v.turns ≡ 0 → ⊥) → IsWorked m (m.rank s) v w → w.turns ≡ after_turn v.turns → w.settled ≡ v.settled
+      → count_held held < count_held new → count_held new ≤ 64 → new.most_rows ≡ held.most_rows → new.most_cols ≡ held.most_cols → IsGrowing m s u w new
+  growing_more u v w held new g some worked turn same rises few rows cols =
+      let spent : w.turns.spent ≡ v.turns.spent + 1 = ap (λ (t : Budget). t.spent) turn in
+      let keys : length w.settled.keys ≡ length v.settled.keys = ap (λ (f : FinishedView). length f.keys) same in
+      record {
+        worked = worked_after m (m.rank s) (m.rank s) (m.rank s) u v w (omega arith) (omega arith) g.worked worked;
+        turns = λ not. ⊎_elim
+            (λ (a : v.turns.spent + 63 * length u.settled.keys + 2 ≤ u.turns.spent + 63 * length v.settled.keys + count_held held). inl (omega arith))
+            (λ (a : (left_of v.turns ≡ 0) × TakesTurns (m.rank s) u v). absurd (some a.0))
+            (g.turns (sym (ap (λ (f : FinishedView). f.was_full) same) ∙ not));
+        few = few;
+        rows = rows ∙ g.rows;
+        cols = cols ∙ g.cols;
+      }
+
+  -- ---- how a search ends that stopped
+  pub stopped_ends : (w : WorkView G N) (target : ℤ) (stop : Stop) (end : SearchEnd) → IsStop w stop → IsStoppedAs w.board (m.key s) target stop end → Ends m s target w end
+  stopped_ends w target stop Reached why is = λ _. is
+  stopped_ends w target stop Settled why is = absurd is
+  stopped_ends w target stop Spent why is = (goes_on, is.0, subst (λ (x : Stop). IsStop w x) is.1 why)
+  stopped_ends w target stop Full why is = subst (λ (x : Stop). IsStop w x) is.1 why
+
+  pub stopped_open : (u w : WorkView G N) (target : ℤ) (stop : Stop) (end : SearchEnd) → IsStop w stop → IsStoppedAs w.board (m.key s) target stop end → HasTaken (m.rank s) (m.rank s) u w → HasTaken (open_states (m.rank s) end) (m.rank s) u w
+  stopped_open u w target stops.Spent Reached why is taken = λ not. inr (why, ⊎_elim (λ (a : TakesTurns (m.rank s) u w). a) (λ (b : (left_of w.turns ≡ 0) × TakesTurns (m.rank s) u w). b.1) (taken not))
+  stopped_open u w target stops.Full Reached why is taken = λ not. let wrong : false ≡ true = sym not ∙ why in absurd (cc)
+  stopped_open u w target stop Settled why is taken = absurd is
+  stopped_open u w target stop Spent why is taken = taken
+  stopped_open u w target stop Full why is taken = taken
+
+  -- ---- how close the bounds are where no reply is fresh
+  pub close_after : (game : IsGame m) (r : Reachable m s) (v w : BoardView G N) (held : HeldMoves) (lower upper : ℤ) → w.total ≡ v.total
+      → ((one : ℕ) → Contains held.rows one → one < m.moves One s) → ((two : ℕ) → Contains held.cols two → two < m.moves Two s)
+      → ((one two : ℕ) → Contains held.rows one → Contains held.cols two → AreDone m v s one two)
+      → HasStepGap m v w s v.total held (Done lower upper) → IsClose m w.total w s
+  close_after game r v w held lower upper same rows cols done step stage is =
+      let each = stage + 1 + cond m.chance_free 0 1 in
+      let gap = rank_gap m stage (m.rank s - 1) in
+      let stage_of : IsStageGap m v.total stage = subst (λ (n : ℕ). IsStageGap m n stage) same is in
+      let close : AreClose m v s held gap = record {
+        close = λ one two draw in_rows in_cols l inner.
+            let child = m.drawn s one two draw in
+            let turn : IsTurn m s (record { one = one; two = two; draw = draw }) = record { one_below = rows one in_rows; two_below = cols two in_cols; draw_below = l } in
+            let falls : m.rank child < m.rank s = game.rank_falls s (record { one = one; two = two; draw = draw }) r turn in
+            let less : m.rank child * each ≤ (m.rank s - 1) * each = let low : m.rank child ≤ m.rank s - 1 = omega arith in mul-le-mul_right each low in
+            let within : IsWithin v (m.key child) (pos (rank_gap m stage (m.rank child))) = done one two in_rows in_cols draw l inner stage stage_of in
+            omega (arith, ints);
+      } in
+      let after = (step gap stage close stage_of).seen in
+      let sum : (m.rank s - 1) * each + each ≡ m.rank s * each = one_rank (m.rank s) each goes_on in
+      omega (arith, ints)

@@ -1,0 +1,87 @@
+-- How a step ends, and what is held then.
+use Rattle.std.proofs.Common.{◌≡◌, ◌⊎◌, ⊎_elim, ℕ, ◌<◌, ◌≤◌, ℤ, Bool, true, false, IsTrue, Option, None, Some, List, length, refl, sym, subst, arith}
+use Rattle.std.specs.Prelude.{IfSome, IsSome, is_some}
+use Rattle.std.specs.Bool.{then_some}
+use Rattle.std.specs.List.{Contains}
+use Rattle.std.proofs.lemmas.List.{length_push}
+use Rattle.sim_game.specs.declared.Side.{Side}
+use Rattle.sim_game.specs.declared.Side.TheVariants.{One, Two}
+use Rattle.sim_game.specs.Model.{GameModel, IsGame, Reachable}
+use Rattle.sim_game.specs.Sides.{other_side}
+use Rattle.bounds_board.specs.Views.{BoardView}
+use Rattle.restricted_game.specs.declared.held.StepEnd.TheVariants.{Grown, Done}
+use Rattle.restricted_game.specs.Gaps.{HasStepGap}
+use Rattle.restricted_game.specs.Held.{HeldMoves, AreMoves, IsHolding, count_held, with_move, held_after}
+use Rattle.restricted_game.specs.Runs.{IsPlan, IsStepRun}
+use Rattle.restricted_game.proofs.HeldLemmas.{moves_more, held_few}
+use Rattle.restricted_game.proofs.StageLemmas.{step_close}
+
+-- ---- a move that is not held
+abbrev IsNew : ℕ → List ℕ → ℕ → Type 0
+IsNew n moves move = (move < n) × (Contains moves move → ⊥)
+
+if_fresh : (fresh : Bool) (place : ℕ) (P : ℕ → Type 0) → (IsTrue fresh → P place) → IfSome (then_some fresh place) P
+if_fresh true place P h = h refl
+if_fresh false place P h = tt
+
+-- a fresh reply is a move that is not held
+fresh_new : {S : Type 0} (m : GameModel S) (side : Side) (s : S) (total : ℕ) (own others weights : List ℕ) (numbers : ℕ → ℕ → ℕ → ℤ) (plan : List ℕ) (bound : ℤ) (fresh : Option ℕ)
+    → IsPlan m side s total own others weights numbers plan bound fresh → IfSome fresh (IsNew (m.moves (other_side side) s) others)
+fresh_new m side s total own others weights numbers plan bound fresh planned =
+    let reply = planned.reply in
+    subst (λ (o : Option ℕ). IfSome o (IsNew (m.moves (other_side side) s) others)) (sym planned.fresh_is)
+    (if_fresh planned.is_fresh planned.place _ (λ t. (reply.place_in, λ held. reply.new t planned.place reply.place_in held (sym reply.worth))))
+
+with_held : (n : ℕ) (moves : List ℕ) (move : Option ℕ) → AreMoves n moves → IfSome move (IsNew n moves) → AreMoves n (with_move moves move)
+with_held n moves None held new = held
+with_held n moves (Some x) held new = moves_more n moves x held new.0 new.1
+
+new_room : (n room len : ℕ) (moves : List ℕ) (move : Option ℕ) → AreMoves n moves → IfSome move (IsNew n moves) → len ≡ length moves → n ≤ room → IfSome move (λ _. len < room)
+new_room n room len moves None held new e h = tt
+new_room n room len moves (Some x) held new e h = omega (arith, (moves_more n moves x held new.0 new.1).few, length_push moves x)
+
+with_length : (moves : List ℕ) (move : Option ℕ) → length moves ≤ length (with_move moves move)
+with_length moves None = omega arith
+with_length moves (Some x) = omega (arith, length_push moves x)
+
+with_longer : (moves : List ℕ) (move : Option ℕ) → IsSome move → length moves < length (with_move moves move)
+with_longer moves None h = absurd (cc)
+with_longer moves (Some x) h = omega (arith, length_push moves x)
+
+pub none_from : (move : Option ℕ) → is_some move ≡ false → move ≡ None
+none_from None e = refl
+none_from (Some x) e = absurd (cc)
+
+-- ---- the end
+module _ {S G N : Type 0} (m : GameModel S) (game : IsGame m) (u v : BoardView G N) (s : S) (reach : Reachable m s) (total : ℕ) (h : HeldMoves) (holding : IsHolding h) (is_rows : h.most_rows ≡ m.moves One s) (is_cols : h.most_cols ≡ m.moves Two s)
+    (row col : Option ℕ) (lower upper : ℤ) (run : IsStepRun m u v s total h.rows h.cols row col lower upper) where
+  new_row : IfSome row (IsNew h.most_rows h.rows)
+  new_row = subst (λ (n : ℕ). IfSome row (IsNew n h.rows)) (sym is_rows) (fresh_new m Two s total h.cols h.rows run.col_weights run.two.numbers run.two.plan upper row run.two.planned)
+
+  new_col : IfSome col (IsNew h.most_cols h.cols)
+  new_col = subst (λ (n : ℕ). IfSome col (IsNew n h.cols)) (sym is_cols) (fresh_new m One s total h.rows h.cols run.row_weights run.one.numbers run.one.plan lower col run.one.planned)
+
+  pub row_room : (room len : ℕ) → len ≡ length h.rows → h.most_rows ≤ room → IfSome row (λ _. len < room)
+  row_room room len = new_room h.most_rows room len h.rows row holding.rows new_row
+
+  pub col_room : (room len : ℕ) → len ≡ length h.cols → h.most_cols ≤ room → IfSome col (λ _. len < room)
+  col_room room len = new_room h.most_cols room len h.cols col holding.cols new_col
+
+  pub holding_after : IsHolding (held_after h (Grown row col))
+  holding_after = record {
+    rows = with_held h.most_rows h.rows row holding.rows new_row;
+    cols = with_held h.most_cols h.cols col holding.cols new_col;
+    few_rows = holding.few_rows;
+    few_cols = holding.few_cols;
+  }
+
+  pub has_grown : IsSome row ⊎ IsSome col → (count_held h < count_held (held_after h (Grown row col))) × (count_held (held_after h (Grown row col)) ≤ 64)
+  has_grown some = (
+    ⊎_elim (λ (r : IsSome row). omega (arith, with_longer h.rows row r, with_length h.cols col)) (λ (k : IsSome col). omega (arith, with_longer h.cols col k, with_length h.rows row)) some,
+    held_few (held_after h (Grown row col)) holding_after,
+  )
+
+pub end_gap : {S G N : Type 0} (m : GameModel S) (game : IsGame m) (u v : BoardView G N) (s : S) (reach : Reachable m s) (total : ℕ) (h : HeldMoves) (holding : IsHolding h) → h.most_rows ≡ m.moves One s → h.most_cols ≡ m.moves Two s → 8192 ≤ total
+    → (lower upper : ℤ) → IsStepRun m u v s total h.rows h.cols None None lower upper → HasStepGap m u v s total h (Done lower upper)
+end_gap m game u v s reach total h holding is_rows is_cols enough lower upper run = λ gap stage close is_gap.
+    step_close m game u v s reach total enough h lower upper run (subst (λ (n : ℕ). AreMoves n h.rows) is_rows holding.rows) (subst (λ (n : ℕ). AreMoves n h.cols) is_cols holding.cols) gap close stage is_gap

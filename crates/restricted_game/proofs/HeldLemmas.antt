@@ -1,0 +1,77 @@
+-- Held moves: one move, one move more, and how many there are.
+use Rattle.std.proofs.Common.{rules, ◌≡◌, ℕ, zero, suc, ◌+◌, ◌<◌, ◌≤◌, Bool, true, false, eqb, List, [], ◌∷◌, ◌++◌, length, refl, ap, arith, add-one, ◌*◌, ◌/◌, ◌%◌, slice_index, mod-lt}
+use Rattle.std.proofs.Math.Nat.{div-lt_iff_lt-mul}
+use Rattle.std.proofs.lemmas.Nat.{mul-add-lt}
+use Rattle.std.proofs.lemmas.Bool.{eqb-true}
+use Rattle.std.proofs.lemmas.List.{length_push}
+use Rattle.std.proofs.lemmas.List.Elements.{All-nil, All-cons, All-push, All-contains}
+use Rattle.std.proofs.lemmas.Map.Keys.{IsDistinct-push}
+use Rattle.std.proofs.lemmas.Map.Steps.{length-le_from_distinct_below}
+use Rattle.std.proofs.lemmas.Map.Views.{Contains-from_any}
+use Rattle.std.specs.Cmp.{nat_eq_equiv}
+use Rattle.std.specs.List.{Contains, IsDistinct, list_any}
+use Rattle.restricted_game.specs.declared.held.StepEnd.{StepEnd}
+use Rattle.restricted_game.specs.declared.held.StepEnd.TheVariants.{Grown, Done}
+use Rattle.restricted_game.specs.Held.{HeldMoves, AreMoves, IsHolding, count_held, HasGrown, IsGrown, AreSteps, FewSteps}
+
+alone : (x : ℕ) → IsDistinct eqb (x ∷ [])
+unfolding IsDistinct
+alone x = search rules
+
+pub one_move : (n x : ℕ) → x < n → AreMoves n (x ∷ [])
+one_move n x h = record {
+  some = omega arith;
+  within = All-cons (λ y. y < n) x [] h (All-nil (λ y. y < n));
+  apart = alone x;
+  few = omega arith;
+}
+
+no_other : (b : Bool) → (b ≡ true → ⊥) → b ≡ false
+no_other true h = absurd (h refl)
+no_other false h = refl
+
+-- a further move
+pub moves_more : (n : ℕ) (moves : List ℕ) (x : ℕ) → AreMoves n moves → x < n → (Contains moves x → ⊥) → AreMoves n (moves ++ x ∷ [])
+moves_more n moves x held h other =
+    let apart = IsDistinct-push nat_eq_equiv moves x held.apart (no_other (list_any (eqb x) moves) (λ e. other (Contains-from_any eqb-true x moves e))) in
+    let within = All-push (λ y. y < n) moves x held.within h in record {
+      some = omega (arith, length_push moves x);
+      within = within;
+      apart = apart;
+      few = length-le_from_distinct_below (moves ++ x ∷ []) n apart (λ q e. All-contains (λ y. y < n) (moves ++ x ∷ []) q within (Contains-from_any eqb-true q (moves ++ x ∷ []) e));
+    }
+
+-- no more than 64 moves are held
+pub held_few : (h : HeldMoves) → IsHolding h → count_held h ≤ 64
+held_few h held = let a = held.rows.few in let b = held.cols.few in let c = held.few_rows in let d = held.few_cols in omega arith
+
+-- ---- how many steps there are
+grown_more : (old new : HeldMoves) (end : StepEnd) → HasGrown old new end → IsGrown end → (count_held old < count_held new) × (count_held new ≤ 64)
+grown_more old new (Grown row col) h g = h
+grown_more old new (Done lower upper) h g = absurd g
+
+held_next : (held : ℕ → HeldMoves) (ends : ℕ → StepEnd) (count i : ℕ) → AreSteps held ends count → suc i < count → i + 2 ≤ count_held (held i) → (i + 3 ≤ count_held (held (suc i))) × (count_held (held (suc i)) ≤ 64)
+held_next held ends count i steps h before =
+    let more = grown_more (held i) (held (i + 1)) (ends i) (steps.each i (omega arith)) (steps.growing i (omega arith)) in
+    let same : count_held (held (i + 1)) ≡ count_held (held (suc i)) = ap (λ (k : ℕ). count_held (held k)) (add-one i) in
+    (omega arith, omega arith)
+
+held_at : (held : ℕ → HeldMoves) (ends : ℕ → StepEnd) (count : ℕ) → AreSteps held ends count → (i : ℕ) → i < count → i + 2 ≤ count_held (held i)
+held_at held ends count steps zero h = steps.starts
+held_at held ends count steps (suc i) h = let next = held_next held ends count i steps h (held_at held ends count steps i (omega arith)) in omega arith
+
+pub few_steps : FewSteps
+few_steps held ends zero steps = omega arith
+few_steps held ends (suc zero) steps = omega arith
+few_steps held ends (suc (suc i)) steps =
+    let next = held_next held ends (suc (suc i)) i steps (omega arith) (held_at held ends (suc (suc i)) steps i (omega arith)) in omega arith
+
+-- ---- cells of held moves
+-- where the cell of a held row and a held column stands among all
+pub held_place : (height width : ℕ) (rows cols : List ℕ) (place : ℕ) → AreMoves height rows → AreMoves width cols → place < length rows * length cols
+    → slice_index rows (place / length cols) * width + slice_index cols (place % length cols) < height * width
+held_place height width rows cols place held_rows held_cols h =
+    let some : 0 < length cols = held_cols.some in
+    let row = held_rows.within (place / length cols) 0 ((div-lt_iff_lt-mul {k = length cols} {x = place} {y = length rows} some).1 h) in
+    let col = held_cols.within (place % length cols) 0 (mod-lt place some) in
+    omega (arith, mul-add-lt (slice_index rows (place / length cols)) width (slice_index cols (place % length cols)) height row col)

@@ -1,0 +1,12 @@
+pub mod CellLemmas
+pub mod EndLemmas
+pub mod GapLemmas
+pub mod HeldLemmas
+pub mod PlaceLemmas
+pub mod PlanLemmas
+pub mod PostLemmas
+pub mod ReadLemmas
+pub mod SpreadLemmas
+pub mod StageLemmas
+pub mod StepLemmas
+pub mod TableLemmas

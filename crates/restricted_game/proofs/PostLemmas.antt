@@ -1,0 +1,60 @@
+-- Entries that may be posted, and lists of entries that grow.
+use Rattle.std.proofs.Common.{◌≡◌, ℕ, ℤ, List, [], ◌∷◌, ◌++◌, refl, sym, ap, subst, ◌∙◌, append_assoc, append-nil}
+use Rattle.std.proofs.lemmas.List.Elements.{All-nil, All-cons, All-append}
+use Rattle.sim_game.specs.declared.Side.{Side}
+use Rattle.sim_game.specs.Model.{GameModel}
+use Rattle.plan_book.specs.declared.Entry.{Entry}
+use Rattle.plan_book.specs.Entries.{IsEntry, IsLawfulEntry}
+use Rattle.plan_book.specs.Books.{Grows}
+use Rattle.sim_game.proofs.SideLemmas.{tighter_than}
+use Rattle.bounds_board.specs.Views.{BoardView, IsLater, IsPostable, IsSeenNumber}
+use Rattle.bounds_board.proofs.ViewLemmas.{seen_later}
+use Rattle.restricted_game.specs.Runs.{IsPosted, posts, passes, entry_at}
+
+pub grows_none : (P : Entry → Type 0) (xs ys : List Entry) → ys ≡ xs → Grows P xs ys
+grows_none P xs ys e = record { more = []; joins = e ∙ sym (append-nil xs); each = All-nil P }
+
+pub grows_one : (P : Entry → Type 0) (xs ys : List Entry) (e : Entry) → P e → ys ≡ xs ++ e ∷ [] → Grows P xs ys
+grows_one P xs ys e h joins = record { more = e ∷ []; joins = joins; each = All-cons P e [] h (All-nil P) }
+
+grows_after : (P : Entry → Type 0) (xs ys zs : List Entry) → Grows P xs ys → Grows P ys zs → Grows P xs zs
+grows_after P xs ys zs p q = record {
+  more = p.more ++ q.more;
+  joins = q.joins ∙ ap (λ (l : List Entry). l ++ q.more) p.joins ∙ append_assoc xs p.more q.more;
+  each = All-append P p.more q.more p.each q.each;
+}
+
+-- what is known of the numbers of an entry may be known anew
+entry_known : {S : Type 0} (m : GameModel S) (total : ℕ) (Known New : Side → S → ℤ → Type 0) (e : Entry) → ((side : Side) (s : S) (x : ℤ) → Known side s x → New side s x) → IsEntry m total Known e → IsEntry m total New e
+entry_known m total Known New e f h = record {
+  state = h.state;
+  reachable = h.reachable;
+  is_key = h.is_key;
+  low = h.low;
+  high = h.high;
+  numbers = h.numbers;
+  listed = h.listed;
+  step = h.step;
+  backed = h.backed;
+  known = λ o r d p q t w. f e.side _ _ (h.known o r d p q t w);
+}
+
+pub postable_later : {S G N : Type 0} (m : GameModel S) (u v : BoardView G N) (e : Entry) → IsLater u v → IsPostable m u e → IsPostable m v e
+postable_later m u v e later h =
+    entry_known m v.total (IsSeenNumber m u) (IsSeenNumber m v) e (λ side s x k. seen_later m u v side s x later k) (subst (λ (n : ℕ). IsEntry m n (IsSeenNumber m u) e) (sym later.total) h)
+
+pub postable_lawful : {S G N : Type 0} (m : GameModel S) (v : BoardView G N) (e : Entry) → IsPostable m v e → IsLawfulEntry m v.total e
+postable_lawful m v e h = entry_known m v.total (IsSeenNumber m v) (λ _ _ _. Unit {0}) e (λ side s x k. tt) h
+
+pub entry_is : {S : Type 0} (m : GameModel S) (side : Side) (s : S) (key : ℕ) (bound bound' : ℤ) (weights weights' : List ℕ) (reads reads' : List ℤ) → key ≡ m.key s → bound ≡ bound' → weights ≡ weights' → reads ≡ reads'
+    → (let e : Entry = record { key = key; side = side; bound = bound; weights = weights; reads = reads } in e) ≡ entry_at m side s bound' weights' reads'
+entry_is m side s key bound bound' weights weights' reads reads' a b c d = rw (a, b, c, d) refl
+
+-- tighter than what a later view had seen is tighter than what an earlier one had
+pub posted_earlier : {G N : Type 0} (t u : BoardView G N) (e : Entry) (old new : List Entry) → IsLater t u → IsPosted u e old new → IsPosted t e old new
+posted_earlier t u e old new later (posts tight joins) = posts (tighter_than e.side _ _ _ tight (later.seen e.side e.key)) joins
+posted_earlier t u e old new later (passes same) = passes same
+
+-- one post after another
+pub lawful_after : {S G N : Type 0} (m : GameModel S) (u v w : BoardView G N) → IsLater u v → Grows (IsLawfulEntry m u.total) u.entries v.entries → Grows (IsLawfulEntry m v.total) v.entries w.entries → Grows (IsLawfulEntry m u.total) u.entries w.entries
+lawful_after m u v w later p q = grows_after (IsLawfulEntry m u.total) u.entries v.entries w.entries p (subst (λ (n : ℕ). Grows (IsLawfulEntry m n) v.entries w.entries) later.total q)

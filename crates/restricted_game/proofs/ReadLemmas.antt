@@ -1,0 +1,58 @@
+-- Numbers that were read at a state: at an end, at a row, and as the views go on.
+use Rattle.std.proofs.Common.{◌≡◌, ⊎_elim, inl, inr, ◌⊎◌, ℕ, zero, suc, ◌≤◌, ℤ, refl, sym, arith}
+use Rattle.sim_game.specs.declared.Side.{Side}
+use Rattle.sim_game.specs.declared.Side.TheVariants.{One, Two}
+use Rattle.sim_game.specs.Model.{GameModel, IsGame, IsEnd, Reachable}
+use Rattle.sim_game.specs.Sides.{other_side, IsNoTighter, opening_bound, end_bound}
+use Rattle.sim_game.proofs.SideLemmas.{looser_refl, looser_left, looser_right, looser_trans, end_range}
+use Rattle.plan_book.specs.Backed.{by_end}
+use Rattle.bounds_board.specs.declared.bounds.Enclosure.{Enclosure}
+use Rattle.bounds_board.specs.Views.{BoardView, IsLater, IsSeenNumber, by_end as end_number, by_seen}
+use Rattle.restricted_game.specs.Numbers.{IsClaimed, IsReadNumber, AreRead, bound_in}
+
+-- the payoff of an end, as a number of either side
+end_number_read : {S G N : Type 0} (m : GameModel S) (v : BoardView G N) (s : S) (x : ℤ) (side : Side) → IsGame m → Reachable m s → IsEnd m s → x ≡ end_bound m s → IsReadNumber m v v side s x
+end_number_read m v s x side game r e h = record {
+  backed = by_end s x e (looser_left side _ _ _ (sym h) (looser_refl side (end_bound m s)));
+  low = looser_right side _ _ _ (sym h) (end_range m side s game r e);
+  high = looser_left side _ _ _ (sym h) (below side);
+  at_end = λ _. h;
+  claimed = λ g. absurd (omega arith);
+  no_looser = λ g. absurd (omega arith);
+  no_tighter = λ g. absurd (omega arith);
+} where
+  below : (side : Side) → IsNoTighter side (end_bound m s) (opening_bound m (other_side side))
+  below One = end_range m Two s game r e
+  below Two = end_range m One s game r e
+
+pub end_read : {S G N : Type 0} (m : GameModel S) (v : BoardView G N) (s : S) (x : ℤ) → IsGame m → Reachable m s → IsEnd m s → x ≡ end_bound m s → AreRead m v v s (record { lower = x; upper = x })
+end_read m v s x game r e h = record { number = both } where
+  both : (side : Side) → IsReadNumber m v v side s (bound_in side (record { lower = x; upper = x }))
+  both One = end_number_read m v s x One game r e h
+  both Two = end_number_read m v s x Two game r e h
+
+claimed_later : {G N : Type 0} (u v : BoardView G N) (key : ℕ) → IsLater u v → IsClaimed u key → IsClaimed v key
+claimed_later u v key later claimed = record { row = claimed.row; holds = later.keys claimed.row key claimed.holds }
+
+-- what was read between two views was read between an earlier and a later one
+pub number_between : {S G N : Type 0} (m : GameModel S) (t u v w : BoardView G N) (side : Side) (s : S) (x : ℤ) → IsLater t u → IsLater v w → IsReadNumber m u v side s x → IsReadNumber m t w side s x
+number_between m t u v w side s x earlier later r = record {
+  backed = r.backed;
+  low = r.low;
+  high = r.high;
+  at_end = r.at_end;
+  claimed = λ g. claimed_later v w (m.key s) later (r.claimed g);
+  no_looser = λ g. looser_trans side _ _ _ (earlier.seen side (m.key s)) (r.no_looser g);
+  no_tighter = λ g. looser_trans side _ _ _ (r.no_tighter g) (later.seen side (m.key s));
+}
+
+pub read_between : {S G N : Type 0} (m : GameModel S) (t u v w : BoardView G N) (s : S) (e : Enclosure) → IsLater t u → IsLater v w → AreRead m u v s e → AreRead m t w s e
+read_between m t u v w s e earlier later r = record { number = λ side. number_between m t u v w side s (bound_in side e) earlier later (r.number side) }
+
+cases_rank : (n : ℕ) → (n ≡ 0) ⊎ (1 ≤ n)
+cases_rank zero = inl refl
+cases_rank (suc n) = inr (omega arith)
+
+-- an entry may rest on it
+pub number_seen : {S G N : Type 0} (m : GameModel S) (u v : BoardView G N) (side : Side) (s : S) (x : ℤ) → IsReadNumber m u v side s x → IsSeenNumber m v side s x
+number_seen m u v side s x r = ⊎_elim (λ (e : m.rank s ≡ 0). end_number e (r.at_end e)) (λ (g : 1 ≤ m.rank s). by_seen (r.no_tighter g)) (cases_rank (m.rank s))

@@ -1,0 +1,123 @@
+-- What a plan proves at the state: its entry, and a side's part of the step.
+use Rattle.std.proofs.Common.{◌≡◌, inl, ℕ, ◌<◌, ◌≤◌, ℤ, pos, ◌*ℤ◌, Option, List, sum, get_or, slice_index, refl, sym, ap, subst, ◌∙◌}
+use Rattle.sums.specs.Sums.{count_below}
+use Rattle.sums.proofs.CountLemmas.{count_list}
+use Rattle.sums.proofs.SumLemmas.{sum_weights}
+use Rattle.sim_game.specs.declared.Side.{Side}
+use Rattle.sim_game.specs.declared.Side.TheVariants.{One, Two}
+use Rattle.sim_game.specs.Model.{GameModel, IsGame, Reachable}
+use Rattle.sim_game.specs.Sides.{other_side, IsNoTighter, opening_bound, draws_of, chance_of, child_of}
+use Rattle.sim_game.proofs.SideLemmas.{looser_left, looser_right, looser_trans, looser_weighted, looser_sum, looser_quotient, quotient_tightest}
+use Rattle.plan_book.specs.declared.Entry.{Entry}
+use Rattle.plan_book.specs.Backed.{by_step}
+use Rattle.plan_book.specs.Entries.{reads_of}
+use Rattle.plan_book.specs.Steps.{IsStep}
+use Rattle.plan_book.proofs.BackedLemmas.{backed_within}
+use Rattle.plan_book.proofs.GuaranteeLemmas.{chances}
+use Rattle.bounds_board.specs.Views.{BoardView, IsLater, IsPostable}
+use Rattle.restricted_game.specs.declared.plans.Plans.{Plans}
+use Rattle.restricted_game.specs.declared.table.Table.{Table}
+use Rattle.restricted_game.specs.Numbers.{IsClaimed, IsReadNumber, IsWanted}
+use Rattle.restricted_game.specs.Runs.{IsPlan, IsSideRun, IsPosted, IsStepRun, entry_at}
+use Rattle.restricted_game.specs.Tables.{IsFilled, ArePlans, ArePosted, numbers_in, side_entry}
+use Rattle.restricted_game.proofs.CellLemmas.{mean_from}
+use Rattle.restricted_game.proofs.PlanLemmas.{spread_total}
+use Rattle.restricted_game.proofs.PostLemmas.{posted_earlier}
+use Rattle.restricted_game.proofs.ReadLemmas.{number_between, number_seen}
+use Rattle.restricted_game.proofs.TableLemmas.{one_read, two_read}
+
+in_range : {S : Type 0} (m : GameModel S) (side : Side) (x : ℤ) → IsNoTighter side (opening_bound m side) x → IsNoTighter side x (opening_bound m (other_side side)) → IsNoTighter One (opening_bound m One) x × IsNoTighter Two (opening_bound m Two) x
+in_range m One x p q = (p, q)
+in_range m Two x p q = (q, p)
+
+module _ {S G N : Type 0} (m : GameModel S) (game : IsGame m) (s : S) (reach : Reachable m s) (goes_on : 1 ≤ m.rank s) (u v : BoardView G N) (side : Side) (total : ℕ) (some : 1 ≤ total) (own others weights : List ℕ) (all : sum weights ≡ total)
+    (numbers : ℕ → ℕ → ℕ → ℤ) (plan : List ℕ) (bound : ℤ) (fresh : Option ℕ) (planned : IsPlan m side s total own others weights numbers plan bound fresh)
+    (read : (move other draw : ℕ) → move < m.moves side s → other < m.moves (other_side side) s → IsWanted own others move other → draw < draws_of m side s move other
+    → IsReadNumber m u v side (child_of m side s move other draw) (numbers move other draw)) where
+  plan_sums : sum plan ≡ total
+  plan_sums = spread_total (m.moves side s) total own weights plan planned.spread all
+
+  -- a move of positive weight is held
+  weighted_read : (move other draw : ℕ) → move < m.moves side s → other < m.moves (other_side side) s → draw < draws_of m side s move other → 1 ≤ slice_index plan move → IsReadNumber m u v side (child_of m side s move other draw) (numbers move other draw)
+  weighted_read move other draw p q t w = read move other draw p q (inl (planned.spread.elsewhere move w)) t
+
+  -- the bound is what the plan proves against each reply
+  plan_step : IsStep m side s total plan numbers bound
+  plan_step = record {
+    goes_on = goes_on;
+    one_each = planned.spread.each;
+    sums = plan_sums;
+    some = some;
+    proves = λ reply q. looser_trans side _ planned.sum _
+        (looser_left side _ _ _ (ap (λ (z : ℤ). pos total *ℤ z) (sym planned.bound_is)) (looser_quotient side total planned.sum some))
+        (planned.reply.least reply q);
+  }
+
+  -- it is no looser than what holds of every state
+  bound_low : IsNoTighter side (opening_bound m side) bound
+  bound_low =
+      let weights_are : count_below (m.moves side s) (slice_index plan) ≡ total = ap (λ (n : ℕ). count_below n (λ i. get_or plan i 0)) (sym planned.spread.each) ∙ count_list plan ∙ plan_sums in
+      looser_right side _ _ _ (sym planned.bound_is) (quotient_tightest side total planned.sum (opening_bound m side) some
+      (looser_left side _ _ _ (sum_weights (m.moves side s) (slice_index plan) (opening_bound m side) ∙ ap (λ (n : ℕ). pos n *ℤ opening_bound m side) weights_are)
+      (looser_right side _ _ _ (sym planned.reply.worth)
+      (looser_sum side (m.moves side s) _ _ (λ move p. looser_weighted side (slice_index plan move) _ _ (λ w.
+      mean_from side (draws_of m side s move planned.place) (chance_of m side s move planned.place) (chances m game side s move planned.place reach p planned.reply.place_in) (numbers move planned.place) (opening_bound m side)
+      (λ d t. (weighted_read move planned.place d p planned.reply.place_in t w).low)))))))
+
+  bound_high : IsNoTighter side bound (opening_bound m (other_side side))
+  bound_high = backed_within m game side s bound reach (by_step s bound total plan numbers plan_step (λ move other draw p q t w. (weighted_read move other draw p q t w).backed))
+
+  plan_postable : (reads : List ℤ) → reads ≡ reads_of m side s plan numbers → v.total ≡ total → IsPostable m v (entry_at m side s bound plan reads)
+  plan_postable reads listed is_total = let range = in_range m side bound bound_low bound_high in record {
+    state = s;
+    reachable = reach;
+    is_key = refl;
+    low = range.0;
+    high = range.1;
+    numbers = numbers;
+    listed = listed;
+    step = subst (λ (n : ℕ). IsStep m side s n plan numbers bound) (sym is_total) plan_step;
+    backed = λ move other draw p q t w. (weighted_read move other draw p q t w).backed;
+    known = λ move other draw p q t w. number_seen m u v side _ _ (weighted_read move other draw p q t w);
+  }
+
+  abbrev side_run : (t w : BoardView G N) → IsLater t u → IsLater v w → IsNoTighter side bound (w.seen side (m.key s)) → IsSideRun m t w side s total own others weights bound fresh
+  side_run t w earlier later seen = record {
+    numbers = numbers;
+    read = λ move other draw p q k l. number_between m t u v w side _ _ earlier later (read move other draw p q k l);
+    plan = plan;
+    planned = planned;
+    seen = seen;
+  }
+
+-- ---- both sides
+module _ {S G N : Type 0} (m : GameModel S) (game : IsGame m) (s : S) (reach : Reachable m s) (goes_on : 1 ≤ m.rank s) (u v : BoardView G N) (total : ℕ) (some : 1 ≤ total) (rows cols : List ℕ) (table : Table) (filled : IsFilled m u v s rows cols table)
+    (plans : Plans) (planned : ArePlans m s total rows cols table plans) where
+  pub one_postable : v.total ≡ total → IsPostable m v (side_entry m One s plans.one)
+  one_postable is_total =
+      plan_postable m game s reach goes_on u v One total some rows cols planned.row_weights planned.stage.rows.all (numbers_in One table) plans.one.weights.items plans.one.bound plans.one.fresh planned.one
+      (one_read m u v s rows cols table filled) plans.one.reads.items planned.one_reads is_total
+
+  pub two_postable : v.total ≡ total → IsPostable m v (side_entry m Two s plans.two)
+  two_postable is_total =
+      plan_postable m game s reach goes_on u v Two total some cols rows planned.col_weights planned.stage.cols.all (numbers_in Two table) plans.two.weights.items plans.two.bound plans.two.fresh planned.two
+      (two_read m u v s rows cols table filled) plans.two.reads.items planned.two_reads is_total
+
+  pub step_run : (t w : BoardView G N) → IsLater t u → IsLater t v → IsLater v w → v.entries ≡ t.entries → IsClaimed w (m.key s) → ArePosted m v w s plans → IsStepRun m t w s total rows cols plans.two.fresh plans.one.fresh plans.one.bound plans.two.bound
+  step_run t w before read after quiet claimed posted = record {
+    claimed = claimed;
+    grid = planned.grid;
+    row_weights = planned.row_weights;
+    col_weights = planned.col_weights;
+    stage = planned.stage;
+    one = side_run m game s reach goes_on u v One total some rows cols planned.row_weights planned.stage.rows.all (numbers_in One table) plans.one.weights.items plans.one.bound plans.one.fresh planned.one
+        (one_read m u v s rows cols table filled) t w before after posted.one_seen;
+    two = side_run m game s reach goes_on u v Two total some cols rows planned.col_weights planned.stage.cols.all (numbers_in Two table) plans.two.weights.items plans.two.bound plans.two.fresh planned.two
+        (two_read m u v s rows cols table filled) t w before after posted.two_seen;
+    is_grid = planned.is_grid;
+    between = posted.between;
+    one_posted = subst (λ (e : Entry). IsPosted t e t.entries posted.between) (ap (entry_at m One s plans.one.bound plans.one.weights.items) planned.one_reads)
+        (subst (λ (l : List Entry). IsPosted t (side_entry m One s plans.one) l posted.between) quiet (posted_earlier t v _ _ _ read posted.one_posted));
+    two_posted = subst (λ (e : Entry). IsPosted t e posted.between w.entries) (ap (entry_at m Two s plans.two.bound plans.two.weights.items) planned.two_reads)
+        (posted_earlier t v _ _ _ read posted.two_posted);
+  }

@@ -1,0 +1,6 @@
+pub mod Gaps
+pub mod Held
+pub mod Numbers
+pub mod Runs
+pub mod Sizes
+pub mod Tables

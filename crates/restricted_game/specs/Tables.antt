@@ -1,0 +1,104 @@
+-- Tables of what a step reads, one place a draw, pair of moves by pair of moves, row by row; and lists that are made from them.
+use Rattle.std.specs.Prelude.{◌≡◌, ℕ, ◌+◌, ◌*◌, ◌/◌, ◌%◌, ◌<◌, ◌≤◌, ℤ, pos, ◌*ℤ◌, List, length, map, slice_index, slice_index_or}
+use Rattle.std.specs.List.{range_with_len}
+use Rattle.sums.specs.Sums.{sum_below}
+use Rattle.sim_game.specs.declared.Side.{Side}
+use Rattle.sim_game.specs.declared.Side.TheVariants.{One, Two}
+use Rattle.sim_game.specs.Model.{GameModel, Reachable}
+use Rattle.sim_game.specs.Sides.{IsNoTighter, move_of_one, move_of_two}
+use Rattle.plan_book.specs.declared.Entry.{Entry}
+use Rattle.plan_book.specs.Entries.{reads_of}
+use Rattle.plan_book.specs.Steps.{rounded}
+use Rattle.matrix_game.specs.Grid.{Grid}
+use Rattle.bounds_board.specs.declared.bounds.Enclosure.{Enclosure}
+use Rattle.bounds_board.specs.Views.{BoardView}
+use Rattle.restricted_game.specs.declared.plans.Plans.{Plans}
+use Rattle.restricted_game.specs.declared.plans.SidePlan.{SidePlan}
+use Rattle.restricted_game.specs.declared.table.Table.{Table}
+use Rattle.restricted_game.specs.Numbers.{AreRead, IsWanted, bound_in}
+use Rattle.restricted_game.specs.Runs.{IsHeldGrid, IsHeldStage, IsPlan, IsPosted, entry_at}
+
+-- ---- places
+-- where a draw after a pair of moves stands, with so many moves of Two and room for so many draws a pair
+abbrev pub place_of : ℕ → ℕ → ℕ → ℕ → ℕ → ℕ
+place_of width stride one two draw = (one * width + two) * stride + draw
+
+abbrev pub enclosure_at : List Enclosure → ℕ → Enclosure
+enclosure_at enclosures place = slice_index_or enclosures place (record { lower = pos 0; upper = pos 0 })
+
+-- no pair of moves has more draws
+pub record IsStride {S : Type 0} (m : GameModel S) (stride : ℕ) : Type 0 where
+  pub some : 1 ≤ stride
+  pub few : stride ≤ 13
+  pub draws : (s : S) (one two : ℕ) → Reachable m s → one < m.moves One s → two < m.moves Two s → m.draws s one two ≤ stride
+
+-- the first draws after a pair of moves were read between two views into the places from a base on, and no earlier place changed
+pub record AreDrawn {S G N : Type 0} (m : GameModel S) (u v : BoardView G N) (s : S) (one two base count : ℕ) (old new : List Enclosure) : Type 0 where
+  pub earlier : (place : ℕ) → place < base → enclosure_at new place ≡ enclosure_at old place
+  pub read : (draw : ℕ) → draw < count → AreRead m u v (m.drawn s one two draw) (enclosure_at new (base + draw))
+
+-- the draws after the first pairs of moves, row by row, were read between two views where they are wanted
+pub record AreFilled {S G N : Type 0} (m : GameModel S) (u v : BoardView G N) (s : S) (rows cols : List ℕ) (width stride pairs : ℕ) (enclosures : List Enclosure) : Type 0 where
+  pub read : (one two draw : ℕ) → one < m.moves One s → two < m.moves Two s → one * width + two < pairs → IsWanted rows cols one two → draw < m.draws s one two
+      → AreRead m u v (m.drawn s one two draw) (enclosure_at enclosures (place_of width stride one two draw))
+
+-- ---- a whole table
+abbrev pub enclosure_in : Table → ℕ → ℕ → ℕ → Enclosure
+enclosure_in table one two draw = enclosure_at table.enclosures.items (place_of table.width table.stride one two draw)
+
+-- the numbers of a side, by its own move, the other side's and the draw
+abbrev pub numbers_in : Side → Table → ℕ → ℕ → ℕ → ℤ
+numbers_in side table move other draw = bound_in side (enclosure_in table (move_of_one side move other) (move_of_two side move other) draw)
+
+-- it has the shape of the state's moves
+pub record HasShape {S : Type 0} (m : GameModel S) (s : S) (table : Table) : Type 0 where
+  pub height : table.height ≡ m.moves One s
+  pub width : table.width ≡ m.moves Two s
+  pub stride : IsStride m table.stride
+
+-- each wanted draw was read between two views
+pub record IsFilled {S G N : Type 0} (m : GameModel S) (u v : BoardView G N) (s : S) (rows cols : List ℕ) (table : Table) : Type 0 where
+  pub read : (one two draw : ℕ) → one < m.moves One s → two < m.moves Two s → IsWanted rows cols one two → draw < m.draws s one two → AreRead m u v (m.drawn s one two draw) (enclosure_in table one two draw)
+
+-- ---- cells
+-- the cell of a side at a pair of moves
+abbrev pub pair_cell : {S : Type 0} → GameModel S → Side → S → Table → ℕ → ℕ → ℤ
+pair_cell m side s table one two = rounded side (sum_below (m.draws s one two) (λ draw. pos (m.chance s one two draw) *ℤ bound_in side (enclosure_in table one two draw)))
+
+-- the cells of all pairs, row by row
+abbrev pub cells_in : {S : Type 0} → GameModel S → Side → S → Table → List ℤ
+cells_in m side s table = map (λ place. pair_cell m side s table (place / table.width) (place % table.width)) (range_with_len 0 (table.height * table.width))
+
+-- the cells of held moves, row by row in order of addition
+abbrev pub held_cells : List ℤ → ℕ → List ℕ → List ℕ → List ℤ
+held_cells cells width rows cols =
+    map (λ place. slice_index_or cells (slice_index rows (place / length cols) * width + slice_index cols (place % length cols)) (pos 0)) (range_with_len 0 (length rows * length cols))
+
+-- the game on the held moves
+abbrev pub held_grid : List ℤ → ℕ → List ℕ → List ℕ → Grid
+held_grid cells width rows cols = record { rows = length rows; cols = length cols; cells = held_cells cells width rows cols }
+
+-- ---- plans
+-- the plans of both sides over the numbers of a table, by the weights that solve the game on the held moves
+pub record ArePlans {S : Type 0} (m : GameModel S) (s : S) (total : ℕ) (rows cols : List ℕ) (table : Table) (plans : Plans) : Type 0 where
+  pub grid : Grid
+  pub row_weights : List ℕ
+  pub col_weights : List ℕ
+  pub stage : IsHeldStage total grid row_weights col_weights
+  pub is_grid : IsHeldGrid m s rows cols (numbers_in One table) grid
+  pub one : IsPlan m One s total rows cols row_weights (numbers_in One table) plans.one.weights.items plans.one.bound plans.one.fresh
+  pub two : IsPlan m Two s total cols rows col_weights (numbers_in Two table) plans.two.weights.items plans.two.bound plans.two.fresh
+  pub one_reads : plans.one.reads.items ≡ reads_of m One s plans.one.weights.items (numbers_in One table)
+  pub two_reads : plans.two.reads.items ≡ reads_of m Two s plans.two.weights.items (numbers_in Two table)
+
+-- the entry of a side's plan
+abbrev pub side_entry : {S : Type 0} → GameModel S → Side → S → SidePlan → Entry
+side_entry m side s plan = entry_at m side s plan.bound plan.weights.items plan.reads.items
+
+-- the entries of both plans were posted where they are tighter, One's first
+pub record ArePosted {S G N : Type 0} (m : GameModel S) (u v : BoardView G N) (s : S) (plans : Plans) : Type 0 where
+  pub between : List Entry
+  pub one_posted : IsPosted u (side_entry m One s plans.one) u.entries between
+  pub two_posted : IsPosted u (side_entry m Two s plans.two) between v.entries
+  pub one_seen : IsNoTighter One plans.one.bound (v.seen One (m.key s))
+  pub two_seen : IsNoTighter Two plans.two.bound (v.seen Two (m.key s))

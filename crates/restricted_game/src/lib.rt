@@ -1,0 +1,22 @@
+//! Restricted games: games at a state in which each side has some of its moves, and the bounds that they prove.
+#![tactic(auto)]
+
+ghost use Rattle.restricted_game.specs.Held.{FewSteps};
+
+mod cells;
+mod held;
+mod numbers;
+mod plans;
+mod posts;
+mod reading;
+mod reads;
+mod stage;
+mod steps;
+mod table;
+
+pub use held::{Restricted, StepEnd, StepFault};
+
+/// A restricted game takes at most 63 steps up to and with the first that is done.
+pub fn few_steps()
+    ensures { FewSteps }
+{}

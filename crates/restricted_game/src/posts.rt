@@ -1,0 +1,74 @@
+//! Posts of what the plans prove.
+ghost use Rattle.std.specs.Prelude.{◌≡◌, Some, OnOk};
+ghost use Rattle.sim_game.specs.Model.{Reachable};
+ghost use Rattle.sim_game.specs.Sides.{IsNoTighter};
+ghost use Rattle.plan_book.specs.Books.{Grows};
+ghost use Rattle.plan_book.specs.Entries.{IsLawfulEntry};
+ghost use Rattle.bounds_board.specs.Views.{IsLater, IsPostable};
+ghost use Rattle.restricted_game.specs.Runs.{IsPosted};
+ghost use Rattle.restricted_game.specs.Tables.{side_entry, ArePosted};
+
+use crate::numbers::bound_in;
+use crate::plans::{Plans, SidePlan};
+use bounds_board::{Bounds, Row};
+use plan_book::Entry;
+use seq::Seq;
+use sim_game::{Game, NoMemory, Side};
+
+/// Posts the bound of a side's plan, where it is tighter than the one read at the state.
+fn post_plan<G: Game, B: Bounds<G>>(
+    g: G,
+    s: G::State,
+    side: Side,
+    row: Row,
+    plan: SidePlan,
+    board: &mut B,
+) -> Result<(), NoMemory>
+    requires game { (B.view board.old).game ≡ g }
+    requires reachable { Reachable (G.model g) s }
+    requires row { (B.view board.old).key_at row ≡ Some ((G.model g).key s) }
+    requires entry { IsPostable (G.model g) (B.view board.old) (side_entry (G.model g) side s plan) }
+    ensures later { IsLater (B.view board.old) (B.view board.new) }
+    ensures lawful { Grows (IsLawfulEntry (G.model g) (B.view board.old).total) (B.view board.old).entries (B.view board.new).entries }
+    ensures posted { OnOk result (IsPosted (B.view board.old) (side_entry (G.model g) side s plan) (B.view board.old).entries (B.view board.new).entries) }
+    ensures seen { OnOk result (IsNoTighter side plan.bound ((B.view board.new).seen side ((G.model g).key s))) }
+{
+    let enclosure = board.read(row);
+    if !side.is_tighter(plan.bound, bound_in(side, &enclosure)) {
+        return Ok(());
+    }
+    let e = Entry {
+        key: g.key(s),
+        side,
+        bound: plan.bound,
+        weights: Seq::from_vec(plan.weights),
+        reads: Seq::from_vec(plan.reads),
+    };
+    match board.post(row, e) {
+        Ok(()) => Ok(()),
+        Err(_) => Err(NoMemory),
+    }
+}
+
+/// Posts the bounds of both plans, One's first.
+pub(crate) fn post_both<G: Game, B: Bounds<G>>(
+    g: G,
+    s: G::State,
+    row: Row,
+    plans: Plans,
+    board: &mut B,
+) -> Result<(), NoMemory>
+    requires game { (B.view board.old).game ≡ g }
+    requires reachable { Reachable (G.model g) s }
+    requires row { (B.view board.old).key_at row ≡ Some ((G.model g).key s) }
+    requires one { IsPostable (G.model g) (B.view board.old) (side_entry (G.model g) Side.One s plans.one) }
+    requires two { IsPostable (G.model g) (B.view board.old) (side_entry (G.model g) Side.Two s plans.two) }
+    ensures later { IsLater (B.view board.old) (B.view board.new) }
+    ensures lawful { Grows (IsLawfulEntry (G.model g) (B.view board.old).total) (B.view board.old).entries (B.view board.new).entries }
+    ensures posted { OnOk result (ArePosted (G.model g) (B.view board.old) (B.view board.new) s plans) }
+{
+    let Plans { one, two } = plans;
+    post_plan(g, s, Side::One, row, one, board)?;
+    post_plan(g, s, Side::Two, row, two, board)?;
+    Ok(())
+}

@@ -1,6 +1,6 @@
 //! The parts of a text round a separator, one after the other.
 
-ghost use Rattle.std.specs.Prelude.{◌≡◌, ◌==◌, ◌<◌, [], ◌∷◌, length, drop, position, MatchOption};
+ghost use Rattle.std.specs.Prelude.{◌≡◌, ◌==◌, ◌<◌, [], ◌∷◌, length, drop, position, MatchOption, IfSome};
 ghost use Rattle.std.specs.List.{slice_split};
 ghost use Rattle.certificate.specs.Reading.{has_parts};
 
@@ -90,7 +90,8 @@ pub(crate) fn has_parts(text: &[u8], at: u8, least: usize, most: usize) -> bool
 
 /// The place of the first such byte.
 fn first_at(text: &[u8], at: u8) -> Option<usize>
-    ensures { result ≡ position (λ b. b == at) text.now }
+    ensures exact { result ≡ position (λ b. b == at) text.now }
+    ensures within { IfSome result (λ i. i < length text.now) }
 {
     text.iter().position(|b| *b == at)
 }
@@ -101,9 +102,6 @@ fn cut(text: &[u8], at: u8) -> Option<(&[u8], &[u8])>
         (λ x. slice_split (λ b. b == at) text.now ≡ x.0.now ∷ slice_split (λ b. b == at) x.1.now) }
 {
     let i = first_at(text, at)?;
-    if i >= text.len() {
-        return None;
-    }
     let (front, back) = text.split_at(i);
     Some((front, &back[1..]))
 }

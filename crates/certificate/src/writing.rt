@@ -5,42 +5,13 @@ ghost use Rattle.certificate.specs.Ranges.{IsInRange};
 ghost use Rattle.certificate.specs.Reading.{read_report};
 ghost use Rattle.certificate.specs.Texts.{Adds, line_text, text_of, pay_word, outcome_word, list_text, position_fields, row_fields, sheet_lines, report_lines, report_text};
 
-use crate::{Outcome, Pay, PositionText, Report};
-use itoa::{Buffer, Integer};
+use crate::{Outcome, Pay, PositionText, Report, Text};
+use itoa::Integer;
 use plan_book::SheetRow;
 use sim_game::NoMemory;
 use std::alloc::Global;
-use std::marker::Model;
-
-/// A text that grows.
-#[derive(Drop)]
-struct Text {
-    bytes: Vec<u8>,
-}
-
-impl Model for Text {
-    ghost use Rattle.std.specs.Prelude.{List, ℕ};
-
-    ghost Value = { List ℕ };
-
-    ghost view = { λ t. t.bytes.items };
-}
 
 impl Text {
-    fn word(&mut self, word: &[u8]) -> Result<(), NoMemory>
-        ensures { OnOk result (Adds self.old self.new word.now) }
-    {
-        self.bytes.extend_from_slice(word)?;
-        Ok(())
-    }
-
-    fn number<I: Integer>(&mut self, n: &I) -> Result<(), NoMemory>
-        ensures { OnOk result (Adds self.old self.new (I.text n.now)) }
-    {
-        let mut buffer = Buffer::new();
-        self.word(buffer.format(*n).as_bytes())
-    }
-
     /// Each number with a word before it.
     fn each<I: Integer>(&mut self, before: &[u8], ns: &[I]) -> Result<(), NoMemory>
         ensures { OnOk result (Adds self.old self.new (flat_map (λ n. before.now ++ I.text n) ns.now)) }
@@ -251,9 +222,7 @@ pub fn write(alloc: Global, r: &Report) -> Result<Vec<u8>, NoMemory>
     ensures text { IfOk result (λ v. v.items ≡ report_text r.now) }
     ensures again { IfOk result (λ v. read_report v.items ≡ Ok r.now) }
 {
-    let mut text = Text {
-        bytes: Vec::new(alloc),
-    };
+    let mut text = Text::new(alloc);
     text.report(r)?;
-    Ok(text.bytes)
+    Ok(text.into_bytes())
 }

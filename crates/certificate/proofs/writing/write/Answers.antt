@@ -6,5 +6,5 @@ use Rattle.certificate.proofs.writing.write.Goals as goal
 
 pub returns-clause-again : goal.returns-clause-again
 returns-clause-again c =
-    let is : c.text.inside.bytes.items ≡ report_text c.args.r.now = search rules in
+    let is : c.into_bytes.result.items ≡ report_text c.args.r.now = search rules in
     ap read_report is ∙ read_again c.args.r.now c.requires

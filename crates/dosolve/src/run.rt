@@ -1,0 +1,161 @@
+//! A run of the program.
+
+ghost use Rattle.std.specs.Prelude.{◌≡◌, ◌≢◌, map, string_bytes, Ok, IfOk};
+ghost use Rattle.certificate.specs.declared.report.Report.{Report};
+ghost use Rattle.certificate.specs.Texts.{report_text};
+ghost use Rattle.certificate.specs.Reading.{read_report};
+ghost use Rattle.certificate.specs.Ranges.{IsInRange};
+ghost use Rattle.dosolve.specs.Words.{command_of};
+ghost use Rattle.dosolve.specs.Texts.{usage_text, not_built_text, input_text};
+ghost use Rattle.dosolve.specs.Runs.{status_of, IsSolved, IsRun, devices, IsWritten};
+
+use crate::texts::input_text;
+use crate::words::{Command, command_of};
+use certificate::{Outcome, Report, write};
+use lazy_workers::solve;
+use oracle_search::Gate;
+use position::{AnyGame, InputError, ReadError, Sink, Source, position, read_all, write_all};
+use seq::Seq;
+use sim_game::NoMemory;
+use std::alloc::Global;
+use std::thread::Threads;
+
+/// What is answered: the status of the program, and its whole text.
+#[derive(Drop)]
+struct Answer {
+    status: u8,
+    text: Seq<u8>,
+}
+
+/// The most bytes of a position.
+const MOST_POSITION: u64 = 1_048_576;
+
+const USAGE: &[u8] = b"usage: dosolve solve, check, bounds or sample N\n";
+
+/// Reads what the command needs, makes the whole answer, and writes it. The result is the status of the program.
+pub(crate) fn run<R: Threads + Sync, S: Source, K: Sink, T: Gate + Sync>(
+    _rt: &R,
+    alloc: Global,
+    words: &[String],
+    source: &mut S,
+    sink: &mut K,
+    gate: &T,
+) -> u8
+    ensures { IsRun (command_of (map string_bytes words.now))
+        (devices (S.left source.old) (S.faults source.old) (K.written sink.old) (K.faults sink.old))
+        (devices (S.left source.new) (S.faults source.new) (K.written sink.new) (K.faults sink.new))
+        result }
+{
+    match command_of(words) {
+        None => respond(sink, usage(alloc)),
+        Some(Command::Solve) => match read_all(alloc, source, MOST_POSITION) {
+            Ok(bytes) => respond(sink, solved(alloc, &bytes, gate)),
+            Err(ReadError::TooLong) => respond(sink, refused(alloc, InputError::TooLong)),
+            Err(ReadError::Failed) => 6,
+            Err(ReadError::NoMemory) => 8,
+        },
+    }
+}
+
+/// Writes the answer. The result is its status, or that of a failed sink or of want of memory.
+fn respond<K: Sink>(sink: &mut K, answer: Result<Answer, NoMemory>) -> u8
+    ensures { IsWritten answer (K.written sink.old) (K.written sink.new) (K.faults sink.old) (K.faults sink.new) result }
+{
+    match answer {
+        Ok(answer) => match write_all(sink, answer.text.as_slice()) {
+            Ok(()) => answer.status,
+            Err(_) => 7,
+        },
+        Err(_) => 8,
+    }
+}
+
+fn usage(alloc: Global) -> Result<Answer, NoMemory>
+    ensures { IfOk result (λ a. (a.status ≡ 1) × (a.text ≡ usage_text)) }
+{
+    let text = USAGE.to_vec(alloc)?;
+    Ok(Answer {
+        status: 1,
+        text: Seq::from_vec(text),
+    })
+}
+
+fn refused(alloc: Global, error: InputError) -> Result<Answer, NoMemory>
+    ensures status { IfOk result (λ a. a.status ≡ 2) }
+    ensures text { IfOk result (λ a. a.text ≡ input_text error) }
+    ensures memory { IfOk result (λ a. error ≢ InputError.NoMemory) }
+{
+    if error == InputError::NoMemory {
+        return Err(NoMemory);
+    }
+    let text = input_text(alloc, error)?;
+    Ok(Answer {
+        status: 2,
+        text: Seq::from_vec(text),
+    })
+}
+
+/// The answer to the bytes of a position.
+fn solved<T: Gate>(alloc: Global, bytes: &[u8], gate: &T) -> Result<Answer, NoMemory>
+    ensures { IfOk result (λ a. IsSolved bytes.now a.status a.text) }
+{
+    match position(alloc, bytes) {
+        Ok(task) => {
+            if task.ask.turns != 0 {
+                return not_built(alloc);
+            }
+            if task.ask.workers != 1 {
+                return not_built(alloc);
+            }
+            match task.game {
+                AnyGame::Goofspiel(g) => reported(
+                    alloc,
+                    solve(alloc, g, task.text, &task.ask, gate),
+                ),
+                AnyGame::OshiZumo(g) => reported(
+                    alloc,
+                    solve(alloc, g, task.text, &task.ask, gate),
+                ),
+                AnyGame::Tron(g) => reported(alloc, solve(alloc, g, task.text, &task.ask, gate)),
+            }
+        }
+        Err(error) => refused(alloc, error),
+    }
+}
+
+fn not_built(alloc: Global) -> Result<Answer, NoMemory>
+    ensures { IfOk result (λ a. (a.status ≡ 2) × (a.text ≡ not_built_text)) }
+{
+    let text = b"input 60 not built\n".to_vec(alloc)?;
+    Ok(Answer {
+        status: 2,
+        text: Seq::from_vec(text),
+    })
+}
+
+fn reported(alloc: Global, found: Result<Report, NoMemory>) -> Result<Answer, NoMemory>
+    requires { IfOk found IsInRange }
+    ensures { IfOk result (λ a. (r : Report) × (found ≡ Ok r) × (a.status ≡ status_of r.outcome) × (a.text ≡ report_text r) × (read_report (report_text r) ≡ Ok r)) }
+{
+    match found {
+        Ok(report) => {
+            let text = write(alloc, &report)?;
+            Ok(Answer {
+                status: status_of(report.outcome),
+                text: Seq::from_vec(text),
+            })
+        }
+        Err(_) => Err(NoMemory),
+    }
+}
+
+fn status_of(outcome: Outcome) -> u8
+    ensures { result ≡ status_of outcome }
+{
+    match outcome {
+        Outcome::Closed => 0,
+        Outcome::Settled => 3,
+        Outcome::Spent => 4,
+        Outcome::Full => 5,
+    }
+}

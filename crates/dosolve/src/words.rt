@@ -1,0 +1,20 @@
+//! The commands.
+
+ghost use Rattle.std.specs.Prelude.{◌≡◌, map, string_bytes};
+ghost use Rattle.dosolve.specs.Words.{command_of};
+
+/// What the program is told to do.
+#[derive(Clone, Copy, PartialEq, Eq, Debug)]
+pub(crate) enum Command {
+    Solve,
+}
+
+/// The command of the words behind the program's name, if they are one.
+pub(crate) fn command_of(words: &[String]) -> Option<Command>
+    ensures { result ≡ command_of (map string_bytes words.now) }
+{
+    match words {
+        [word] if word.as_str() == "solve" => Some(Command::Solve),
+        _ => None,
+    }
+}

@@ -1,0 +1,5 @@
+use Rattle.position.specs.Building.{HasShortLists-in_range}
+use Rattle.position.proofs.reading.task_in.Goals as goal
+
+pub build-requires : goal.build-requires
+build-requires c = HasShortLists-in_range c.in_ok-text.text c.in_ok-text.ensures.in_range

@@ -1,0 +1,84 @@
+//! A check of a report that trusts no solver.
+#![tactic(auto)]
+
+ghost use Rattle.std.specs.Prelude.{◌≡◌, IfOk, MatchOption};
+ghost use Rattle.certificate.specs.Ranges.{IsInRange};
+ghost use Rattle.plan_book.specs.Expected.{Guarantees};
+ghost use Rattle.plan_book.specs.Sheets.{plan_of};
+ghost use Rattle.checker.specs.declared.verdict.Verdict.{Verdict};
+ghost use Rattle.checker.specs.Verdicts.{HasRightNumbers, IsNumberFault, IsRight, IsVerdict};
+
+mod reach;
+mod rows;
+mod verdict;
+mod worth;
+
+use crate::rows::first_fault;
+pub use crate::verdict::{Verdict, Why};
+use certificate::Report;
+use plan_book::{bound_of, sheet_guarantees};
+use sim_game::{Game, NoMemory, Side, resolution};
+use std::alloc::Global;
+
+/// Accepts a report exactly where both sheets are lawful, its bounds are theirs at the root, its resolution is the
+/// game's and its outcome is one that the numbers allow; else names what is wrong first. The rows of One are gone
+/// through in the order of keys, then those of Two, then the root of One, the root of Two, the resolution and the
+/// outcome; of a row whether it is idle, then its weights, whether its bound is outside, and what they are worth.
+pub fn check<G: Game>(alloc: Global, g: G, r: &Report) -> Result<Verdict, NoMemory>
+    requires { IsInRange r.now }
+    ensures { IfOk result (IsVerdict (G.model g) r.now) }
+{
+    match first_fault(alloc, g, &r.one)? {
+        Some(why) => return Ok(Verdict::Refused(why)),
+        None => {}
+    }
+    match first_fault(alloc, g, &r.two)? {
+        Some(why) => return Ok(Verdict::Refused(why)),
+        None => {}
+    }
+    match number_fault(g, r) {
+        Some(why) => Ok(Verdict::Refused(why)),
+        None => Ok(Verdict::Accepted),
+    }
+}
+
+/// What is wrong with the report beside the rows of its sheets.
+fn number_fault<G: Game>(g: G, r: &Report) -> Option<Why>
+    requires { IsInRange r.now }
+    ensures { MatchOption result (HasRightNumbers (G.model g) r.now) (IsNumberFault (G.model g) r.now) }
+{
+    let root = g.root();
+    let lower = bound_of(g, &r.one, root);
+    if r.lower != lower {
+        return Some(Why::Root { side: Side::One });
+    }
+    let upper = bound_of(g, &r.two, root);
+    if r.upper != upper {
+        return Some(Why::Root { side: Side::Two });
+    }
+    let want = resolution(g, r.weight);
+    if r.resolution != want {
+        return Some(Why::ResolutionWrong { want });
+    }
+    if !r.is_allowed() {
+        return Some(Why::OutcomeWrong);
+    }
+    None
+}
+
+/// A report has at most one verdict: it is accepted where it is right, and else refused for what is wrong first.
+pub fn one_verdict<G: Game>(_g: &G, _r: &Report)
+    requires { IsInRange _r.now }
+    ensures { (v w : Verdict) → IsVerdict (G.model _g.now) _r.now v → IsVerdict (G.model _g.now) _r.now w → v ≡ w }
+{}
+
+/// The sheets of a report that is accepted guarantee its two bounds, each against every plan of the other side.
+pub fn accepted_guarantees<G: Game>(g: &G, r: &Report)
+    requires in_range { IsInRange r.now }
+    requires right { IsRight (G.model g.now) r.now }
+    ensures lower { Guarantees (G.model g.now) Side.One (plan_of r.now.one) r.now.lower }
+    ensures upper { Guarantees (G.model g.now) Side.Two (plan_of r.now.two) r.now.upper }
+{
+    sheet_guarantees(g, &r.one);
+    sheet_guarantees(g, &r.two);
+}

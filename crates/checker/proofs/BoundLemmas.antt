@@ -9,7 +9,7 @@ use Rattle.sums.proofs.CountLemmas.{count_term}
 use Rattle.sim_game.specs.declared.Side.{Side}
 use Rattle.sim_game.specs.declared.Side.TheVariants.{One, Two}
 use Rattle.sim_game.specs.Model.{GameModel, IsGame, Reachable, whole_chance}
-use Rattle.sim_game.specs.Sides.{other_side, IsNoTighter, opening_bound, end_bound, turn_of, draws_of, chance_of, child_of}
+use Rattle.sim_game.specs.Sides.{other_side, IsNoTighter, quotient, opening_bound, end_bound, turn_of, draws_of, chance_of, child_of}
 use Rattle.sim_game.proofs.ReachLemmas.{reachable_turn}
 use Rattle.sim_game.proofs.SideLemmas.{looser_trans, looser_times, looser_cancel, looser_sum, looser_left, looser_right, side_turn}
 use Rattle.plan_book.specs.declared.Sheet.{Sheet}
@@ -84,6 +84,14 @@ pub cell_small : {S : Type 0} (m : GameModel S) → IsGame m → (sheet : Sheet)
 cell_small m game sheet s own reply readable r at against =
     mean_small sheet.side (draws_of m sheet.side s own reply) (chance_of m sheet.side s own reply) (λ d. bound_at m sheet.side sheet.rows (child_of m sheet.side s own reply d)) (chances m game sheet.side s own reply r at against)
     (λ d u. bound_small m game sheet _ readable (child_reachable m sheet.side s own reply r at against d u))
+
+-- the part of a draw in the sum of a cell
+abbrev pub part_of : {S : Type 0} → GameModel S → Sheet → S → ℕ → ℕ → ℕ → ℤ
+part_of m sheet s own reply d = pos (chance_of m sheet.side s own reply d) *ℤ bound_at m sheet.side sheet.rows (child_of m sheet.side s own reply d)
+
+pub cell_is : {S : Type 0} (m : GameModel S) (sheet : Sheet) (s : S) (own reply count : ℕ) (total result : ℤ) → count ≡ draws_of m sheet.side s own reply → total ≡ sum_below count (part_of m sheet s own reply)
+    → result ≡ quotient sheet.side whole_chance total → result ≡ cell_of m sheet s own reply
+cell_is m sheet s own reply count total result all summed divided = rw (divided, summed, all) refl
 
 -- a sum with one term more
 pub one_more : (n : ℕ) (f : ℕ → ℤ) (s x y : ℤ) → s ≡ sum_below n f → x ≡ f n → y ≡ s +ℤ x → y ≡ sum_below (n + 1) f

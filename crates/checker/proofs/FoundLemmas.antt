@@ -32,6 +32,9 @@ found_of (Some s) h = refl
 pub row_of : (rows slice : List SheetRow) (key at place : ℕ) (row : SheetRow) → slice ≡ rows → at ≡ key → row_at slice at ≡ slice_get slice place → place < length slice → row ≡ get_or slice place row → row_at rows key ≡ Some row
 row_of rows slice key at place row same keyed here within is = rw (← same, ← keyed) (here ∙ item_at slice place row within is)
 
+pub weights_of : (slice : List SheetRow) (place : ℕ) (row : SheetRow) (weights : List ℕ) → row ≡ get_or slice place row → weights ≡ (get_or slice place row).weights → row.weights ≡ weights
+weights_of slice place row weights is same = ap (λ (x : SheetRow). x.weights) is ∙ sym same
+
 module _ {S : Type 0} (at : ℕ) (s : S) (before now : ℕ → Option S) (is : (key : ℕ) → now key ≡ cond (is_eq (nat_cmp at key)) (Some s) (before key)) where
   -- one more mark
   pub marks_more : (key : ℕ) → marks now key ≡ cond (is_eq (nat_cmp at key)) (Some 0) (marks before key)
@@ -47,10 +50,10 @@ module _ {S : Type 0} (at : ℕ) (s : S) (before now : ℕ → Option S) (is : (
   ]
 
   -- one more state that is reached
-  pub states_more : (m : GameModel S) (sheet : Sheet) → AreStates m sheet before → IsReached m sheet.side (row_at sheet.rows) s → m.key s ≡ at → AreStates m sheet now
+  pub states_more : (m : GameModel S) (sheet : Sheet) → AreStates m sheet before → IsReached m sheet.side (row_at sheet.rows) s → at ≡ m.key s → AreStates m sheet now
   states_more m sheet states r keyed = record {
     reached = λ key t e. found_now (λ x k. IsReached m sheet.side (row_at sheet.rows) x) key t r (states.reached key t) e;
-    is_key = λ key t e. found_now (λ x k. m.key x ≡ k) key t keyed (states.is_key key t) e;
+    is_key = λ key t e. found_now (λ x k. m.key x ≡ k) key t (sym keyed) (states.is_key key t) e;
   }
 
 pub no_states : {S : Type 0} (m : GameModel S) (sheet : Sheet) (found : ℕ → Option S) → ((key : ℕ) → found key ≡ None) → AreStates m sheet found

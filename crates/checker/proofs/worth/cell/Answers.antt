@@ -1,10 +1,7 @@
-use Rattle.std.proofs.Common.{rules, ◌≡◌, ◌<◌, ℤ, pos, ◌*ℤ◌, w64, SFits, arith, ap, ◌∙◌}
+use Rattle.std.proofs.Common.{rules, ◌≡◌, ◌<◌, w64, SFits, arith}
 use Rattle.std.proofs.lemmas.Int.{ints, to_z-of_z}
-use Rattle.sums.specs.Sums.{sum_below}
-use Rattle.sim_game.specs.Model.{whole_chance}
-use Rattle.sim_game.specs.Sides.{quotient, draws_of, chance_of, child_of}
-use Rattle.plan_book.specs.Sheets.{bound_at}
-use Rattle.checker.proofs.BoundLemmas.{bound_small, child_reachable, chance_light, cell_small, one_more}
+use Rattle.sim_game.specs.Sides.{draws_of, chance_of, child_of}
+use Rattle.checker.proofs.BoundLemmas.{bound_small, child_reachable, chance_light, cell_small, cell_is, part_of, one_more}
 use Rattle.checker.proofs.worth.cell.Goals as goal
 
 pub bound_of-bound-requires-clause-reachable : goal.bound_of-bound-requires-clause-reachable
@@ -43,8 +40,7 @@ loop-d-preserved g c =
     let fits : SFits w64 c.bound_of-bound.result = search rules in
     let part = rw (to_z-of_z w64 c.bound_of-bound.result fits, c.bound_of-bound.ensures, child, chance) at c.weighted-sum.ensures.value in
     record {
-      so_far = one_more c.loop-d.d (λ d. pos (chance_of m side c.args.s c.args.own c.args.reply d) *ℤ bound_at m side c.args.sheet.now.rows (child_of m side c.args.s c.args.own c.args.reply d)) _ _ _ c.loop-d.invariant.so_far part
-          (omega (arith, ints));
+      so_far = one_more c.loop-d.d (part_of m c.args.sheet.now c.args.s c.args.own c.args.reply) _ _ _ c.loop-d.invariant.so_far part (omega (arith, ints));
       small = omega (arith, ints);
       few = c.loop-d.invariant.few;
     }
@@ -56,10 +52,7 @@ returns-clause-value g c =
     let all : c.loop-d.d ≡ c.draws-d-end.result = omega arith in
     let count : c.loop-d.d ≡ draws_of m side c.args.s c.args.own c.args.reply = rw (c.draws-d-end.ensures, c.move_of_one-a.ensures, c.move_of_two-b.ensures) at all in
     let fits : SFits w64 c.quotient.result = search rules in
-    to_z-of_z w64 c.quotient.result fits
-    ∙ c.quotient.ensures
-    ∙ ap (λ (z : ℤ). quotient side whole_chance z)
-    (c.loop-d.invariant.so_far ∙ ap (λ n. sum_below n (λ d. pos (chance_of m side c.args.s c.args.own c.args.reply d) *ℤ bound_at m side c.args.sheet.now.rows (child_of m side c.args.s c.args.own c.args.reply d))) count)
+    rw (to_z-of_z w64 c.quotient.result fits) (cell_is m c.args.sheet.now c.args.s c.args.own c.args.reply c.loop-d.d _ c.quotient.result count c.loop-d.invariant.so_far c.quotient.ensures)
 
 pub returns-clause-small : goal.returns-clause-small
 returns-clause-small g c =

@@ -1,4 +1,4 @@
-use Rattle.std.proofs.Common.{pos, ◌*ℤ◌, w64, SFits, slice_index, arith, ◌∙◌, ap, ℤ}
+use Rattle.std.proofs.Common.{pos, ◌*ℤ◌, w64, SFits, slice_index, arith}
 use Rattle.std.proofs.lemmas.Int.{ints, to_z-of_z}
 use Rattle.checker.specs.Faults.{cell_of}
 use Rattle.checker.proofs.BoundLemmas.{one_more}
@@ -8,8 +8,7 @@ pub loop-own-preserved : goal.loop-own-preserved
 loop-own-preserved g c =
     let m = g.G.Game.model c.args.g in
     let fits : SFits w64 c.cell.result = omega (arith, ints) in
-    let cell = to_z-of_z w64 c.cell.result fits ∙ c.cell.ensures.value in
-    let part = c.weighted-sum.ensures.value ∙ ap (λ (z : ℤ). pos (slice_index c.args.weights.now c.loop-own.own) *ℤ z) cell in
+    let part = rw (to_z-of_z w64 c.cell.result fits, c.cell.ensures.value) at c.weighted-sum.ensures.value in
     record {
       so_far = one_more c.loop-own.own (λ own. pos (slice_index c.args.weights.now own) *ℤ cell_of m c.args.sheet.now c.args.s own c.args.reply) _ _ _ c.loop-own.invariant.so_far part (omega (arith, ints));
       small = omega (arith, ints);

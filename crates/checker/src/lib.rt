@@ -28,13 +28,11 @@ pub fn check<G: Game>(alloc: Global, g: G, r: &Report) -> Result<Verdict, NoMemo
     requires { IsInRange r.now }
     ensures { IfOk result (IsVerdict (G.model g) r.now) }
 {
-    match first_fault(alloc, g, &r.one)? {
-        Some(why) => return Ok(Verdict::Refused(why)),
-        None => {}
+    if let Some(why) = first_fault(alloc, g, &r.one)? {
+        return Ok(Verdict::Refused(why));
     }
-    match first_fault(alloc, g, &r.two)? {
-        Some(why) => return Ok(Verdict::Refused(why)),
-        None => {}
+    if let Some(why) = first_fault(alloc, g, &r.two)? {
+        return Ok(Verdict::Refused(why));
     }
     match number_fault(g, r) {
         Some(why) => Ok(Verdict::Refused(why)),

@@ -84,10 +84,7 @@ fn children<G: Game>(
 fn weight_of(weights: &[u32], own: u32) -> u32
     ensures { result ≡ slice_index weights.now own }
 {
-    match weights.get(own as usize) {
-        Some(weight) => *weight,
-        None => 0,
-    }
+    weights.get(own as usize).copied().unwrap_or(0)
 }
 
 /// Adds the states after an own move.

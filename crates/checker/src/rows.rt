@@ -30,9 +30,8 @@ pub(crate) fn first_fault<G: Game>(
 {
     let found = reached(alloc, g, sheet)?;
     for row in sheet.rows.as_slice() {
-        match row_fault(g, sheet, row, &found) {
-            Some(why) => return Ok(Some(why)),
-            None => {}
+        if let Some(why) = row_fault(g, sheet, row, &found) {
+            return Ok(Some(why));
         }
     }
     Ok(None)
@@ -55,12 +54,8 @@ fn row_fault<G: Game>(
     let key = row.key;
     match found.get(&key).copied() {
         None => Some(Why::Idle { side, key }),
-        Some(s) => {
-            if g.rank(s) == 0 {
-                return Some(Why::Idle { side, key });
-            }
-            fault_at(g, sheet, row, s)
-        }
+        Some(s) if g.rank(s) == 0 => Some(Why::Idle { side, key }),
+        Some(s) => fault_at(g, sheet, row, s),
     }
 }
 
@@ -89,13 +84,7 @@ fn is_whole<G: Game>(g: G, sheet: &Sheet, row: &SheetRow, s: G::State) -> bool
     ensures { MatchBool result (IsWhole (G.model g) sheet.now row.now s) (¬ IsWhole (G.model g) sheet.now row.now s) }
 {
     let weights = row.weights.as_slice();
-    if weights.len() != g.moves(sheet.side, s) as usize {
-        return false;
-    }
-    if total_of(weights) != sheet.total as u64 {
-        return false;
-    }
-    true
+    weights.len() == g.moves(sheet.side, s) as usize && total_of(weights) == sheet.total as u64
 }
 
 /// The sum of the weights.
@@ -114,13 +103,7 @@ fn total_of(weights: &[u32]) -> u64
 fn is_inside<G: Game>(g: G, row: &SheetRow) -> bool
     ensures { MatchBool result (IsInside (G.model g) row.now) (¬ IsInside (G.model g) row.now) }
 {
-    if row.bound < opening_bound(g, Side::One) {
-        return false;
-    }
-    if row.bound > opening_bound(g, Side::Two) {
-        return false;
-    }
-    true
+    opening_bound(g, Side::One) <= row.bound && row.bound <= opening_bound(g, Side::Two)
 }
 
 /// The first reply against which the row's weights are not worth its bound.

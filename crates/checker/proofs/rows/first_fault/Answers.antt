@@ -11,7 +11,7 @@ returns-in-Some g c =
 
 pub loop-row-preserved : goal.loop-row-preserved
 loop-row-preserved g c =
-    rows_more (g.G.Game.model c.args.g) c.args.sheet.now c.as_slice-row-items.result.now c.loop-row.row-index c.row-item.result c.loop-row-test.true c.row-item.is c.loop-row.invariant c.in-None.ensures
+    rows_more (g.G.Game.model c.args.g) c.args.sheet.now c.as_slice-row-items.result.now c.loop-row.row-index c.row-item.result c.loop-row-test.true c.row-item.is c.loop-row.invariant c.in_default.ensures
 
 pub returns : goal.returns
 returns g c = rows_all (g.G.Game.model c.args.g) c.args.sheet.now c.as_slice-row-items.result.now c.loop-row.row-index c.requires c.as_slice-row-items.ensures c.loop-row-test.false c.loop-row.invariant

@@ -15,16 +15,16 @@ fault_at-requires-clause-reachable g c =
     let e : get nat_cmp c.args.found.now c.args.row.now.key ≡ Some c.in-Some.s = sym (c.copied.ensures ∙ c.get.ensures.value) ∙ c.in-Some.is in
     reached_reachable _ c.args.sheet.now.side (row_at c.args.sheet.now.rows) c.in-Some.s (c.requires.reached.states.reached c.args.row.now.key c.in-Some.s e)
 
-pub returns-then-rank-eq0 : goal.returns-then-rank-eq0
-returns-then-rank-eq0 g c =
+pub returns-in-Some : goal.returns-in-Some
+returns-in-Some g c =
     let e : get nat_cmp c.args.found.now c.args.row.now.key ≡ Some c.in-Some.s = sym (c.copied.ensures ∙ c.get.ensures.value) ∙ c.in-Some.is in (
       refl,
       refl,
       found_end (g.G.Game.model c.args.g) c.args.sheet.now c.args.row.now (get nat_cmp c.args.found.now) c.in-Some.s (g.met.G.Game.lawful c.args.g) c.requires.reached e (sym c.rank.ensures ∙ c.if-rank-eq0.true),
     )
 
-pub returns-else-rank-eq0 : goal.returns-else-rank-eq0
-returns-else-rank-eq0 g c =
+pub returns-in-Some-2 : goal.returns-in-Some-2
+returns-in-Some-2 g c =
     let m = g.G.Game.model c.args.g in
     let e : get nat_cmp c.args.found.now c.args.row.now.key ≡ Some c.in-Some.s = sym (c.copied.ensures ∙ c.get.ensures.value) ∙ c.in-Some.is in
     let on : 1 ≤ m.rank c.in-Some.s = rw (← c.rank.ensures) (omega arith) in

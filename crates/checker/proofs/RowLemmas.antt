@@ -1,12 +1,10 @@
 -- What the checks of a row say together.
-use Rattle.std.proofs.Common.{◌≡◌, ℕ, zero, suc, ◌+◌, ◌<◌, ◌≤◌, ℤ, Option, None, Some, List, [], ◌∷◌, length, get_or, take, Bool, true, false, cond, nat_eq, inl, inr, refl, sym, ap, subst, ◌∙◌, arith}
-use Rattle.std.proofs.lemmas.Bool.{cases_lt}
+use Rattle.std.proofs.Common.{◌≡◌, ℕ, zero, suc, ◌+◌, ◌<◌, ◌≤◌, Option, None, Some, List, [], ◌∷◌, length, get_or, take, Bool, true, false, cond, nat_eq, refl, sym, ap, subst, ◌∙◌, arith}
 use Rattle.std.specs.Option.{IsSome, MatchOption}
 use Rattle.std.proofs.lemmas.List.{take_all}
 use Rattle.std.proofs.lemmas.List.Elements.{All-more}
 use Rattle.std.specs.List.{All}
 use Rattle.sim_game.specs.Model.{GameModel, IsGame}
-use Rattle.sim_game.specs.Sides.{other_side, IsNoTighter, IsTighter}
 use Rattle.plan_book.specs.declared.Sheet.{Sheet}
 use Rattle.plan_book.specs.declared.SheetRow.{SheetRow}
 use Rattle.plan_book.specs.Sheets.{row_at, IsLawfulRow, IsLawful}
@@ -15,32 +13,10 @@ use Rattle.plan_book.proofs.GatherLemmas.{item_at}
 use Rattle.plan_book.proofs.SheetLemmas.{reached_reachable}
 use Rattle.checker.specs.declared.verdict.Why.{Why}
 use Rattle.checker.specs.declared.verdict.Why.TheVariants.{Weights, Bound, Idle, Root, Outside, OutcomeWrong, ResolutionWrong}
-use Rattle.checker.specs.Faults.{IsReadable, IsUsed, worth_of, need_of, HoldsBelow, IsFirstReply, IsSoundAt, IsFaultAt, IsRowFault, IsFirstFault}
+use Rattle.checker.specs.Faults.{IsReadable, IsUsed, IsSoundAt, IsFaultAt, IsRowFault, IsFirstFault}
 use Rattle.checker.specs.Found.{AreReached}
 
-none_not : {X : Type 0} (o : Option X) → o ≡ None → IsSome o → ⊥
-none_not o e h = let h' = subst IsSome e h in absurd (cc)
-
 module _ {S : Type 0} (m : GameModel S) (sheet : Sheet) (r : SheetRow) where
-  pub holds_more : (s : S) (count : ℕ) (need amount : ℤ) → HoldsBelow m sheet r s count → need ≡ need_of sheet r → amount ≡ worth_of m sheet r.weights s count → IsNoTighter sheet.side need amount
-      → HoldsBelow m sheet r s (count + 1)
-  holds_more s count need amount before en ea h = λ q p. elim (cases_lt q count) [
-    | inl earlier ↦ before q earlier
-    | inr last ↦
-        let same : q ≡ count = omega arith in
-        let here : IsNoTighter sheet.side (need_of sheet r) amount = subst (λ (x : ℤ). IsNoTighter sheet.side x amount) en h in
-        let there : IsNoTighter sheet.side (need_of sheet r) (worth_of m sheet r.weights s count) = subst (λ (x : ℤ). IsNoTighter sheet.side (need_of sheet r) x) ea here in
-        subst (λ (k : ℕ). IsNoTighter sheet.side (need_of sheet r) (worth_of m sheet r.weights s k)) (sym same) there
-  ]
-
-  pub first_reply : (s : S) (count : ℕ) (need amount : ℤ) → HoldsBelow m sheet r s count → count < m.moves (other_side sheet.side) s → need ≡ need_of sheet r → amount ≡ worth_of m sheet r.weights s count
-      → IsTighter sheet.side need amount → IsFirstReply m sheet r s count
-  first_reply s count need amount before p en ea h = record {
-    in_range = p;
-    fails = subst (λ (x : ℤ). IsTighter sheet.side x (worth_of m sheet r.weights s count)) en (subst (λ (x : ℤ). IsTighter sheet.side need x) ea h);
-    first = before;
-  }
-
   pub row_fault_is : (s : S) (w : Why) → IsUsed m sheet r.key s → IsFaultAt m sheet r s w → IsRowFault m sheet r w
   row_fault_is s (Bound side key reply amount need) used h = (s, used, h)
   row_fault_is s (Weights side key) used h = (s, used, h)
@@ -66,12 +42,6 @@ module _ {S : Type 0} (m : GameModel S) (sheet : Sheet) (r : SheetRow) where
       proves = sound.holds;
     };
   }
-
-  -- no state of the key was found
-  pub not_found : (found : ℕ → Option S) → AreReached m sheet found → IsSome (row_at sheet.rows r.key) → found r.key ≡ None → (s : S) → ¬ IsUsed m sheet r.key s
-  not_found found are stands e s used =
-      let row : IsSome (row_at sheet.rows (m.key s)) = subst (λ (k : ℕ). IsSome (row_at sheet.rows k)) (sym used.is_key) stands in
-      none_not (found r.key) e (subst (λ (k : ℕ). IsSome (found k)) used.is_key (are.whole s used.reached row))
 
   -- the state found is an end
   pub found_end : (found : ℕ → Option S) (t : S) → IsGame m → AreReached m sheet found → found r.key ≡ Some t → m.rank t ≡ 0 → (s : S) → ¬ IsUsed m sheet r.key s

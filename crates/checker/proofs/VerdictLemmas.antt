@@ -15,22 +15,12 @@ use Rattle.plan_book.specs.declared.SheetRow.{SheetRow}
 use Rattle.plan_book.specs.Sheets.{row_at, IsLawfulRow, IsLawful}
 use Rattle.plan_book.proofs.SheetLemmas.{reached_reachable}
 use Rattle.certificate.specs.declared.report.Report.{Report}
-use Rattle.certificate.specs.Ranges.{IsInRange, IsSheetInRange, Within}
 use Rattle.checker.specs.declared.verdict.Why.{Why}
 use Rattle.checker.specs.declared.verdict.Why.TheVariants.{Weights, Bound, Idle, Root, Outside, OutcomeWrong, ResolutionWrong}
 use Rattle.checker.specs.declared.verdict.Verdict.{Verdict}
 use Rattle.checker.specs.declared.verdict.Verdict.TheVariants.{Accepted, Refused}
-use Rattle.checker.specs.Faults.{IsReadable, IsUsed, IsWhole, worth_of, need_of, IsRowFault, IsFirstFault, IsReplyFault, IsFirstReply}
+use Rattle.checker.specs.Faults.{IsUsed, IsWhole, worth_of, need_of, IsRowFault, IsFirstFault, IsReplyFault, IsFirstReply}
 use Rattle.checker.specs.Verdicts.{IsRight, IsResolutionFor, IsNumberFault, IsFirstWhy, IsVerdict}
-
-readable : (side : Side) (weight : ℕ) (sheet : Sheet) → Within 8192 1048576 weight → IsSheetInRange side weight sheet → IsReadable sheet
-readable side weight sheet total h = record { total = rw h.total_is total; rows = h.rows; rising = h.rising }
-
-pub one_readable : (r : Report) → IsInRange r → IsReadable r.one
-one_readable r h = readable One r.weight r.one h.weight h.one
-
-pub two_readable : (r : Report) → IsInRange r → IsReadable r.two
-two_readable r h = readable Two r.weight r.two h.weight h.two
 
 pub same_number : (x y : ℤ) → SFits w64 x → SFits w64 y → of_z w64 x ≡ of_z w64 y → x ≡ y
 same_number x y p q e = sym (to_z-of_z w64 x p) ∙ ap (to_z w64) e ∙ to_z-of_z w64 y q

@@ -21,9 +21,9 @@ use sim_game::{Game, NoMemory, Side, resolution};
 use std::alloc::Global;
 
 /// Accepts a report exactly where both sheets are lawful, its bounds are theirs at the root, its resolution is the
-/// game's and its outcome is one that the numbers allow; else names what is wrong first. The rows of One are gone
-/// through in the order of keys, then those of Two, then the root of One, the root of Two, the resolution and the
-/// outcome; of a row whether it is idle, then its weights, whether its bound is outside, and what they are worth.
+/// game's and its outcome is one that its numbers allow. Else it names what is wrong first: in the rows of One by
+/// rising key, in those of Two, at the root of One, at that of Two, in the resolution, in the outcome; of a row
+/// `Idle`, `Weights`, `Outside`, `Bound`. `NoMemory` comes for want of memory alone.
 pub fn check<G: Game>(alloc: Global, g: G, r: &Report) -> Result<Verdict, NoMemory>
     requires { IsInRange r.now }
     ensures { IfOk result (IsVerdict (G.model g) r.now) }

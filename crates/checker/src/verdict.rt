@@ -2,7 +2,8 @@
 
 use sim_game::Side;
 
-/// What is wrong with a report. Sums and bounds are in millionths of a payoff, and sums are times the report's weight.
+/// What is wrong with a report. A row is named by its sheet's side and its key. Numbers are in millionths of a payoff;
+/// `sum` and `need` are these times the report's weight.
 #[derive(Clone, Copy, PartialEq, Eq, Debug)]
 pub enum Why {
     /// The weights of a row are not one a move, or do not sum to the report's weight.
@@ -14,6 +15,7 @@ pub enum Why {
     Bound {
         side: Side,
         key: u64,
+        /// The other side's move, numbered from 0.
         reply: u32,
         /// What the weights are worth.
         sum: i64,
@@ -38,6 +40,7 @@ pub enum Why {
     OutcomeWrong,
     /// The resolution is not that of the game.
     ResolutionWrong {
+        /// The game's, at the report's weight.
         want: i64,
     },
 }

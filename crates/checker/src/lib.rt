@@ -66,7 +66,6 @@ fn number_fault<G: Game>(g: G, r: &Report) -> Option<Why>
 
 /// A report has at most one verdict: it is accepted where it is right, and else refused for what is wrong first.
 pub fn one_verdict<G: Game>(_g: &G, _r: &Report)
-    requires { IsInRange _r.now }
     ensures { (v w : Verdict) → IsVerdict (G.model _g.now) _r.now v → IsVerdict (G.model _g.now) _r.now w → v ≡ w }
 {}
 

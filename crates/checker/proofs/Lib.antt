@@ -1,0 +1,4 @@
+pub mod BoundLemmas
+pub mod FoundLemmas
+pub mod RowLemmas
+pub mod VerdictLemmas

@@ -1,0 +1,134 @@
+//! The checks of a sheet's rows.
+
+ghost use Rattle.std.specs.Prelude.{◌≡◌, ◌≤◌, length, sum, IsSome, IfOk, MatchBool, MatchOption};
+ghost use Rattle.std.specs.Ordering.{nat_cmp};
+ghost use Rattle.std.specs.BTreeMap.{get};
+ghost use Rattle.sim_game.specs.Model.{Reachable};
+ghost use Rattle.sim_game.specs.Sides.{other_side};
+ghost use Rattle.plan_book.specs.Sheets.{row_at, IsLawfulRow};
+ghost use Rattle.certificate.specs.Ranges.{IsRowInRange};
+ghost use Rattle.checker.specs.Faults.{IsReadable, IsWhole, IsInside, HoldsBelow, IsReplyFault, IsSoundAt, IsFaultAt, IsRowFault, IsFirstFaultOrNone};
+ghost use Rattle.checker.specs.Found.{AreReached};
+
+use crate::reach::reached;
+use crate::verdict::Why;
+use crate::worth::worth;
+use plan_book::{Sheet, SheetRow};
+use sim_game::{Game, NoMemory, Side, opening_bound};
+use std::alloc::Global;
+use std::collections::BTreeMap;
+use sums::weighted;
+
+/// The first fault of the sheet's rows, in their order.
+pub(crate) fn first_fault<G: Game>(
+    alloc: Global,
+    g: G,
+    sheet: &Sheet,
+) -> Result<Option<Why>, NoMemory>
+    requires { IsReadable sheet.now }
+    ensures { IfOk result (IsFirstFaultOrNone (G.model g) sheet.now) }
+{
+    let found = reached(alloc, g, sheet)?;
+    for row in sheet.rows.as_slice() {
+        if let Some(why) = row_fault(g, sheet, row, &found) {
+            return Ok(Some(why));
+        }
+    }
+    Ok(None)
+}
+
+/// What is wrong with a row of the sheet.
+fn row_fault<G: Game>(
+    g: G,
+    sheet: &Sheet,
+    row: &SheetRow,
+    found: &BTreeMap<u64, G::State>,
+) -> Option<Why>
+    requires readable { IsReadable sheet.now }
+    requires in_range { IsRowInRange row.now }
+    requires reached { AreReached (G.model g) sheet.now (get nat_cmp found.now) }
+    requires stands { IsSome (row_at sheet.now.rows row.now.key) }
+    ensures { MatchOption result (IsLawfulRow (G.model g) sheet.now.side sheet.now.total sheet.now.rows row.now) (IsRowFault (G.model g) sheet.now row.now) }
+{
+    let side = sheet.side;
+    let key = row.key;
+    match found.get(&key).copied() {
+        None => Some(Why::Idle { side, key }),
+        Some(s) if g.rank(s) == 0 => Some(Why::Idle { side, key }),
+        Some(s) => fault_at(g, sheet, row, s),
+    }
+}
+
+/// What is wrong with a row at its state.
+fn fault_at<G: Game>(g: G, sheet: &Sheet, row: &SheetRow, s: G::State) -> Option<Why>
+    requires readable { IsReadable sheet.now }
+    requires in_range { IsRowInRange row.now }
+    requires reachable { Reachable (G.model g) s }
+    ensures { MatchOption result (IsSoundAt (G.model g) sheet.now row.now s) (IsFaultAt (G.model g) sheet.now row.now s) }
+{
+    let side = sheet.side;
+    let key = row.key;
+    if !is_whole(g, sheet, row, s) {
+        return Some(Why::Weights { side, key });
+    }
+    if !is_inside(g, row) {
+        return Some(Why::Outside { side, key });
+    }
+    reply_fault(g, sheet, row, s)
+}
+
+/// Whether there is one weight a move, and the weights sum to the total.
+fn is_whole<G: Game>(g: G, sheet: &Sheet, row: &SheetRow, s: G::State) -> bool
+    requires in_range { IsRowInRange row.now }
+    requires reachable { Reachable (G.model g) s }
+    ensures { MatchBool result (IsWhole (G.model g) sheet.now row.now s) (¬ IsWhole (G.model g) sheet.now row.now s) }
+{
+    let weights = row.weights.as_slice();
+    weights.len() == g.moves(sheet.side, s) as usize && total_of(weights) == sheet.total as u64
+}
+
+/// The sum of the weights.
+fn total_of(weights: &[u32]) -> u64
+    requires { length weights.now ≤ 32 }
+    ensures { result ≡ sum weights.now }
+{
+    let mut sum: u64 = 0;
+    for weight in weights {
+        sum += *weight as u64;
+    }
+    sum
+}
+
+/// Whether the row's bound is in the range of payoffs.
+fn is_inside<G: Game>(g: G, row: &SheetRow) -> bool
+    ensures { MatchBool result (IsInside (G.model g) row.now) (¬ IsInside (G.model g) row.now) }
+{
+    opening_bound(g, Side::One) <= row.bound && row.bound <= opening_bound(g, Side::Two)
+}
+
+/// The first reply against which the row's weights are not worth its bound.
+fn reply_fault<G: Game>(g: G, sheet: &Sheet, row: &SheetRow, s: G::State) -> Option<Why>
+    requires readable { IsReadable sheet.now }
+    requires in_range { IsRowInRange row.now }
+    requires reachable { Reachable (G.model g) s }
+    requires whole { IsWhole (G.model g) sheet.now row.now s }
+    ensures { MatchOption result (HoldsBelow (G.model g) sheet.now row.now s ((G.model g).moves (other_side sheet.now.side) s)) (IsReplyFault (G.model g) sheet.now row.now s) }
+{
+    let side = sheet.side;
+    let weights = row.weights.as_slice();
+    let need = weighted(sheet.total, row.bound);
+    for reply in 0..g.moves(side.other(), s) {
+        let sum = worth(g, sheet, weights, s, reply);
+        if side.is_tighter(need, sum) {
+            let key = row.key;
+            return Some(Why::Bound {
+                side,
+                key,
+                reply,
+                sum,
+                need,
+            });
+        }
+    }
+    None
+}

@@ -1,0 +1,47 @@
+//! What the weights of a row are worth over the bounds of its sheet.
+
+ghost use Rattle.std.specs.Prelude.{◌≡◌, ◌<◌, ◌≤◌, length, All, unsigned_abs};
+ghost use Rattle.sim_game.specs.Model.{Reachable};
+ghost use Rattle.sim_game.specs.Sides.{other_side};
+ghost use Rattle.checker.specs.Faults.{IsReadable, cell_of, worth_of};
+
+use plan_book::{Sheet, bound_of};
+use sim_game::{CHANCE, Game};
+use sums::weighted;
+
+/// What the weights are worth against a reply.
+pub(crate) fn worth<G: Game>(g: G, sheet: &Sheet, weights: &[u32], s: G::State, reply: u32) -> i64
+    requires readable { IsReadable sheet.now }
+    requires reachable { Reachable (G.model g) s }
+    requires one_each { length weights.now ≡ (G.model g).moves sheet.now.side s }
+    requires light { All (λ w. w ≤ 1048576) weights.now }
+    requires reply { reply < (G.model g).moves (other_side sheet.now.side) s }
+    ensures value { result ≡ worth_of (G.model g) sheet.now weights.now s reply }
+    ensures small { unsigned_abs result ≤ 134217728000000000 }
+{
+    let mut sum: i64 = 0;
+    for own in 0..g.moves(sheet.side, s) {
+        sum += weighted(weights[own as usize], cell(g, sheet, s, own, reply));
+    }
+    sum
+}
+
+/// The mean of the bounds at the draws of an own move and a reply.
+fn cell<G: Game>(g: G, sheet: &Sheet, s: G::State, own: u32, reply: u32) -> i64
+    requires readable { IsReadable sheet.now }
+    requires reachable { Reachable (G.model g) s }
+    requires own { own < (G.model g).moves sheet.now.side s }
+    requires reply { reply < (G.model g).moves (other_side sheet.now.side) s }
+    ensures value { result ≡ cell_of (G.model g) sheet.now s own reply }
+    ensures small { unsigned_abs result ≤ 4000000000 }
+{
+    let side = sheet.side;
+    let a = side.move_of_one(own, reply);
+    let b = side.move_of_two(own, reply);
+    let mut sum: i64 = 0;
+    for d in 0..g.draws(s, a, b) {
+        let bound = bound_of(g, sheet, g.drawn(s, a, b, d));
+        sum += weighted(g.chance(s, a, b, d), bound);
+    }
+    side.quotient(sum, CHANCE)
+}

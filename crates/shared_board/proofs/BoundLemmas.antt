@@ -1,18 +1,18 @@
 -- Reads and posts keep the rule.
-use Rattle.std.proofs.Common.{◌≡◌, ◌≢◌, ◌⊎◌, inl, inr, ⊎_elim, ℕ, zero, suc, ◌+◌, ◌*◌, ◌<◌, ◌≤◌, min, max, ℤ, pos, ◌*ℤ◌, ◌≤ℤ◌, neg_ℤ, List, [], ◌∷◌, length, get_or, set, Bool, true, false, sym, refl, ap, ◌∙◌, subst, arith, Some, length-set, get_or-set_other, get_or-set_same}
+use Rattle.std.proofs.Common.{◌≡◌, ◌≢◌, ◌⊎◌, inl, inr, ⊎_elim, ℕ, suc, ◌+◌, ◌<◌, pos, ◌≤ℤ◌, neg_ℤ, List, [], ◌∷◌, length, get_or, set, sym, refl, ap, ◌∙◌, subst, arith, Some, length-set, get_or-set_other, get_or-set_same}
 use Rattle.std.proofs.lemmas.Int.{ints}
 use mathlib.Core.Logic.{dite}
 use native.Mathlib.Decide.{ℕ_discrete}
 use mathlib.Core.Option.{some, none}
 use lib.ListN.{get_elem?}
-use Rattle.atomic_table.specs.Table.{State, Me, step, Act, keeps, Allows}
+use Rattle.atomic_table.specs.Table.{State, Me, step, keeps, Allows}
 use Rattle.sim_game.specs.declared.Side.{Side}
 use Rattle.sim_game.specs.declared.Side.TheVariants.{One, Two}
-use Rattle.sim_game.specs.Model.{GameModel, IsGame, IsEnd, Reachable}
-use Rattle.sim_game.specs.Sides.{IsNoTighter, opening_bound, end_bound, better}
+use Rattle.sim_game.specs.Model.{GameModel, IsGame}
+use Rattle.sim_game.specs.Sides.{opening_bound}
 use Rattle.sim_game.proofs.SideLemmas.{looser_refl}
 use Rattle.plan_book.specs.Backed.{IsBacked, by_opening}
-use Rattle.shared_board.specs.Words.{key_word, bound_word, key_at, bound_at, opening_word, IsLooser, tighter, word_of, bound_of, IsProved}
+use Rattle.shared_board.specs.Words.{key_word, bound_word, key_at, bound_at, opening_word, IsLooser, tighter, bound_of, IsProved}
 use Rattle.shared_board.specs.Rule.{IsConsistent, IsConsistentView, IsRow, IsPosted, IsInRange, Has, seen_at, seen, with_seen}
 use Rattle.shared_board.specs.Plays.{looked, posting, loaded, met, IsBound, MayRead, MayPost}
 use Rattle.shared_board.specs.declared.view.View.{View}

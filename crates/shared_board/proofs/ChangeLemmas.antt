@@ -8,12 +8,9 @@ use lib.ListN.{get_elem?}
 use Rattle.atomic_table.specs.Table.{State}
 use Rattle.atomic_table.proofs.Lists.{set_here, set_else}
 use Rattle.sim_game.specs.declared.Side.{Side}
-use Rattle.sim_game.specs.declared.Side.TheVariants.{One, Two}
-use Rattle.sim_game.specs.Model.{GameModel, IsGame, IsEnd, Reachable}
-use Rattle.sim_game.specs.Sides.{IsNoTighter, opening_bound, end_bound, better}
-use Rattle.bounds_board.specs.Views.{IsInnerKey}
-use Rattle.shared_board.specs.Words.{bound_word, bound_at, opening_word, IsLooser}
-use Rattle.shared_board.specs.Rule.{IsConsistent, IsConsistentView, IsRow, Has, seen_at, seen, total, times, once_below}
+use Rattle.sim_game.specs.Model.{GameModel}
+use Rattle.shared_board.specs.Words.{bound_at}
+use Rattle.shared_board.specs.Rule.{IsConsistent, IsConsistentView, IsRow, Has, total, times, once_below}
 use Rattle.shared_board.specs.declared.view.View.{View}
 use Rattle.shared_board.proofs.ListLemmas.{all_set, same_at, total_set}
 

@@ -1,5 +1,5 @@
 -- A claim keeps the rule.
-use Rattle.std.proofs.Common.{◌≡◌, ◌≢◌, ◌⊎◌, inl, inr, ⊎_elim, ℕ, zero, suc, ◌+◌, ◌*◌, ◌%◌, ◌^◌, ◌<◌, ◌≤◌, List, [], ◌∷◌, length, get_or, set, Bool, true, false, sym, refl, ap, ◌∙◌, subst, arith, Some, None, eqb, mod-lt, length-set, get_or-set_other, get_or-set_same}
+use Rattle.std.proofs.Common.{◌≡◌, ◌≢◌, inl, inr, ⊎_elim, ℕ, zero, suc, ◌+◌, ◌%◌, ◌<◌, ◌≤◌, List, length, get_or, set, sym, refl, ap, ◌∙◌, subst, arith, Some, eqb, mod-lt, length-set, get_or-set_other, get_or-set_same}
 use Rattle.std.proofs.lemmas.Bool.{cases_lt}
 use mathlib.Core.Logic.{dite}
 use native.Mathlib.Decide.{ℕ_discrete}
@@ -10,11 +10,10 @@ use Rattle.atomic_table.specs.Table.{State, Me, step, Act, keeps, stepped, Allow
 use Rattle.atomic_table.proofs.Lists.{exchanged, set_here}
 use Rattle.sim_game.specs.declared.Side.{Side}
 use Rattle.sim_game.specs.declared.Side.TheVariants.{One, Two}
-use Rattle.sim_game.specs.Model.{GameModel, IsGame, IsEnd, Reachable}
-use Rattle.sim_game.specs.Sides.{IsNoTighter, opening_bound, end_bound, better}
+use Rattle.sim_game.specs.Model.{GameModel}
 use Rattle.bounds_board.specs.Views.{IsInnerKey}
 use Rattle.shared_board.specs.Words.{key_word, bound_word, row_after, key_at, bound_at, opening_word, IsLooser}
-use Rattle.shared_board.specs.Rule.{IsConsistent, IsConsistentView, IsRow, IsPosted, Has, seen_at, seen}
+use Rattle.shared_board.specs.Rule.{IsConsistent, IsConsistentView, IsRow, Has, seen_at, seen}
 use Rattle.shared_board.specs.Plays.{knowing, claimed, MayClaim, IsApart}
 use Rattle.shared_board.specs.declared.view.View.{View}
 use Rattle.shared_board.proofs.ChangeLemmas.{changes, keeps_words, at_long}

@@ -1,23 +1,22 @@
 -- What a closed board has, from the rule and the facts of a whole pass.
-use Rattle.std.proofs.Common.{◌≡◌, ◌≢◌, ◌⊎◌, inl, inr, ⊎_elim, ℕ, zero, suc, ◌+◌, ◌*◌, ◌<◌, ◌≤◌, ℤ, Bool, true, false, ◌&&◌, cond, eqb, List, [], ◌∷◌, ◌++◌, length, get_or, All, sym, refl, ap, ◌∙◌, subst, arith, Some}
+use Rattle.std.proofs.Common.{◌≡◌, ◌≢◌, inl, inr, ⊎_elim, ℕ, zero, suc, ◌+◌, ◌<◌, ◌≤◌, ℤ, Bool, true, false, ◌&&◌, cond, eqb, List, [], ◌∷◌, ◌++◌, length, get_or, All, sym, refl, ap, ◌∙◌, subst, arith}
 use Rattle.std.specs.List.{Contains}
 use Rattle.std.proofs.lemmas.Bool.{cases_lt}
-use Rattle.std.proofs.lemmas.List.Elements.{All-nil, All-cons, All-append, All-weaker, All-contains, Contains-append_left, Contains-append_right}
+use Rattle.std.proofs.lemmas.List.Elements.{All-nil, All-cons, All-weaker, All-contains, Contains-append_right}
 use mathlib.Core.Logic.{dite}
 use native.Mathlib.Decide.{ℕ_discrete}
-use mathlib.Core.Option.{some, none, some-injective, some-ne-none}
+use mathlib.Core.Option.{some, some-injective, some-ne-none}
 use lib.ListN.{get_elem?}
 use Rattle.atomic_table.specs.Table.{State}
 use Rattle.sim_game.specs.declared.Side.{Side}
 use Rattle.sim_game.specs.declared.Side.TheVariants.{One, Two}
 use Rattle.sim_game.specs.Model.{GameModel, IsGame}
 use Rattle.sim_game.specs.Sides.{IsNoTighter, better, opening_bound}
-use Rattle.sim_game.proofs.SideLemmas.{looser_refl, looser_trans, looser_left, looser_right, looser_both, better_left, better_right}
+use Rattle.sim_game.proofs.SideLemmas.{looser_refl, looser_trans, looser_left, looser_both, better_left, better_right}
 use Rattle.plan_book.specs.declared.Entry.{Entry}
 use Rattle.plan_book.specs.Entries.{IsEntry}
 use Rattle.plan_book.specs.Books.{same_side, best_posted, IsBooked, IsClosed}
 use Rattle.plan_book.proofs.BookLemmas.{best_opening, best_has, eqb_self, same_side_self}
-use Rattle.bounds_board.specs.Views.{IsInnerKey}
 use Rattle.bounds_board.proofs.PlainLemmas.{entry_weaker}
 use Rattle.shared_board.specs.Words.{IsLooser, key_at, bound_at, opening_word, word_of, bound_of}
 use Rattle.shared_board.specs.Rule.{IsConsistent, IsConsistentView, Has, seen_at}

@@ -1,5 +1,5 @@
 -- A desk as a search sees it: what stays, what grows, and what its calls tell.
-use Rattle.std.proofs.Common.{◌≡◌, ◌≢◌, ◌⊎◌, inl, inr, ⊎_elim, ℕ, ◌+◌, ◌*◌, ◌<◌, ◌≤◌, ℤ, Bool, true, false, cond, eqb, Option, None, Some, IsSome, List, [], ◌∷◌, ◌++◌, length, get_or, sym, refl, ap, ◌∙◌, subst, arith, min, max, Result, Ok, Err, IfOk, OnOk, OnErr, get_or-set_same}
+use Rattle.std.proofs.Common.{◌≡◌, ◌≢◌, ⊎_elim, ℕ, ◌+◌, ◌<◌, ◌≤◌, ℤ, Bool, true, false, cond, eqb, Option, None, Some, IsSome, List, ◌∷◌, ◌++◌, length, sym, refl, ap, ◌∙◌, subst, arith, min, max, Result, Ok, Err, IfOk, OnOk, OnErr, get_or-set_same}
 use Rattle.std.proofs.lemmas.Int.{ints}
 use Rattle.sim_game.specs.declared.Side.{Side}
 use Rattle.sim_game.specs.declared.Side.TheVariants.{One, Two}
@@ -14,10 +14,10 @@ use Rattle.shared_board.specs.Words.{IsLooser, tighter, word_of, bound_of, openi
 use Rattle.shared_board.specs.Rule.{Has, seen, seen_at}
 use Rattle.shared_board.specs.Plays.{more_keys, looked, posting, IsApart, AllNamed}
 use Rattle.shared_board.specs.Passes.{key_of, seen_by, IsKnown, IsUnseen, IsAnswer}
-use Rattle.shared_board.specs.Values.{DeskValue, DeskName, viewing, entering, desk_view}
+use Rattle.shared_board.specs.Values.{DeskValue, viewing, entering, desk_view}
 use Rattle.shared_board.specs.declared.view.View.{View}
 use Rattle.shared_board.proofs.ListLemmas.{has_right}
-use Rattle.shared_board.proofs.WordLemmas.{word_refl, word_trans, word_left, word_right}
+use Rattle.shared_board.proofs.WordLemmas.{word_trans, word_left, word_right}
 use Rattle.shared_board.proofs.BoundLemmas.{opening_back}
 use Rattle.shared_board.proofs.SeenLemmas.{looser_bound, key_of_has, has_key_of, seen_opening, seen_has, seen_most, seen_grows, seen_one}
 use Rattle.shared_board.proofs.PassLemmas.{same_seen}

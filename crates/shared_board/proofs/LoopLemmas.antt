@@ -1,9 +1,7 @@
 -- What a claim has learnt after so many tries.
-use Rattle.std.proofs.Common.{◌≡◌, ◌≢◌, ◌⊎◌, inl, inr, ⊎_elim, ℕ, zero, suc, ◌+◌, ◌-◌, ◌*◌, ◌%◌, ◌^◌, ◌<◌, ◌≤◌, List, [], ◌∷◌, ◌++◌, Some, sym, refl, ap, ◌∙◌, subst, arith, mod-lt, mod-eq_of_lt, append_assoc}
-use Rattle.std.proofs.Math.Nat.{add-mod_right}
+use Rattle.std.proofs.Common.{◌≡◌, ◌≢◌, ◌⊎◌, inl, inr, ⊎_elim, ℕ, suc, ◌+◌, ◌^◌, ◌<◌, ◌≤◌, List, [], ◌∷◌, Some, sym, refl, ap, ◌∙◌, subst, arith}
 use Rattle.std.proofs.lemmas.Bool.{cases_lt}
-use Rattle.sim_game.specs.Model.{GameModel, IsGame, IsEnd, Reachable}
-use Rattle.sim_game.specs.Sides.{IsNoTighter, opening_bound, end_bound, better}
+use Rattle.sim_game.specs.Model.{GameModel, IsGame}
 use Rattle.bounds_board.specs.Views.{IsInnerKey}
 use Rattle.shared_board.specs.Words.{row_after}
 use Rattle.bounds_board.proofs.PlainLemmas.{row_met}

@@ -1,5 +1,5 @@
 -- The facts of a pass, after a step at the words.
-use Rattle.std.proofs.Common.{◌≡◌, ◌≢◌, ◌⊎◌, inl, inr, ⊎_elim, ℕ, zero, suc, ◌+◌, ◌*◌, ◌<◌, ◌≤◌, min, max, ℤ, pos, neg_ℤ, ◌≤ℤ◌, List, [], ◌∷◌, ◌++◌, length, get_or, set, Bool, All, sym, refl, ap, ◌∙◌, subst, arith, Some}
+use Rattle.std.proofs.Common.{◌≡◌, ◌⊎◌, inl, inr, ⊎_elim, ℕ, ◌+◌, ◌*◌, ◌<◌, ◌≤◌, ℤ, pos, neg_ℤ, ◌≤ℤ◌, List, [], ◌∷◌, ◌++◌, length, Bool, sym, refl, ap, ◌∙◌, subst, arith, Some}
 use Rattle.std.proofs.lemmas.Int.{ints}
 use Rattle.std.proofs.lemmas.List.Elements.{All-push}
 use Rattle.atomic_table.specs.Table.{Me}
@@ -14,7 +14,7 @@ use Rattle.plan_book.proofs.BookLemmas.{entry_backed}
 use Rattle.shared_board.specs.Words.{IsLooser, tighter, word_of, bound_of, opening_word, IsProved}
 use Rattle.shared_board.specs.Rule.{Has, seen_at, seen, IsInRange}
 use Rattle.shared_board.specs.Plays.{AllNamed, more_keys, looked, posting, IsBound}
-use Rattle.shared_board.specs.Passes.{IsKnown, IsEntered, IsBooked, IsUnseen, IsTold, IsPass, IsAnswer}
+use Rattle.shared_board.specs.Passes.{IsKnown, IsEntered, IsBooked, IsUnseen, IsPass, IsAnswer}
 use Rattle.shared_board.specs.declared.view.View.{View}
 use Rattle.shared_board.proofs.ListLemmas.{has_left, has_right}
 use Rattle.shared_board.proofs.SeenLemmas.{looser_bound, each_grows, lawful_grows}

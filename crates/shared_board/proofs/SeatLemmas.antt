@@ -1,19 +1,17 @@
 -- A split and a join keep the rule.
-use Rattle.std.proofs.Common.{◌≡◌, ◌≢◌, ◌⊎◌, inl, inr, ⊎_elim, ℕ, zero, suc, ◌+◌, ◌*◌, ◌<◌, ◌≤◌, max, List, [], ◌∷◌, ◌++◌, length, get_or, set, Bool, true, false, true≢false, ◌||◌, cond, eqb, ltb, sym, refl, ap, ◌∙◌, subst, arith, Some}
+use Rattle.std.proofs.Common.{◌≡◌, ◌≢◌, ◌⊎◌, inl, inr, ⊎_elim, ℕ, zero, suc, ◌+◌, ◌<◌, List, [], ◌∷◌, ◌++◌, length, get_or, set, Bool, true, false, true≢false, ◌||◌, sym, refl, ap, ◌∙◌, subst, arith}
 use Rattle.std.proofs.lemmas.Bool.Decides.{nat_tests}
 use mathlib.Core.Logic.{dite}
 use native.Mathlib.Decide.{ℕ_discrete}
 use mathlib.Core.Option.{some}
 use lib.ListN.{get_elem?}
 use Rattle.atomic_table.specs.Table.{State, Splits, Joins}
-use Rattle.atomic_table.proofs.Lists.{set_here, set_else, at_longer, at_last, at_snoc}
+use Rattle.atomic_table.proofs.Lists.{set_here, set_else, at_longer, at_snoc}
 use Rattle.sim_game.specs.declared.Side.{Side}
 use Rattle.sim_game.specs.declared.Side.TheVariants.{One, Two}
-use Rattle.sim_game.specs.Model.{GameModel, IsGame, IsEnd, Reachable}
-use Rattle.sim_game.specs.Sides.{IsNoTighter, opening_bound, end_bound, better}
-use Rattle.bounds_board.specs.Views.{IsInnerKey}
-use Rattle.shared_board.specs.Words.{bound_at, key_at, opening_word, IsLooser, tighter}
-use Rattle.shared_board.specs.Rule.{IsConsistent, IsConsistentView, IsRow, IsPosted, IsInRange, Has, seen_at, seen, total, times, once_below, spent_view}
+use Rattle.sim_game.specs.Model.{GameModel}
+use Rattle.shared_board.specs.Words.{bound_at, opening_word, IsLooser}
+use Rattle.shared_board.specs.Rule.{IsConsistent, IsConsistentView, IsPosted, IsInRange, Has, seen_at, seen, total, times, once_below, spent_view}
 use Rattle.shared_board.specs.Plays.{drawing, drawn_view, joined, tightest}
 use Rattle.shared_board.specs.declared.view.View.{View}
 use Rattle.shared_board.proofs.ListLemmas.{all_set, same_at, total_set, total_append, times_append, has_left, has_right, has_split}

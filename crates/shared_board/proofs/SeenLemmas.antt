@@ -1,5 +1,5 @@
 -- What a view has seen at a key.
-use Rattle.std.proofs.Common.{◌≡◌, ◌⊎◌, inl, inr, ⊎_elim, ℕ, ℤ, Bool, true, false, cond, eqb, Option, None, Some, List, [], ◌∷◌, get_or, All, refl, sym, ap, ◌∙◌, subst, arith}
+use Rattle.std.proofs.Common.{◌≡◌, ◌⊎◌, inl, inr, ⊎_elim, ℕ, ℤ, Bool, true, false, cond, eqb, Option, Some, List, [], ◌∷◌, All, refl, sym, ap, ◌∙◌, subst, arith}
 use Rattle.std.proofs.lemmas.Int.{ints}
 use Rattle.std.proofs.lemmas.Bool.{eqb-true}
 use Rattle.std.proofs.lemmas.List.Elements.{All-weaker}
@@ -7,7 +7,7 @@ use Rattle.sim_game.specs.declared.Side.{Side}
 use Rattle.sim_game.specs.declared.Side.TheVariants.{One, Two}
 use Rattle.sim_game.specs.Model.{GameModel}
 use Rattle.sim_game.specs.Sides.{IsNoTighter, better, opening_bound, end_bound}
-use Rattle.sim_game.proofs.SideLemmas.{looser_refl, looser_trans, looser_left, looser_right, looser_both, better_left, better_right, better_least}
+use Rattle.sim_game.proofs.SideLemmas.{looser_refl, looser_trans, looser_both, better_left, better_right, better_least}
 use Rattle.plan_book.specs.declared.Entry.{Entry}
 use Rattle.plan_book.specs.Entries.{IsEntry}
 use Rattle.plan_book.proofs.BookLemmas.{eqb_self}

@@ -1,15 +1,12 @@
 -- A board of free rows stands.
-use Rattle.std.proofs.Common.{◌≡◌, ◌≢◌, ◌⊎◌, ⊎_elim, ℕ, zero, suc, ◌+◌, ◌*◌, ◌<◌, ◌≤◌, List, [], ◌∷◌, length, get_or, replicate, true, false, true≢false, cond, eqb, ltb, sym, refl, ap, ◌∙◌, subst, arith, Some, None}
+use Rattle.std.proofs.Common.{◌≡◌, ℕ, zero, suc, ◌<◌, List, [], ◌∷◌, length, true≢false, sym, refl, ◌∙◌, subst, arith}
 use Rattle.std.proofs.lemmas.List.{length-replicate}
 use Rattle.std.proofs.lemmas.Bool.Decides.{nat_tests}
-use mathlib.Core.Option.{some}
-use lib.ListN.{get_elem?, get_or-replicate}
-use Rattle.atomic_table.specs.Table.{State, opening}
+use lib.ListN.{get_or-replicate}
+use Rattle.atomic_table.specs.Table.{opening}
 use Rattle.sim_game.specs.declared.Side.{Side}
 use Rattle.sim_game.specs.declared.Side.TheVariants.{One, Two}
-use Rattle.sim_game.specs.Model.{GameModel, IsGame, IsEnd, Reachable}
-use Rattle.sim_game.specs.Sides.{IsNoTighter, opening_bound, end_bound, better}
-use Rattle.bounds_board.specs.Views.{IsInnerKey}
+use Rattle.sim_game.specs.Model.{GameModel}
 use Rattle.shared_board.specs.Words.{bound_at, opening_word, IsBlank, IsLooser}
 use Rattle.shared_board.specs.Rule.{IsConsistent, IsConsistentView, IsRow, first_view, seen_at, seen, total, times, once_below}
 use Rattle.shared_board.specs.declared.view.View.{View}

@@ -1,14 +1,12 @@
 -- Each kind of step keeps the rule.
-use Rattle.std.proofs.Common.{◌≡◌, ℕ, List, get_or, set, sym, subst}
+use Rattle.std.proofs.Common.{ℕ, List, get_or, set, subst}
 use Rattle.std.proofs.lemmas.List.{set-get_or}
 use Rattle.atomic_table.specs.Table.{State}
-use Rattle.sim_game.specs.Model.{GameModel, IsGame, IsEnd, Reachable}
-use Rattle.sim_game.specs.Sides.{IsNoTighter, opening_bound, end_bound, better}
-use Rattle.bounds_board.specs.Views.{IsInnerKey}
+use Rattle.sim_game.specs.Model.{GameModel, IsGame}
 use Rattle.shared_board.specs.Words.{key_word, bound_word}
 use Rattle.shared_board.specs.Rule.{IsConsistent}
 use Rattle.shared_board.specs.Plays.{knowing, looked}
-use Rattle.shared_board.specs.Laws.{IsStep, claims, finds, posts, reads, splits, joins, EachStepKeeps}
+use Rattle.shared_board.specs.Laws.{IsStep, claims, finds, posts, reads, splits, joins}
 use Rattle.shared_board.specs.declared.view.View.{View}
 use Rattle.shared_board.proofs.ClaimLemmas.{claims_free, claims_found}
 use Rattle.shared_board.proofs.BoundLemmas.{posts_now, reads_now}

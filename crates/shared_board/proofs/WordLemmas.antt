@@ -1,13 +1,10 @@
 -- Words of a board: which is which, how bounds stand in them, and a board of free rows.
-use Rattle.std.proofs.Common.{◌≡◌, ◌≢◌, ◌⊎◌, inl, inr, ⊎_elim, ℕ, zero, suc, ◌+◌, ◌-◌, ◌*◌, ◌<◌, ◌≤◌, min, max, ℤ, pos, negsuc, ◌+ℤ◌, ◌-ℤ◌, ◌*ℤ◌, ◌≤ℤ◌, neg_ℤ, List, [], ◌∷◌, ◌++◌, length, get_or, set, sym, refl, ap, ◌∙◌, subst, arith, get_or-set_other, get_or-set_same, length-append}
+use Rattle.std.proofs.Common.{◌≡◌, ◌≢◌, ◌⊎◌, inl, inr, ⊎_elim, ℕ, zero, suc, ◌+◌, ◌*◌, ◌<◌, ◌≤◌, ℤ, pos, negsuc, ◌+ℤ◌, ◌≤ℤ◌, neg_ℤ, List, [], ◌∷◌, ◌++◌, length, get_or, sym, refl, ◌∙◌, subst, arith}
 use Rattle.std.proofs.lemmas.Int.{ints}
 use Rattle.std.proofs.lemmas.Bool.{cases_lt}
 use Rattle.sim_game.specs.declared.Side.{Side}
 use Rattle.sim_game.specs.declared.Side.TheVariants.{One, Two}
-use Rattle.sim_game.specs.Model.{GameModel, IsGame, IsEnd, Reachable}
-use Rattle.sim_game.specs.Sides.{IsNoTighter, opening_bound, end_bound, better}
-use Rattle.bounds_board.specs.Views.{IsInnerKey}
-use Rattle.shared_board.specs.Words.{key_word, bound_word, word_of, bound_of, IsLooser, tighter, key_at, bound_at, opening_word, IsBlank}
+use Rattle.shared_board.specs.Words.{key_word, bound_word, word_of, bound_of, IsLooser, tighter, IsBlank}
 
 pub word_is : (x : ℤ) → neg_ℤ (pos 4000000000) ≤ℤ x → pos (word_of x) ≡ x +ℤ pos 4000000000
 word_is (pos n) h = omega (arith, ints)

@@ -5,7 +5,7 @@ use Rattle.sim_game.specs.declared.Side.TheVariants.{One, Two}
 use Rattle.sim_game.specs.Model.{GameModel}
 use Rattle.sim_game.specs.Sides.{IsNoTighter}
 use Rattle.plan_book.specs.declared.Entry.{Entry}
-use Rattle.plan_book.specs.Books.{best_posted, IsClosed}
+use Rattle.plan_book.specs.Books.{best_posted}
 use Rattle.bounds_board.specs.Views.{IsInnerKey}
 use Rattle.shared_board.specs.Words.{key_at, bound_at, bound_of}
 use Rattle.shared_board.specs.Rule.{Has}

@@ -1,5 +1,5 @@
 -- What holds of the words of a board and of the views of its seats between any two steps.
-use Rattle.std.specs.Prelude.{◌≡◌, ◌≢◌, ◌⊎◌, ℕ, suc, ◌+◌, ◌*◌, ◌<◌, ◌≤◌, Bool, true, false, List, [], ◌∷◌, length, slice_index, slice_index_or, slice_set, replicate, Option, Some, None, cond, eqb, ltb}
+use Rattle.std.specs.Prelude.{◌≡◌, ◌≢◌, ◌⊎◌, ℕ, suc, ◌+◌, ◌*◌, ◌<◌, ◌≤◌, true, false, List, [], ◌∷◌, length, slice_index, slice_index_or, replicate, Some, None, cond, eqb, ltb}
 use mathlib.Core.Option.{some}
 use lib.ListN.{get_elem?}
 use Rattle.atomic_table.specs.Table.{State}
@@ -7,7 +7,7 @@ use Rattle.sim_game.specs.declared.Side.{Side}
 use Rattle.sim_game.specs.declared.Side.TheVariants.{One, Two}
 use Rattle.sim_game.specs.Model.{GameModel}
 use Rattle.bounds_board.specs.Views.{IsInnerKey}
-use Rattle.shared_board.specs.Words.{key_word, bound_word, IsLooser, row_after, key_at, bound_at, opening_word, IsProved}
+use Rattle.shared_board.specs.Words.{IsLooser, row_after, key_at, bound_at, opening_word, IsProved}
 use Rattle.shared_board.specs.declared.view.View.{View}
 
 -- x stands in the list

@@ -1,5 +1,5 @@
 -- The words of a board. Word 0 is always 0. A row has three words: its key plus 1, or 0 while it is free, its lower bound and its upper bound, each plus 4000000000.
-use Rattle.std.specs.Prelude.{◌≡◌, ℕ, ◌+◌, ◌-◌, ◌*◌, ◌%◌, ◌<◌, ◌≤◌, suc, min, max, ℤ, pos, negsuc, ◌-ℤ◌, List, length, slice_index}
+use Rattle.std.specs.Prelude.{◌≡◌, ℕ, ◌+◌, ◌-◌, ◌*◌, ◌<◌, ◌≤◌, suc, min, max, ℤ, pos, negsuc, ◌-ℤ◌, List, length, slice_index}
 use Rattle.sim_game.specs.declared.Side.{Side}
 use Rattle.sim_game.specs.declared.Side.TheVariants.{One, Two}
 use Rattle.sim_game.specs.Model.{GameModel, Reachable}

@@ -1,10 +1,8 @@
-use Rattle.std.proofs.Common.{rules, ◌≡◌, ℕ, ◌+◌, ◌*◌, ◌-◌, ◌<◌, ◌≤◌, suc, [], ◌∷◌, ◌++◌, refl, sym, ap, ◌∙◌, subst, arith, List, vec_len, vec_capacity, w64, to_z, of_z, to_z-of_z, ℤ}
+use Rattle.std.proofs.Common.{◌≡◌, ℕ, ◌+◌, ◌*◌, ◌-◌, [], ◌∷◌, ◌++◌, refl, sym, ap, ◌∙◌, arith, List, vec_len, vec_capacity, w64, to_z, of_z}
 use Rattle.std.proofs.lemmas.Int.{ints}
 use Rattle.std.specs.Mem.Slots.{slots_items}
 use Rattle.sim_game.specs.declared.Side.TheVariants.{One, Two}
 use Rattle.shared_board.specs.Words.{key_at, bound_at, bound_of}
-use Rattle.shared_board.specs.Closing.{kept_rows, kept_row}
-use Rattle.shared_board.specs.declared.close.Kept.{Kept}
 use Rattle.shared_board.proofs.CloseLemmas.{at_or, row_is, more_free, more_taken}
 use Rattle.shared_board.proofs.close.keep_rows.Goals as goal
 use Rattle.shared_board.proofs.close.keep_rows.Goals.{then-key-gt0+in-Ok, else-key-gt0}

@@ -1,4 +1,4 @@
-use Rattle.std.proofs.Common.{rules, ◌≡◌, ◌≢◌, ◌⊎◌, inl, inr, ℕ, ◌+◌, ◌*◌, ◌<◌, [], suc, sym, refl, ap, ◌∙◌, subst, arith, mod-lt}
+use Rattle.std.proofs.Common.{rules, ◌≡◌, inl, inr, ℕ, ◌+◌, ◌<◌, refl, subst, arith, mod-lt}
 use Rattle.shared_board.specs.Words.{row_after}
 use Rattle.shared_board.proofs.ClaimLemmas.{claims_as}
 use Rattle.shared_board.proofs.LoopLemmas.{SoFar, keeps_inside, learnt, goes_on, found_row, all_met, may_claim, still_at}

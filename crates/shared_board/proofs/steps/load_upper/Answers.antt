@@ -1,5 +1,5 @@
-use Rattle.std.proofs.Common.{rules, ◌≡◌, refl, sym, ap, ◌∙◌, subst, arith}
-use Rattle.sim_game.specs.declared.Side.TheVariants.{One, Two}
+use Rattle.std.proofs.Common.{refl, sym, ap, ◌∙◌, subst, arith}
+use Rattle.sim_game.specs.declared.Side.TheVariants.{Two}
 use Rattle.shared_board.specs.Plays.{IsApart}
 use Rattle.shared_board.specs.declared.view.View.{View}
 use Rattle.shared_board.proofs.BoundLemmas.{reads_as}

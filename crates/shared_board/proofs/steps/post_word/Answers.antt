@@ -1,7 +1,7 @@
-use Rattle.std.proofs.Common.{rules, ◌≡◌, ℕ, refl, sym, ap, ◌∙◌, subst, arith}
+use Rattle.std.proofs.Common.{refl, sym, ap, ◌∙◌, subst, arith}
 use Rattle.sim_game.specs.declared.Side.{Side}
 use Rattle.sim_game.specs.declared.Side.TheVariants.{One, Two}
-use Rattle.shared_board.specs.Plays.{MayPost, posting, IsBound}
+use Rattle.shared_board.specs.Plays.{MayPost}
 use Rattle.shared_board.proofs.BoundLemmas.{posts_as}
 use Rattle.shared_board.proofs.steps.post_word.Goals as goal
 

@@ -1,5 +1,3 @@
-use Rattle.std.proofs.Common.{◌+◌, ◌∷◌, ◌++◌, [], ℕ, List, subst, sym, ◌≡◌, ap, ◌∙◌}
-use Rattle.shared_board.specs.Words.{IsBlank}
 use Rattle.shared_board.proofs.WordLemmas.{blank_more}
 use Rattle.shared_board.proofs.words.blank_words.Goals as goal
 

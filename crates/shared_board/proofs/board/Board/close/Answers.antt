@@ -1,4 +1,4 @@
-use Rattle.std.proofs.Common.{rules, ◌≡◌, ℕ, ◌+◌, ◌*◌, ◌<◌, ◌≤◌, sym, ap, ◌∙◌, subst, arith, List, length, Some, true}
+use Rattle.std.proofs.Common.{rules, ◌≡◌, ℕ, ◌≤◌, sym, ap, ◌∙◌, subst, arith, List, length, Some, true}
 use Rattle.plan_book.specs.declared.Entry.{Entry}
 use Rattle.plan_book.specs.Books.{IsClosed}
 use Rattle.shared_board.specs.Words.{bound_at}

@@ -1,4 +1,4 @@
-use Rattle.std.proofs.Common.{◌≡◌, ℕ, ◌+◌, ◌*◌, length, List, sym, ap, ◌∙◌, subst, arith, ℤ, to_z, of_z, w64}
+use Rattle.std.proofs.Common.{◌≡◌, ℕ, ◌+◌, ◌*◌, length, List, ap, ◌∙◌}
 use Rattle.sim_game.specs.declared.Side.TheVariants.{One, Two}
 use Rattle.bounds_board.proofs.PlainLemmas.{opening_returned}
 use Rattle.shared_board.specs.Words.{IsBlank, opening_word, word_of}

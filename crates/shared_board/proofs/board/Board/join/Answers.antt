@@ -1,4 +1,4 @@
-use Rattle.std.proofs.Common.{rules, ◌≡◌, ℕ, ◌<◌, true, ◌||◌, ◌++◌, refl, sym, ap, ◌∙◌, subst, arith, Some}
+use Rattle.std.proofs.Common.{rules, ◌≡◌, ℕ, ◌||◌, ◌++◌, sym, ap, ◌∙◌, subst, arith}
 use Rattle.shared_board.specs.Passes.{IsPass}
 use Rattle.shared_board.proofs.SeatLemmas.{joins}
 use Rattle.shared_board.proofs.PassLemmas.{pass_joined, or_then, or_else}

@@ -1,4 +1,4 @@
-use Rattle.std.proofs.Common.{rules, ◌≡◌, ℕ, ◌<◌, true, sym, ap, ◌∙◌, arith}
+use Rattle.std.proofs.Common.{rules, ◌≡◌, true, ap, arith}
 use Rattle.shared_board.proofs.SeatLemmas.{splits}
 use Rattle.shared_board.proofs.PassLemmas.{pass_drawing, pass_drawn}
 use Rattle.shared_board.proofs.board.Board.split.Goals as goal

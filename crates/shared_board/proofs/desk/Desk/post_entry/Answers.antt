@@ -1,9 +1,9 @@
-use Rattle.std.proofs.Common.{rules, ◌≡◌, ℕ, ◌+◌, ◌*◌, ◌<◌, ◌≤◌, [], ◌∷◌, ◌++◌, refl, sym, ap, ◌∙◌, subst, arith, Some, length}
+use Rattle.std.proofs.Common.{rules, ◌≡◌, ℕ, [], ◌∷◌, ◌++◌, refl, sym, ap, ◌∙◌, subst, arith, Some, length}
 use Rattle.plan_book.specs.Entries.{IsEntry}
 use Rattle.shared_board.specs.Rule.{Has}
-use Rattle.shared_board.specs.Words.{word_of, IsProved, IsLooser}
-use Rattle.shared_board.specs.Rule.{IsInRange, seen, seen_at}
-use Rattle.shared_board.specs.Plays.{MayPost, IsBound, posting, AllNamed}
+use Rattle.shared_board.specs.Words.{word_of, IsLooser}
+use Rattle.shared_board.specs.Rule.{seen, seen_at}
+use Rattle.shared_board.specs.Plays.{MayPost, posting, AllNamed}
 use Rattle.shared_board.specs.Passes.{IsPass, IsKnown}
 use Rattle.shared_board.specs.Values.{DeskValue, entering}
 use Rattle.shared_board.specs.declared.view.View.{View}

@@ -1,13 +1,13 @@
-use Rattle.std.proofs.Common.{rules, ◌≡◌, ℕ, ◌+◌, ◌*◌, ◌<◌, ◌≤◌, sym, ap, ◌∙◌, subst, arith, Some, length, ℤ, w64, to_z, of_z}
+use Rattle.std.proofs.Common.{rules, ◌≡◌, ℕ, sym, ap, ◌∙◌, subst, arith, Some, length, ℤ, w64, to_z, of_z}
 use Rattle.std.proofs.lemmas.Int.{ints}
 use Rattle.sim_game.specs.declared.Side.TheVariants.{One, Two}
 use Rattle.shared_board.specs.Rule.{Has}
 use Rattle.shared_board.specs.Words.{bound_of}
 use Rattle.shared_board.specs.Rule.{seen}
 use Rattle.shared_board.specs.Plays.{IsBound}
-use Rattle.shared_board.specs.Passes.{IsPass, IsAnswer}
+use Rattle.shared_board.specs.Passes.{IsAnswer}
 use Rattle.shared_board.specs.declared.view.View.{View}
-use Rattle.shared_board.proofs.PassStepLemmas.{pass_looked, answers, word_small}
+use Rattle.shared_board.proofs.PassStepLemmas.{pass_looked, answers}
 use Rattle.shared_board.proofs.desk.Desk.read_row.Goals as goal
 
 pub load_lower-lower-requires-clause-row : goal.load_lower-lower-requires-clause-row

@@ -1,5 +1,4 @@
-use Rattle.std.proofs.Common.{◌≡◌, ℕ, Some}
-use Rattle.sim_game.specs.declared.Side.{Side}
+use Rattle.std.proofs.Common.{◌≡◌, Some}
 use Rattle.shared_board.specs.Passes.{key_of}
 use Rattle.shared_board.proofs.SeenLemmas.{key_of_has}
 use Rattle.shared_board.proofs.DeskLemmas.{if_ok, ok_always, err_always, on_err, claim_later, claim_opened, claim_unseen, claim_full}

@@ -1,4 +1,3 @@
-use Rattle.std.proofs.Common.{◌≡◌, ℕ, Some}
 use Rattle.bounds_board.proofs.ViewLemmas.{later_same}
 use Rattle.shared_board.specs.Values.{desk_view}
 use Rattle.shared_board.proofs.SeenLemmas.{has_key_of}

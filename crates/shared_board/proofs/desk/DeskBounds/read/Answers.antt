@@ -1,4 +1,3 @@
-use Rattle.std.proofs.Common.{◌≡◌, ℕ, Some}
 use Rattle.shared_board.proofs.DeskLemmas.{key_known, read_later, read_seen, read_backed}
 use Rattle.shared_board.proofs.desk.DeskBounds.read.Goals as goal
 

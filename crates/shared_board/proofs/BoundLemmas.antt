@@ -14,7 +14,7 @@ use Rattle.sim_game.proofs.SideLemmas.{looser_refl}
 use Rattle.plan_book.specs.Backed.{IsBacked, by_opening}
 use Rattle.shared_board.specs.Words.{key_word, bound_word, key_at, bound_at, opening_word, IsLooser, tighter, bound_of, IsProved}
 use Rattle.shared_board.specs.Rule.{IsConsistent, IsConsistentView, IsRow, IsPosted, IsInRange, Has, seen_at, seen, with_seen}
-use Rattle.shared_board.specs.Plays.{looked, posting, loaded, met, IsBound, MayRead, MayPost}
+use Rattle.shared_board.specs.Plays.{reading, posting, loaded, met, IsBound, MayRead, MayPost}
 use Rattle.shared_board.specs.declared.view.View.{View}
 use Rattle.shared_board.proofs.ChangeLemmas.{changes, keeps_words}
 use Rattle.shared_board.proofs.ClaimLemmas.{game_is, set_apart}
@@ -137,8 +137,8 @@ module _ {S G : Type 0} (m : GameModel S) (g : G) (rows : ℕ) where
       bound_ok : (h : G) → v.game ≡ Some h → g ≡ h
       bound_ok h is = game_is g h (sym (mine.same_game holder) ∙ is)
 
-      pub reads_now : Rule record { words = set s.words (bound_word side i) n; homes = s.homes; views = set s.views id (looked side v i n) }
-      reads_now = keeps_words m g rows s r id v (looked side v i n) (bound_word side i) at refl refl (λ x h. h)
+      pub reads_now : Rule record { words = set s.words (bound_word side i) n; homes = s.homes; views = set s.views id (reading side v i n) }
+      reads_now = keeps_words m g rows s r id v (reading side v i n) (bound_word side i) at refl refl (λ x h. h)
           (fits_seen s.words s.words r.head r.drawn id v side i n v.posted (v.loads + 1) holder inside (λ j k e. e) (λ side' j l. word_refl side' (bound_at s.words side' j))
           (mine.no_tighter side i inside) (word_refl side n) (λ p h. inl h) mine)
 
@@ -213,14 +213,14 @@ module _ {S G : Type 0} (model : G → GameModel S) (g : G) (rows : ℕ) (game_l
       → Allows (IsConsistent (model g) g rows) slots id a (bound_word side i) (λ n. n) (loaded model side (step slots (bound_word side i) 0 0 none) a)
   reads slots id a side i may s r deep at _ = let n : ℕ = bound_at s.words side i in
       let now = reads_now (model g) g rows game_laws s r id a.0 at side i may.holder may.inside in (
-        looked side a.0 i n,
+        reading side a.0 i n,
         keeps,
         tt,
         now,
         (
           refl,
-          set_apart (model g) g rows s (set s.words (bound_word side i) n) id a.0 (looked side a.0 i n) at now,
-          λ j e. let same : i ≡ j = (bounds_apart side side i j e).1 in subst (λ (z : ℕ). (looked side a.0 i n ≡ looked side a.0 z n) × ((h : G) → a.0.game ≡ Some h → IsBound model side a.0 z n h)) same
+          set_apart (model g) g rows s (set s.words (bound_word side i) n) id a.0 (reading side a.0 i n) at now,
+          λ j e. let same : i ≡ j = (bounds_apart side side i j e).1 in subst (λ (z : ℕ). (reading side a.0 i n ≡ reading side a.0 z n) × ((h : G) → a.0.game ≡ Some h → IsBound model side a.0 z n h)) same
               (refl, told s r id a.0 at side i may.holder may.inside),
         ),
       )

@@ -81,6 +81,14 @@ kept_few : (words : List ℕ) (n : ℕ) → length (kept_rows words n) ≤ n
 kept_few words zero = omega arith
 kept_few words (suc n) = omega (arith, kept_few words n, length_append (kept_rows words n) (kept_if words n (key_at words n)), length_if words n (key_at words n))
 
+length_taken : (words : List ℕ) (i n : ℕ) → n ≢ 0 → length (kept_if words i n) ≡ 1
+length_taken words i zero h = absurd (h refl)
+length_taken words i (suc n) h = refl
+
+kept_full : (words : List ℕ) (n : ℕ) → ((i : ℕ) → i < n → key_at words i ≢ 0) → length (kept_rows words n) ≡ n
+kept_full words zero h = refl
+kept_full words (suc n) h = omega (arith, kept_full words n (λ i l. h i (omega arith)), length_append (kept_rows words n) (kept_if words n (key_at words n)), length_taken words n (key_at words n) (h n (omega arith)))
+
 distinct_append : (xs ys : List Kept) → IsDistinct xs → IsDistinct ys → ((x y : Kept) → Has x xs → Has y ys → x.key ≢ y.key) → IsDistinct (xs ++ ys)
 distinct_append [] ys a b h = b
 distinct_append (x ∷ xs) ys a b h = (
@@ -197,6 +205,7 @@ module _ {S G : Type 0} (m : GameModel S) (game_laws : IsGame m) (g : G) (rows :
   pub closes : IsKept m rows v entries (kept_rows s.words rows)
   closes = record {
     few = kept_few s.words rows;
+    full = λ all. kept_full s.words rows (λ i l z. let o = all i l in let k = (f.knows i o.0 o.1).1 in omega arith);
     distinct = kept_distinct s.words rows rows (omega arith) (λ i j k li lj a b. (r.each_row i li).single k j a lj b);
     each = all_has (IsKeptRow m entries) (kept_rows s.words rows) (λ x h. let o = kept_from s.words rows x h in subst (IsKeptRow m entries) (sym o.4) (record {
       named = (r.each_row o.0 o.2).named o.1 o.3;

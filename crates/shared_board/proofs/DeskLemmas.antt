@@ -12,7 +12,7 @@ use Rattle.bounds_board.specs.Views.{BoardView, IsLater, IsInnerKey, IsFull, IsS
 use Rattle.bounds_board.proofs.PlainLemmas.{entry_weaker}
 use Rattle.shared_board.specs.Words.{IsLooser, tighter, word_of, bound_of, opening_word}
 use Rattle.shared_board.specs.Rule.{Has, seen, seen_at}
-use Rattle.shared_board.specs.Plays.{more_keys, looked, posting, IsApart, AllNamed}
+use Rattle.shared_board.specs.Plays.{more_keys, reading, posting, IsApart, AllNamed}
 use Rattle.shared_board.specs.Passes.{key_of, seen_by, IsKnown, IsUnseen, IsAnswer}
 use Rattle.shared_board.specs.Values.{DeskValue, viewing, entering, desk_view}
 use Rattle.shared_board.specs.declared.view.View.{View}
@@ -158,13 +158,13 @@ module _ {S G : Type 0} (model : G → GameModel S) where
   looser_back Two a b h = omega (arith, ints)
 
   -- ---- reads
-  module _ (d d' : DeskValue G) (i a b : ℕ) (lower upper : ℤ) (is : d' ≡ viewing d (looked Two (looked One d.pass.view i a) i b)) (is_lower : lower ≡ bound_of a) (is_upper : upper ≡ bound_of b)
+  module _ (d d' : DeskValue G) (i a b : ℕ) (lower upper : ℤ) (is : d' ≡ viewing d (reading Two (reading One d.pass.view i a) i b)) (is_lower : lower ≡ bound_of a) (is_upper : upper ≡ bound_of b)
       (low : IsAnswer (model d.board.game) One d.pass.view i lower) (up : IsAnswer (model d.board.game) Two d.pass.view i upper) (shaped : (side : Side) → (i < d.board.rows) × (length (seen side d.pass.view) ≡ d.board.rows)) where
     abbrev first : View G
-    first = looked One d.pass.view i a
+    first = reading One d.pass.view i a
 
     abbrev second : View G
-    second = looked Two first i b
+    second = reading Two first i b
 
     read_sees : (side : Side) (j : ℕ) → IsLooser side (seen_at (model d.board.game) side d.pass.view j) (seen_at (model d.board.game) side second j)
     read_sees side j = let m = model d.board.game in let v = d.pass.view in let rows = d.board.rows in

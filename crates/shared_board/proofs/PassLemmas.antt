@@ -11,12 +11,12 @@ use Rattle.plan_book.specs.Entries.{IsEntry}
 use Rattle.shared_board.specs.Words.{IsLooser, word_of, opening_word}
 use Rattle.shared_board.specs.Rule.{Has, seen_at, seen, first_view}
 use Rattle.shared_board.specs.Plays.{AllNamed, drawing, drawn_view, joined, tightest}
-use Rattle.shared_board.specs.Passes.{IsKnown, IsEntered, IsBooked, IsUnseen, IsTold, IsPass}
+use Rattle.shared_board.specs.Passes.{IsKnown, IsEntered, IsBooked, IsUnseen, IsTold, KnowsNoLess, IsPass}
 use Rattle.shared_board.specs.declared.view.View.{View}
 use Rattle.shared_board.proofs.WordLemmas.{word_refl, tighter_is}
 use Rattle.shared_board.proofs.ListLemmas.{has_left, has_right, has_split}
 use Rattle.shared_board.proofs.SeatLemmas.{tightest_left, tightest_right, tightest_long, seen_joined, seen_drawing, seen_drawn}
-use Rattle.shared_board.proofs.SeenLemmas.{each_grows}
+use Rattle.shared_board.proofs.SeenLemmas.{each_grows, seen_grows}
 use Rattle.shared_board.proofs.ClaimLemmas.{game_is}
 
 -- of lists of one length, the tightest is one of both
@@ -69,6 +69,12 @@ module _ {S G : Type 0} (m : GameModel S) where
     unseen = λ side i. unseen_as v (drawn_view v) side i (seen_drawn side v) (λ p h. h) (t.unseen side i);
   }
 
+  pub knows_drawing : (v : View G) → KnowsNoLess m v (drawing v)
+  knows_drawing v = record { keys = λ i k h. h; seen = λ side key. seen_grows m v (drawing v) side key (λ p h. h) (λ i. same_seen v (drawing v) side i (seen_drawing side v)) }
+
+  pub knows_drawn : (v : View G) → KnowsNoLess m v (drawn_view v)
+  knows_drawn v = record { keys = λ i k h. h; seen = λ side key. seen_grows m v (drawn_view v) side key (λ p h. h) (λ i. same_seen v (drawn_view v) side i (seen_drawn side v)) }
+
   -- what two passes of one game tell together
   module _ (v w : View G) (long : (side : Side) → length (seen side v) ≡ length (seen side w)) where
     lefts : (p : ℕ × ℕ) → Has p v.keys → Has p (joined v w).keys
@@ -93,6 +99,12 @@ module _ {S G : Type 0} (m : GameModel S) where
         (tightest_either side (seen side v) (seen side w) i (opening_word m side) (long side))))
         (λ (y : (k : ℕ) × Has (i, k) w.keys). inr (y.0, rights (i, y.0) y.1)) b)
         (λ (x : (k : ℕ) × Has (i, k) v.keys). inr (x.0, lefts (i, x.0) x.1)) a
+
+    pub knows_left : KnowsNoLess m v (joined v w)
+    knows_left = record { keys = λ i k h. lefts (i, k) h; seen = λ side key. seen_grows m v (joined v w) side key lefts (sees_left side) }
+
+    pub knows_right : KnowsNoLess m w (joined v w)
+    knows_right = record { keys = λ i k h. rights (i, k) h; seen = λ side key. seen_grows m w (joined v w) side key rights (sees_right side) }
 
     told_joined : (total : ℕ) (es fs : List Entry) → IsTold m v total es → IsTold m w total fs → IsTold m (joined v w) total (es ++ fs)
     told_joined total es fs a b = record {
@@ -138,6 +150,11 @@ module _ {S G : Type 0} (model : G → GameModel S) where
       → IsPass model words b.0 b.1 total es lead drawn held → IsPass model words' b.0 b.1 total es' lead' drawn' held'
   recount words words' b total es es' lead lead' drawn drawn' held held' e1 e2 e3 e4 e5 p =
       subst (λ (z : ℕ × List Entry × Bool × ℕ × ℕ). IsPass model z.0 b.0 b.1 total z.1 z.2 z.3 z.4) (λ c. (sym e1 c, sym e2 c, sym e3 c, sym e4 c, sym e5 c)) p
+
+  -- passes of one table have seen as many rows
+  pub long_both : (words words' : ℕ) (v w : View G) (slots slots' : List (ℕ × Unit {0})) (total total' : ℕ) (es fs : List Entry) (lead lead' : Bool) (drawn drawn' held held' : ℕ)
+      → IsPass model words v slots total es lead drawn held → IsPass model words' w slots' total' fs lead' drawn' held' → words ≡ words' → (side : Side) → length (seen side v) ≡ length (seen side w)
+  long_both words words' v w slots slots' total total' es fs lead lead' drawn drawn' held held' p q same side = let x = p.shaped side in let y = q.shaped side in omega arith
 
   pub pass_joined : (words words' : ℕ) (v w : View G) (slots slots' : List (ℕ × Unit {0})) (total : ℕ) (es fs entries : List Entry) (lead lead' lead'' : Bool) (drawn drawn' drawn'' held held' held'' : ℕ) (b : Me (Unit {0}) (View G))
       → IsPass model words v slots total es lead drawn held → IsPass model words w slots' total fs lead' drawn' held' → v.game ≡ w.game → b ≡ (joined v w, slots) → words' ≡ words → entries ≡ es ++ fs → lead'' ≡ (lead || lead') → drawn'' ≡ max drawn drawn' → held'' ≡ min (held + held') 4294967295

@@ -13,7 +13,7 @@ use Rattle.plan_book.specs.Entries.{IsEntry}
 use Rattle.plan_book.proofs.BookLemmas.{entry_backed}
 use Rattle.shared_board.specs.Words.{IsLooser, tighter, word_of, bound_of, opening_word, IsProved}
 use Rattle.shared_board.specs.Rule.{Has, seen_at, seen, IsInRange}
-use Rattle.shared_board.specs.Plays.{AllNamed, more_keys, looked, posting, IsBound}
+use Rattle.shared_board.specs.Plays.{AllNamed, more_keys, reading, posting, IsBound}
 use Rattle.shared_board.specs.Passes.{IsKnown, IsEntered, IsBooked, IsUnseen, IsPass, IsAnswer}
 use Rattle.shared_board.specs.declared.view.View.{View}
 use Rattle.shared_board.proofs.ListLemmas.{has_left, has_right}
@@ -101,10 +101,10 @@ module _ {S G : Type 0} (m : GameModel S) where
       (λ e is. inr (k, subst (λ (z : ℕ). Has (z, k) v.keys) is known)) (λ _. u)
 
 module _ {S G : Type 0} (model : G → GameModel S) where
-  pub pass_looked : (words words' : ℕ) (v : View G) (slots : List (ℕ × Unit {0})) (total : ℕ) (es : List Entry) (lead : Bool) (drawn held : ℕ) (b : Me (Unit {0}) (View G)) (rows : ℕ) (side : Side) (i n k : ℕ) → Has (i, k) v.keys
-      → IsPass model words v slots total es lead drawn held → b.0 ≡ looked side v i n → b.1 ≡ [] → words' ≡ words → words ≡ 3 * rows + 1 → i < rows → ((g : G) → v.game ≡ Some g → IsBound model side v i n g)
+  pub pass_reading : (words words' : ℕ) (v : View G) (slots : List (ℕ × Unit {0})) (total : ℕ) (es : List Entry) (lead : Bool) (drawn held : ℕ) (b : Me (Unit {0}) (View G)) (rows : ℕ) (side : Side) (i n k : ℕ) → Has (i, k) v.keys
+      → IsPass model words v slots total es lead drawn held → b.0 ≡ reading side v i n → b.1 ≡ [] → words' ≡ words → words ≡ 3 * rows + 1 → i < rows → ((g : G) → v.game ≡ Some g → IsBound model side v i n g)
       → IsPass model words' b.0 b.1 total es lead drawn held
-  pass_looked words words' v slots total es lead drawn held b rows side i n k known p is none table wide l told =
+  pass_reading words words' v slots total es lead drawn held b rows side i n k known p is none table wide l told =
       let long : (side' : Side) → length (seen side' v) ≡ rows = λ side'. (let x = p.shaped side' in omega arith) in
       recount model words words' b total es es lead lead drawn drawn held held table refl refl refl refl
       (subst (λ (z : View G). IsPass model words z b.1 total es lead drawn held) (sym is) record {
@@ -116,7 +116,7 @@ module _ {S G : Type 0} (model : G → GameModel S) where
         few = p.few;
         inside = p.inside;
         shaped = λ side'. ap (λ (k : ℕ). 3 * k + 1) (shaped_as rows side side' v i n v.posted (v.loads + 1) long) ∙ sym wide;
-        told = λ g e. told_as (model g) v (looked side v i n) total es (λ q h. h) (p.told g e).named refl
+        told = λ g e. told_as (model g) v (reading side v i n) total es (λ q h. h) (p.told g e).named refl
             (λ side' j. sees_more (model g) rows side side' v i n j v.posted (v.loads + 1) (long side) l (told g e).no_looser)
             (λ side' j. unseen_sees (model g) rows side side' v i n j v.posted (v.loads + 1) k (long side) l known ((p.told g e).unseen side' j)) (p.told g e);
       })

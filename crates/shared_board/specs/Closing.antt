@@ -51,6 +51,8 @@ pub record IsKeptRow {S : Type 0} (m : GameModel S) (entries : List Entry) (x : 
 -- the rows that are kept beside the book of the pass that closed the board
 pub record IsKept {S G : Type 0} (m : GameModel S) (rows : ℕ) (v : View G) (entries : List Entry) (kept : List Kept) : Type 0 where
   pub few : length kept ≤ rows
+  -- a pass that knew a key of each row leaves as many as there are rows
+  pub full : ((i : ℕ) → i < rows → (k : ℕ) × Has (i, k) v.keys) → length kept ≡ rows
   pub distinct : IsDistinct kept
   pub each : All (IsKeptRow m entries) kept
   pub entered : All (λ e. HasKey kept e.key) entries

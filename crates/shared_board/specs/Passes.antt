@@ -57,6 +57,11 @@ module _ {S G : Type 0} (m : GameModel S) where
     pub booked : (i : ℕ) (side : Side) (x : ℕ) → Has (i, side, x) v.posted → IsBooked v entries i side x
     pub unseen : (side : Side) (i : ℕ) → IsUnseen v side i
 
+-- the later view knows no less: neither keys nor bounds
+pub record KnowsNoLess {S G : Type 0} (m : GameModel S) (old new : View G) : Type 0 where
+  pub keys : (i k : ℕ) → Has (i, k) old.keys → Has (i, k) new.keys
+  pub seen : (side : Side) (key : ℕ) → IsNoTighter side (seen_by m old side key) (seen_by m new side key)
+
 module _ {S G : Type 0} (model : G → GameModel S) where
   pub record IsPass (words : ℕ) (v : View G) (slots : List (ℕ × Unit {0})) (total : ℕ) (entries : List Entry) (lead : Bool) (drawn held : ℕ) : Type 0 where
     pub no_slots : slots ≡ []

@@ -33,8 +33,8 @@ module _ {G : Type 0} where
   knowing v i k = record v { keys = (i, k) ∷ v.keys }
 
   -- after a load of the bound n of row i
-  abbrev pub looked : Side → View G → ℕ → ℕ → View G
-  looked side v i n = with_seen side (slice_set (seen side v) i n) (record v { loads = v.loads + 1 })
+  abbrev pub reading : Side → View G → ℕ → ℕ → View G
+  reading side v i n = with_seen side (slice_set (seen side v) i n) (record v { loads = v.loads + 1 })
 
   -- after the bound x met the bound n in row i
   abbrev pub posting : Side → View G → ℕ → ℕ → ℕ → View G
@@ -86,7 +86,7 @@ module _ {S G : Type 0} (model : G → GameModel S) where
 
   -- the bound found is one of the board
   abbrev pub loaded : Side → At → Sat → ℕ → Sat → Type 0
-  loaded side st a n b = (b.1 ≡ a.1) × IsApart b.0.keys × ((i : ℕ) → st.word ≡ bound_word side i → (b.0 ≡ looked side a.0 i n) × ((g : G) → a.0.game ≡ Some g → IsBound side a.0 i n g))
+  loaded side st a n b = (b.1 ≡ a.1) × IsApart b.0.keys × ((i : ℕ) → st.word ≡ bound_word side i → (b.0 ≡ reading side a.0 i n) × ((g : G) → a.0.game ≡ Some g → IsBound side a.0 i n g))
 
   -- the bound was posted, and met one of the board
   abbrev pub met : Side → At → Sat → ℕ → Sat → Type 0

@@ -3,6 +3,7 @@ ghost use Rattle.std.specs.Prelude.{◌≡◌, ◌<◌, ◌≤◌, true, [], ◌
 ghost use Rattle.sim_game.specs.declared.Side.TheVariants.{One, Two};
 ghost use Rattle.shared_board.specs.Words.{opening_word};
 ghost use Rattle.shared_board.specs.Rule.{first_view};
+ghost use Rattle.shared_board.specs.Passes.{KnowsNoLess};
 ghost use Rattle.shared_board.specs.Values.{IsPassOf};
 ghost use Rattle.shared_board.specs.Plays.{drawing, drawn_view, joined};
 
@@ -100,6 +101,8 @@ impl<G: Game> Board<G> {
         ensures ours { IfOk result (λ new. IsPassOf self.now new) }
         ensures view { IfOk result (λ new. new.view ≡ drawn_view pass.old.view) }
         ensures entries { IfOk result (λ new. new.entries ≡ []) }
+        ensures mine { OnOk result (KnowsNoLess (G.model self.now.game) pass.old.view pass.new.view) }
+        ensures theirs { IfOk result (λ new. KnowsNoLess (G.model self.now.game) pass.old.view new.view) }
         ensures err { OnErr result ((pass.new ≡ pass.old) × (pass.old.view.drawn ≡ 65535)) }
     {
         if pass.drawn >= MOST_DRAWN {
@@ -124,6 +127,8 @@ impl<G: Game> Board<G> {
         ensures total { pass.new.total ≡ pass.old.total }
         ensures view { OnOk result (pass.new.view ≡ joined pass.old.view other.view) }
         ensures entries { OnOk result (pass.new.entries ≡ pass.old.entries ++ other.entries) }
+        ensures mine { OnOk result (KnowsNoLess (G.model self.now.game) pass.old.view pass.new.view) }
+        ensures theirs { OnOk result (KnowsNoLess (G.model self.now.game) other.view pass.new.view) }
         ensures err { IfErr result (λ e. (pass.new ≡ pass.old) × (e.other ≡ other)) }
     {
         let Pass {

@@ -6,7 +6,7 @@ ghost use Rattle.sim_game.specs.Model.{Reachable};
 ghost use Rattle.bounds_board.specs.Views.{IsInnerKey, IsPostable, IsLater, IsRead, IsEnclosure};
 ghost use Rattle.shared_board.specs.Words.{word_of, bound_of, IsLooser};
 ghost use Rattle.shared_board.specs.Rule.{Has, seen, seen_at};
-ghost use Rattle.shared_board.specs.Plays.{more_keys, looked, posting, IsApart, AllNamed};
+ghost use Rattle.shared_board.specs.Plays.{more_keys, reading, posting, IsApart, AllNamed};
 ghost use Rattle.shared_board.specs.Passes.{IsUnseen, IsAnswer};
 ghost use Rattle.shared_board.specs.Values.{IsPassOf, viewing, entering, desk_view, DeskName};
 
@@ -92,7 +92,7 @@ impl<'a, G: Game> Desk<'a, G> {
     /// The bounds of a row, by a load of each.
     fn read_row(&mut self, row: Row) -> Enclosure
         requires { (k : ℕ) × Has (row, k) self.old.pass.view.keys }
-        ensures view { (a b : ℕ) × (self.new ≡ viewing self.old (looked Two (looked One self.old.pass.view row a) row b)) × (result.lower ≡ bound_of a) × (result.upper ≡ bound_of b) }
+        ensures view { (a b : ℕ) × (self.new ≡ viewing self.old (reading Two (reading One self.old.pass.view row a) row b)) × (result.lower ≡ bound_of a) × (result.upper ≡ bound_of b) }
         ensures loads { self.new.pass.view.loads ≡ self.old.pass.view.loads + 2 }
         ensures lower { IsAnswer (G.model self.old.board.game) One self.old.pass.view row result.lower }
         ensures upper { IsAnswer (G.model self.old.board.game) Two self.old.pass.view row result.upper }

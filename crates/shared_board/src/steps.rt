@@ -2,7 +2,7 @@
 ghost use Rattle.std.specs.Prelude.{◌≡◌, ◌≢◌, ℕ, ◌+◌, ◌*◌, ◌<◌, ◌≤◌, List, [], Some, IfSome, IfNone};
 ghost use Rattle.bounds_board.specs.Views.{IsInnerKey};
 ghost use Rattle.shared_board.specs.Rule.{Has};
-ghost use Rattle.shared_board.specs.Plays.{more_keys, looked, posting, IsBound, IsApart, AllNamed, IsAt, IsSized, MayPost};
+ghost use Rattle.shared_board.specs.Plays.{more_keys, reading, posting, IsBound, IsApart, AllNamed, IsAt, IsSized, MayPost};
 ghost use Rattle.sim_game.specs.declared.Side.TheVariants.{One, Two};
 
 use crate::rule::{Claim, Cut, Raise, ReadLower, ReadUpper, Rules};
@@ -50,7 +50,7 @@ pub(crate) fn load_lower<G: Game>(words: &Words<G>, seat: &mut Place<G>, rows: u
     requires seat { IsAt words.now.table_id seat.old.table_id seat.old.me }
     requires row { row < rows }
     ensures seat { IsAt words.now.table_id seat.new.table_id seat.new.me × (seat.new.id ≡ seat.old.id) }
-    ensures view { seat.new.me.0 ≡ looked One seat.old.me.0 row result }
+    ensures view { seat.new.me.0 ≡ reading One seat.old.me.0 row result }
     ensures apart { IsApart seat.old.me.0.keys }
     ensures told { (g : G) → seat.old.me.0.game ≡ Some g → IsBound G.model One seat.old.me.0 row result g }
 {
@@ -63,7 +63,7 @@ pub(crate) fn load_upper<G: Game>(words: &Words<G>, seat: &mut Place<G>, rows: u
     requires seat { IsAt words.now.table_id seat.old.table_id seat.old.me }
     requires row { row < rows }
     ensures seat { IsAt words.now.table_id seat.new.table_id seat.new.me × (seat.new.id ≡ seat.old.id) }
-    ensures view { seat.new.me.0 ≡ looked Two seat.old.me.0 row result }
+    ensures view { seat.new.me.0 ≡ reading Two seat.old.me.0 row result }
     ensures apart { IsApart seat.old.me.0.keys }
     ensures told { (g : G) → seat.old.me.0.game ≡ Some g → IsBound G.model Two seat.old.me.0 row result g }
 {

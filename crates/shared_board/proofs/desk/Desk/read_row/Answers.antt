@@ -7,7 +7,7 @@ use Rattle.shared_board.specs.Rule.{seen}
 use Rattle.shared_board.specs.Plays.{IsBound}
 use Rattle.shared_board.specs.Passes.{IsAnswer}
 use Rattle.shared_board.specs.declared.view.View.{View}
-use Rattle.shared_board.proofs.PassStepLemmas.{pass_looked, answers}
+use Rattle.shared_board.proofs.PassStepLemmas.{pass_reading, answers}
 use Rattle.shared_board.proofs.desk.Desk.read_row.Goals as goal
 
 pub load_lower-lower-requires-clause-row : goal.load_lower-lower-requires-clause-row
@@ -30,9 +30,9 @@ invariant_of-pass g c = let view : c.pass.inside.seat.me.0 ≡ c.args.self.now.p
     let there = subst (λ (z : ℕ). Has (z, c.requires.0) c.pass.inside.seat.me.0.keys) (sym here) known in let a = c.load_lower-lower.ensures in let b = c.load_upper-upper.ensures in
     let mid : c.load_lower-lower.new.seat.table_id.words ≡ c.pass.inside.seat.table_id.words = ap (λ z. z.words) (a.seat.0.0 ∙ sym same) in
     let end : c.load_upper-upper.new.seat.table_id.words ≡ c.load_lower-lower.new.seat.table_id.words = ap (λ z. z.words) (b.seat.0.0 ∙ sym a.seat.0.0) in
-    let first = pass_looked g.G.Game.model _ _ _ _ _ _ _ _ _ c.load_lower-lower.new.seat.me _ _ _ _ c.requires.0 there c.pass.invariant a.view a.seat.0.2 mid words (omega arith) a.told in
+    let first = pass_reading g.G.Game.model _ _ _ _ _ _ _ _ _ c.load_lower-lower.new.seat.me _ _ _ _ c.requires.0 there c.pass.invariant a.view a.seat.0.2 mid words (omega arith) a.told in
     let still = subst (λ (v : View g.row.G.Denot). Has (c.place-place.result, c.requires.0) v.keys) (sym a.view) there in
-    pass_looked g.G.Game.model _ _ _ _ _ _ _ _ _ c.load_upper-upper.new.seat.me _ _ _ _ c.requires.0 still first b.view b.seat.0.2 end (mid ∙ words) (omega arith) b.told
+    pass_reading g.G.Game.model _ _ _ _ _ _ _ _ _ c.load_upper-upper.new.seat.me _ _ _ _ c.requires.0 still first b.view b.seat.0.2 end (mid ∙ words) (omega arith) b.told
 
 pub returns-clause-lower : goal.returns-clause-lower
 returns-clause-lower g c = let view : c.pass.inside.seat.me.0 ≡ c.args.self.now.pass.view = search rules in let game = c.args.self.now.board.game in

@@ -1,5 +1,5 @@
 -- What a closed board has, from the rule and the facts of a whole pass.
-use Rattle.std.proofs.Common.{◌≡◌, ◌≢◌, inl, inr, ⊎_elim, ℕ, zero, suc, ◌+◌, ◌<◌, ◌≤◌, ℤ, Bool, true, false, ◌&&◌, cond, eqb, List, [], ◌∷◌, ◌++◌, length, get_or, All, sym, refl, ap, ◌∙◌, subst, arith}
+use Rattle.std.proofs.Common.{◌≡◌, ◌≢◌, inl, inr, ⊎_elim, ℕ, zero, suc, ◌<◌, ◌≤◌, ℤ, Bool, true, ◌&&◌, eqb, List, [], ◌∷◌, ◌++◌, length, length-append, get_or, All, sym, refl, ap, ◌∙◌, subst, arith}
 use Rattle.std.specs.List.{Contains}
 use Rattle.std.proofs.lemmas.Bool.{cases_lt}
 use Rattle.std.proofs.lemmas.List.Elements.{All-nil, All-cons, All-weaker, All-contains, Contains-append_right}
@@ -11,8 +11,8 @@ use Rattle.atomic_table.specs.Table.{State}
 use Rattle.sim_game.specs.declared.Side.{Side}
 use Rattle.sim_game.specs.declared.Side.TheVariants.{One, Two}
 use Rattle.sim_game.specs.Model.{GameModel, IsGame}
-use Rattle.sim_game.specs.Sides.{IsNoTighter, better, opening_bound}
-use Rattle.sim_game.proofs.SideLemmas.{looser_refl, looser_trans, looser_left, looser_both, better_left, better_right}
+use Rattle.sim_game.specs.Sides.{IsNoTighter, opening_bound}
+use Rattle.sim_game.proofs.SideLemmas.{looser_trans, looser_left, looser_both}
 use Rattle.plan_book.specs.declared.Entry.{Entry}
 use Rattle.plan_book.specs.Entries.{IsEntry}
 use Rattle.plan_book.specs.Books.{same_side, best_posted, IsBooked, IsClosed}
@@ -27,7 +27,7 @@ use Rattle.shared_board.specs.declared.close.Kept.{Kept}
 use Rattle.shared_board.proofs.ListLemmas.{same_at, has_left, has_right, has_split}
 use Rattle.shared_board.proofs.WordLemmas.{word_trans}
 use Rattle.shared_board.proofs.BoundLemmas.{word_in_range, opening_back}
-use Rattle.shared_board.proofs.SeenLemmas.{looser_bound, seen_most, known_then}
+use Rattle.shared_board.proofs.SeenLemmas.{looser_bound, cond_first, cond_better, seen_most, known_then}
 use Rattle.shared_board.proofs.PassStepLemmas.{entry_back, word_low}
 use Rattle.shared_board.proofs.WholeLemmas.{alone, no_more}
 
@@ -69,17 +69,13 @@ kept_has words (suc n) i k l e = ⊎_elim (λ (lt : i < n). has_left (kept_row w
     (λ (ge : n ≤ i). let same : n ≡ i = omega arith in has_right (kept_row words i k) (kept_rows words n) (kept_if words n (key_at words n))
     (subst (λ (ks : List Kept). Has (kept_row words i k) ks) (sym (kept_some words n (key_at words n) k (ap (key_at words) same ∙ e))) (inl (λ c. kept_row words (sym same c) k)))) (cases_lt i n)
 
-length_append : (xs ys : List Kept) → length (xs ++ ys) ≡ length xs + length ys
-length_append [] ys = omega arith
-length_append (x ∷ xs) ys = omega (arith, length_append xs ys)
-
 length_if : (words : List ℕ) (i n : ℕ) → length (kept_if words i n) ≤ 1
 length_if words i zero = omega arith
 length_if words i (suc n) = omega arith
 
 kept_few : (words : List ℕ) (n : ℕ) → length (kept_rows words n) ≤ n
 kept_few words zero = omega arith
-kept_few words (suc n) = omega (arith, kept_few words n, length_append (kept_rows words n) (kept_if words n (key_at words n)), length_if words n (key_at words n))
+kept_few words (suc n) = omega (arith, kept_few words n, length-append (kept_rows words n) (kept_if words n (key_at words n)), length_if words n (key_at words n))
 
 length_taken : (words : List ℕ) (i n : ℕ) → n ≢ 0 → length (kept_if words i n) ≡ 1
 length_taken words i zero h = absurd (h refl)
@@ -87,7 +83,7 @@ length_taken words i (suc n) h = refl
 
 kept_full : (words : List ℕ) (n : ℕ) → ((i : ℕ) → i < n → key_at words i ≢ 0) → length (kept_rows words n) ≡ n
 kept_full words zero h = refl
-kept_full words (suc n) h = omega (arith, kept_full words n (λ i l. h i (omega arith)), length_append (kept_rows words n) (kept_if words n (key_at words n)), length_taken words n (key_at words n) (h n (omega arith)))
+kept_full words (suc n) h = omega (arith, kept_full words n (λ i l. h i (omega arith)), length-append (kept_rows words n) (kept_if words n (key_at words n)), length_taken words n (key_at words n) (h n (omega arith)))
 
 distinct_append : (xs ys : List Kept) → IsDistinct xs → IsDistinct ys → ((x y : Kept) → Has x xs → Has y ys → x.key ≢ y.key) → IsDistinct (xs ++ ys)
 distinct_append [] ys a b h = b
@@ -124,14 +120,6 @@ all_has P [] each = All-nil P
 all_has P (x ∷ xs) each = All-cons P x xs (each x (inl refl)) (all_has P xs (λ y h. each y (inr h)))
 
 -- ---- the best bounds of a book
-best_first : (b : Bool) (side : Side) (x z : ℤ) → b ≡ true → IsNoTighter side x (cond b (better side x z) z)
-best_first true side x z e = better_left side x z
-best_first false side x z e = cc
-
-best_more : (b : Bool) (side : Side) (x z : ℤ) → IsNoTighter side z (cond b (better side x z) z)
-best_more true side x z = better_right side x z
-best_more false side x z = looser_refl side z
-
 both_true : (a b : Bool) → a ≡ true → b ≡ true → (a && b) ≡ true
 both_true a b p q = rw (p, q) refl
 
@@ -140,9 +128,9 @@ pub best_entry_of : {S : Type 0} (m : GameModel S) (es : List Entry) (e : Entry)
 best_entry_of m [] e h = absurd h
 best_entry_of m (f ∷ es) e h = ⊎_elim
     (λ (here : e ≡ f). subst (λ (z : Entry). IsNoTighter e.side e.bound (best_posted m (z ∷ es) e.side e.key)) here
-    (best_first (same_side e.side e.side && eqb e.key e.key) e.side e.bound (best_posted m es e.side e.key) (both_true (same_side e.side e.side) (eqb e.key e.key) (same_side_self e.side) (eqb_self e.key))))
+    (cond_first (same_side e.side e.side && eqb e.key e.key) e.side e.bound (best_posted m es e.side e.key) (both_true (same_side e.side e.side) (eqb e.key e.key) (same_side_self e.side) (eqb_self e.key))))
     (λ (there : Has e es). looser_trans e.side e.bound (best_posted m es e.side e.key) (best_posted m (f ∷ es) e.side e.key) (best_entry_of m es e there)
-    (best_more (same_side f.side e.side && eqb f.key e.key) e.side f.bound (best_posted m es e.side e.key))) h
+    (cond_better (same_side f.side e.side && eqb f.key e.key) e.side f.bound (best_posted m es e.side e.key))) h
 
 module _ {S G : Type 0} (m : GameModel S) (game_laws : IsGame m) (g : G) (rows : ℕ) (s : State (Unit {0}) (View G)) (r : IsConsistent m g rows s) (id : ℕ) (v : View G) (at : get_elem? s.views id ≡ some v) (lead : v.lead ≡ true) (whole : v.drawn ≤ length v.numbers)
     (total : ℕ) (entries : List Entry) (told : IsTold m v total entries) where

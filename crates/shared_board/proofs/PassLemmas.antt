@@ -1,5 +1,5 @@
 -- The facts of a pass, after its view or its book changed.
-use Rattle.std.proofs.Common.{◌≡◌, ◌≢◌, ◌⊎◌, inl, inr, ⊎_elim, ℕ, zero, suc, ◌+◌, ◌*◌, ◌<◌, min, max, List, [], ◌∷◌, ◌++◌, length, get_or, replicate, Bool, true, false, true≢false, ◌||◌, All, sym, refl, ap, ◌∙◌, subst, arith, Some}
+use Rattle.std.proofs.Common.{◌≡◌, ◌≢◌, ◌⊎◌, inl, inr, ⊎_elim, ℕ, zero, suc, ◌+◌, ◌*◌, ◌<◌, min, max, List, [], ◌∷◌, ◌++◌, length, length-append, get_or, replicate, Bool, true, false, true≢false, ◌||◌, All, sym, refl, ap, ◌∙◌, subst, arith, Some}
 use Rattle.std.proofs.lemmas.List.Elements.{All-nil, All-append, All-weaker}
 use Rattle.std.proofs.lemmas.List.{length-replicate}
 use Rattle.atomic_table.specs.Table.{Me}
@@ -119,10 +119,6 @@ module _ {S G : Type 0} (m : GameModel S) where
       unseen = λ side i. unseen_joined side i (a.unseen side i) (b.unseen side i);
     }
 
-length_append : (xs ys : List ℕ) → length (xs ++ ys) ≡ length xs + length ys
-length_append [] ys = omega arith
-length_append (x ∷ xs) ys = omega (arith, length_append xs ys)
-
 same_replicate : (n i x : ℕ) → get_or (replicate n x) i x ≡ x
 same_replicate zero i x = refl
 same_replicate (suc n) zero x = refl
@@ -138,7 +134,7 @@ or_else false b e = refl
 
 -- counts that stop at the greatest number
 pub counts_join : (xs ys : List ℕ) (a b : ℕ) → a ≡ min (length xs) 4294967295 → b ≡ min (length ys) 4294967295 → min (a + b) 4294967295 ≡ min (length (xs ++ ys)) 4294967295
-counts_join xs ys a b e f = omega (arith, length_append xs ys)
+counts_join xs ys a b e f = omega (arith, length-append xs ys)
 
 not_nil : (xs ys : List ℕ) → xs ≢ [] → xs ++ ys ≢ []
 not_nil [] ys n e = n refl

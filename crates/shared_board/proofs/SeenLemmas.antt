@@ -44,11 +44,11 @@ has_key_of [] row key e = cc
 has_key_of (p ∷ ps) row key e = has_found (eqb p.0 row) p (key_of ps row) row key (Has (row, key) ps) (λ t. eqb-true p.0 row t) (λ t. has_key_of ps row key t) e
 
 -- ---- the bounds at a key
-cond_better : (b : Bool) (side : Side) (x z : ℤ) → IsNoTighter side z (cond b (better side x z) z)
+pub cond_better : (b : Bool) (side : Side) (x z : ℤ) → IsNoTighter side z (cond b (better side x z) z)
 cond_better true side x z = better_right side x z
 cond_better false side x z = looser_refl side z
 
-cond_first : (b : Bool) (side : Side) (x z : ℤ) → b ≡ true → IsNoTighter side x (cond b (better side x z) z)
+pub cond_first : (b : Bool) (side : Side) (x z : ℤ) → b ≡ true → IsNoTighter side x (cond b (better side x z) z)
 cond_first true side x z e = better_left side x z
 cond_first false side x z e = cc
 

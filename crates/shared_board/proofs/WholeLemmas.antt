@@ -4,25 +4,11 @@ use Rattle.std.proofs.lemmas.Bool.{cases_lt}
 use Rattle.std.proofs.lemmas.Bool.Decides.{nat_tests}
 use mathlib.Core.Option.{some}
 use lib.ListN.{get_elem?}
+use Rattle.sums.specs.Sums.{count_below}
+use Rattle.sums.proofs.CountLemmas.{count_mono, count_add, count_constant}
 use Rattle.shared_board.specs.Rule.{times, total, once_below}
 use Rattle.shared_board.specs.declared.view.View.{View}
 use Rattle.shared_board.proofs.ListLemmas.{total_at, total_two}
-
-abbrev sum_below : (ℕ → ℕ) → ℕ → ℕ
-sum_below f zero = 0
-sum_below f (suc d) = f d + sum_below f d
-
-sum_same : (f g : ℕ → ℕ) (d : ℕ) → ((x : ℕ) → f x ≡ g x) → sum_below f d ≡ sum_below g d
-sum_same f g zero e = refl
-sum_same f g (suc d) e = let h = e d in omega (arith, sum_same f g d e)
-
-sum_zero : (d : ℕ) → sum_below (λ _. 0) d ≡ 0
-sum_zero zero = refl
-sum_zero (suc d) = omega (arith, sum_zero d)
-
-sum_add : (f g : ℕ → ℕ) (d : ℕ) → sum_below (λ x. f x + g x) d ≡ sum_below f d + sum_below g d
-sum_add f g zero = refl
-sum_add f g (suc d) = omega (arith, sum_add f g d)
 
 abbrev one_at : ℕ → ℕ → ℕ
 one_at y x = cond (eqb x y) 1 0
@@ -33,27 +19,26 @@ one_here y = grind (arith, nat_tests)
 one_else : (x y : ℕ) → x ≢ y → one_at y x ≡ 0
 one_else x y n = grind (arith, nat_tests)
 
-one_above : (y d : ℕ) → d ≤ y → sum_below (one_at y) d ≡ 0
+one_above : (y d : ℕ) → d ≤ y → count_below d (one_at y) ≡ 0
 one_above y zero l = refl
 one_above y (suc d) l = let z = one_else d y (λ e. omega arith) in omega (arith, one_above y d (omega arith))
 
-one_inside : (y d : ℕ) → y < d → sum_below (one_at y) d ≡ 1
+one_inside : (y d : ℕ) → y < d → count_below d (one_at y) ≡ 1
 one_inside y zero l = absurd (omega arith)
 one_inside y (suc d) l = ⊎_elim (λ (lt : y < d). let z = one_else d y (λ e. omega arith) in omega (arith, one_inside y d lt))
     (λ (ge : d ≤ y). let same : d ≡ y = omega arith in let o : one_at y d ≡ 1 = ap (one_at y) same ∙ one_here y in omega (arith, one_above y d ge)) (cases_lt y d)
 
 -- numbers below d, counted one by one
-length_sum : (xs : List ℕ) (d : ℕ) → ((x : ℕ) → d ≤ x → times x xs ≡ 0) → length xs ≡ sum_below (λ x. times x xs) d
-length_sum [] d h = sym (sum_zero d)
+length_sum : (xs : List ℕ) (d : ℕ) → ((x : ℕ) → d ≤ x → times x xs ≡ 0) → length xs ≡ count_below d (λ x. times x xs)
+length_sum [] d h = let none = count_constant d 0 in omega arith
 length_sum (y ∷ ys) d h =
     let low : y < d = ⊎_elim (λ (lt : y < d). lt) (λ (ge : d ≤ y). let z : one_at y y + times y ys ≡ 0 = h y ge in let o = one_here y in absurd (omega arith)) (cases_lt y d) in
-    let rest = length_sum ys d (λ x l. (let z : one_at y x + times x ys ≡ 0 = h x l in omega arith)) in let sum = sum_add (one_at y) (λ x. times x ys) d in let one = one_inside y d low in omega arith
+    let rest = length_sum ys d (λ x l. (let z : one_at y x + times x ys ≡ 0 = h x l in omega arith)) in let sum = count_add d (one_at y) (λ x. times x ys) in let one = one_inside y d low in omega arith
 
-sum_le : (f : ℕ → ℕ) (d : ℕ) → ((x : ℕ) → f x ≤ 1) → sum_below f d ≤ d
-sum_le f zero h = omega arith
-sum_le f (suc d) h = let a = h d in omega (arith, sum_le f d h)
+sum_le : (f : ℕ → ℕ) (d : ℕ) → ((x : ℕ) → f x ≤ 1) → count_below d f ≤ d
+sum_le f d h = omega (arith, count_mono d f (λ _. 1) (λ x _. h x), count_constant d 1)
 
-sum_lt : (f : ℕ → ℕ) (d n : ℕ) → ((x : ℕ) → f x ≤ 1) → n < d → f n ≡ 0 → sum_below f d < d
+sum_lt : (f : ℕ → ℕ) (d n : ℕ) → ((x : ℕ) → f x ≤ 1) → n < d → f n ≡ 0 → count_below d f < d
 sum_lt f zero n h l z = absurd (omega arith)
 sum_lt f (suc d) n h l z = let a = h d in ⊎_elim (λ (lt : n < d). omega (arith, sum_lt f d n h lt z))
     (λ (ge : d ≤ n). let same : n ≡ d = omega arith in let here : f d ≡ 0 = ap f (sym same) ∙ z in omega (arith, sum_le f d h)) (cases_lt n d)
@@ -68,7 +53,7 @@ module _ {G : Type 0} (views : List (View G)) (drawn : ℕ) (held : (n : ℕ) �
   mine_le : (n : ℕ) → times n v.numbers ≤ once_below n drawn
   mine_le n = let t = total_at (λ (u : View G). times n u.numbers) views id v at in let h = held n in omega arith
 
-  mine_sum : length v.numbers ≡ sum_below (λ x. times x v.numbers) drawn
+  mine_sum : length v.numbers ≡ count_below drawn (λ x. times x v.numbers)
   mine_sum = length_sum v.numbers drawn (λ x l. (let a = mine_le x in let b = once_high x drawn l in omega arith))
 
   pub no_more : length v.numbers ≤ drawn

@@ -1,0 +1,250 @@
+-- Reads and posts keep the rule.
+use Rattle.std.proofs.Common.{◌≡◌, ◌≢◌, ◌⊎◌, inl, inr, ⊎_elim, ℕ, suc, ◌+◌, ◌<◌, pos, ◌≤ℤ◌, neg_ℤ, List, [], ◌∷◌, length, get_or, set, sym, refl, ap, ◌∙◌, subst, arith, Some, length-set, get_or-set_other, get_or-set_same}
+use Rattle.std.proofs.lemmas.Int.{ints}
+use mathlib.Core.Logic.{dite}
+use native.Mathlib.Decide.{ℕ_discrete}
+use mathlib.Core.Option.{some, none}
+use lib.ListN.{get_elem?}
+use Rattle.atomic_table.specs.Table.{State, Me, step, keeps, Allows}
+use Rattle.sim_game.specs.declared.Side.{Side}
+use Rattle.sim_game.specs.declared.Side.TheVariants.{One, Two}
+use Rattle.sim_game.specs.Model.{GameModel, IsGame}
+use Rattle.sim_game.specs.Sides.{opening_bound}
+use Rattle.sim_game.proofs.SideLemmas.{looser_refl}
+use Rattle.plan_book.specs.Backed.{IsBacked, by_opening}
+use Rattle.shared_board.specs.Words.{key_word, bound_word, key_at, bound_at, opening_word, IsLooser, tighter, bound_of, IsProved}
+use Rattle.shared_board.specs.Rule.{IsConsistent, IsConsistentView, IsRow, IsPosted, IsInRange, Has, seen_at, seen, with_seen}
+use Rattle.shared_board.specs.Plays.{reading, posting, loaded, met, IsBound, MayRead, MayPost}
+use Rattle.shared_board.specs.declared.view.View.{View}
+use Rattle.shared_board.proofs.ChangeLemmas.{changes, keeps_words}
+use Rattle.shared_board.proofs.ClaimLemmas.{game_is, set_apart}
+use Rattle.shared_board.proofs.WordLemmas.{word_refl, word_trans, word_left, word_right, tighter_is, key_not_bound, bounds_apart, bound_inside, bound_not_first, bound_word-back, word_mono}
+
+module _ {S : Type 0} (m : GameModel S) (game_laws : IsGame m) where
+  pub low_fits : neg_ℤ (pos 4000000000) ≤ℤ opening_bound m One
+  low_fits = let a = game_laws.low_least in omega (arith, ints)
+
+  pub high_fits : neg_ℤ (pos 4000000000) ≤ℤ opening_bound m Two
+  high_fits = let a = game_laws.low_least in let b = game_laws.low_high in omega (arith, ints)
+
+  ordered : opening_bound m One ≤ℤ opening_bound m Two
+  ordered = let b = game_laws.low_high in omega (arith, ints)
+
+  pub opening_in_range : (side : Side) → IsInRange m (opening_word m side)
+  opening_in_range One = (omega arith, word_mono (opening_bound m One) (opening_bound m Two) low_fits ordered)
+  opening_in_range Two = (word_mono (opening_bound m One) (opening_bound m Two) low_fits ordered, omega arith)
+
+  pub opening_back : (side : Side) → bound_of (opening_word m side) ≡ opening_bound m side
+  opening_back One = bound_word-back (opening_bound m One) low_fits
+  opening_back Two = bound_word-back (opening_bound m Two) high_fits
+
+  pub opening_proved : (side : Side) (k : ℕ) → IsProved m side k (opening_word m side)
+  unfolding IsProved
+  opening_proved side k s reached key = subst (IsBacked m side s) (sym (opening_back side)) (by_opening s (opening_bound m side) (looser_refl side (opening_bound m side)))
+
+module _ {G : Type 0} where
+  abbrev pub sees : Side → View G → ℕ → ℕ → List (ℕ × Side × ℕ) → ℕ → View G
+  sees side v i x posted loads = with_seen side (set (seen side v) i x) (record v { posted = posted; loads = loads })
+
+  pub shaped_as : (rows : ℕ) (side side' : Side) (v : View G) (i x : ℕ) (posted : List (ℕ × Side × ℕ)) (loads : ℕ) → ((side' : Side) → length (seen side' v) ≡ rows) → length (seen side' (sees side v i x posted loads)) ≡ rows
+  shaped_as rows One One v i x posted loads long = length-set v.lower i x ∙ long One
+  shaped_as rows Two Two v i x posted loads long = length-set v.upper i x ∙ long Two
+  shaped_as rows One Two v i x posted loads long = long Two
+  shaped_as rows Two One v i x posted loads long = long One
+
+module _ {S G : Type 0} (m : GameModel S) (rows : ℕ) where
+  -- a fact on what is seen, after the bound x in row i is seen
+  pub seen_as : (side side' : Side) (v : View G) (i x j : ℕ) (posted : List (ℕ × Side × ℕ)) (loads : ℕ) (P : ℕ → Type 0) → length (seen side v) ≡ rows → i < rows
+      → (side ≡ side' → i ≡ j → P x) → ((side ≢ side') ⊎ (i ≢ j) → P (seen_at m side' v j)) → P (seen_at m side' (sees side v i x posted loads) j)
+  seen_as One One v i x j posted loads P long l here else = dite (ℕ_discrete j i)
+      (λ (e : j ≡ i). subst (λ (z : ℕ). P (get_or (set v.lower i x) z (opening_word m One))) (sym e) (subst P (sym (get_or-set_same v.lower i x (opening_word m One) (omega arith))) (here refl (sym e))))
+      (λ (n : j ≢ i). subst P (sym (get_or-set_other v.lower i j x (opening_word m One) n)) (else (inr (λ e. n (sym e)))))
+  seen_as Two Two v i x j posted loads P long l here else = dite (ℕ_discrete j i)
+      (λ (e : j ≡ i). subst (λ (z : ℕ). P (get_or (set v.upper i x) z (opening_word m Two))) (sym e) (subst P (sym (get_or-set_same v.upper i x (opening_word m Two) (omega arith))) (here refl (sym e))))
+      (λ (n : j ≢ i). subst P (sym (get_or-set_other v.upper i j x (opening_word m Two) n)) (else (inr (λ e. n (sym e)))))
+  seen_as One Two v i x j posted loads P long l here else = else (inl (λ (e : One ≡ Two). cc))
+  seen_as Two One v i x j posted loads P long l here else = else (inl (λ (e : Two ≡ One). cc))
+
+which_side : (side side' : Side) (i j : ℕ) → i ≡ j → ((side ≡ side') × (i ≡ j)) ⊎ ((side ≢ side') ⊎ (i ≢ j))
+which_side One One i j e = inl (refl, e)
+which_side One Two i j e = inr (inl (λ (h : One ≡ Two). cc))
+which_side Two One i j e = inr (inl (λ (h : Two ≡ One). cc))
+which_side Two Two i j e = inl (refl, e)
+
+module _ {S G : Type 0} (m : GameModel S) (g : G) (rows : ℕ) where
+  abbrev St : Type 0
+  St = State (Unit {0}) (View G)
+
+  abbrev Rule : St → Type 0
+  Rule = IsConsistent m g rows
+
+  -- a posted bound is an old one, or is proved and no tighter than x
+  abbrev Posts : View G → Side → ℕ → ℕ → ℕ × Side × ℕ → Type 0
+  Posts v side i x p = Has p v.posted ⊎ ((i ≡ p.0) × (side ≡ p.1) × IsLooser side p.2 x × ((k : ℕ) × Has (i, k) v.keys × IsProved m side k p.2) × IsInRange m p.2)
+
+  -- the view has seen x in row i, and posted what may be posted
+  fits_seen : (words words' : List ℕ) (head drawn id : ℕ) (v : View G) (side : Side) (i x : ℕ) (posted : List (ℕ × Side × ℕ)) (loads : ℕ) → v.numbers ≢ [] → i < rows
+      → ((j k : ℕ) → key_at words j ≡ suc k → key_at words' j ≡ suc k) → ((side' : Side) (j : ℕ) → j < rows → IsLooser side' (bound_at words side' j) (bound_at words' side' j))
+      → IsLooser side (seen_at m side v i) x → IsLooser side x (bound_at words' side i) → ((p : ℕ × Side × ℕ) → Has p posted → Posts v side i x p)
+      → IsConsistentView m g rows words head drawn id v → IsConsistentView m g rows words' head drawn id (with_seen side (set (seen side v) i x) (record v { posted = posted; loads = loads }))
+  fits_seen words words' head drawn id v side i x posted loads holder l keys bounds more less posts f = let u : View G = record v { posted = posted; loads = loads } in
+      let long : (side' : Side) → length (seen side' v) ≡ rows = f.shaped holder in record {
+        leads = f.leads;
+        follows = f.follows;
+        idle = λ e. absurd (holder e);
+        same_game = f.same_game;
+        shaped = λ n side'. shaped_as rows side side' v i x posted loads long;
+        knows = λ j k h. let o = f.knows j k h in (o.0, keys j k o.1);
+        no_tighter = λ side' j lj. seen_as m rows side side' v i x j posted loads (λ z. IsLooser side' z (bound_at words' side' j)) (long side) l
+            (λ e is. subst (λ (y : Side × ℕ). IsLooser y.0 x (bound_at words' y.0 y.1)) (λ c. (e c, is c)) less)
+            (λ _. word_trans side' (seen_at m side' v j) (bound_at words side' j) (bound_at words' side' j) (f.no_tighter side' j lj) (bounds side' j lj));
+        backed = λ j side' y h. ⊎_elim
+            (λ (old : Has (j, side', y) v.posted). let b = f.backed j side' y old in record {
+              key = b.key;
+              known = b.known;
+              in_range = b.in_range;
+              proved = b.proved;
+              seen_too = seen_as m rows side side' v i x j posted loads (λ z. IsLooser side' y z) (long side) l
+                  (λ e is. word_trans side' y (seen_at m side' v j) x b.seen_too (subst (λ (q : Side × ℕ). IsLooser q.0 (seen_at m q.0 v q.1) x) (λ c. (e c, is c)) more)) (λ _. b.seen_too);
+            })
+            (λ (new : (i ≡ j) × (side ≡ side') × IsLooser side y x × ((k : ℕ) × Has (i, k) v.keys × IsProved m side k y) × IsInRange m y).
+            subst (λ (q : Side × ℕ). IsPosted m (with_seen side (set (seen side v) i x) u) q.1 q.0 y) (λ c. (new.1 c, new.0 c)) (record {
+              key = new.3.0;
+              known = new.3.1;
+              in_range = new.4;
+              proved = new.3.2;
+              seen_too = seen_as m rows side side v i x i posted loads (λ z. IsLooser side y z) (long side) l (λ _ _. new.2) (λ n. ⊎_elim (λ (no : side ≢ side). absurd (no refl)) (λ (no : i ≢ i). absurd (no refl)) n);
+            })) (posts (j, side', y) h);
+      }
+
+  module _ (game_laws : IsGame m) (s : St) (r : Rule s) where
+    pub word_in_range : (side : Side) (i : ℕ) → i < rows → IsInRange m (bound_at s.words side i)
+    word_in_range side i l = dite (ℕ_discrete (bound_at s.words side i) (opening_word m side)) (λ (e : bound_at s.words side i ≡ opening_word m side). subst (IsInRange m) (sym e) (opening_in_range m game_laws side))
+        (λ (n : bound_at s.words side i ≢ opening_word m side). let o = r.posted side i l n in ((r.each_view o.0 o.1 o.2).backed i side (bound_at s.words side i) o.3).in_range)
+
+    word_proved : (side : Side) (i k : ℕ) → i < rows → key_at s.words i ≡ suc k → IsProved m side k (bound_at s.words side i)
+    word_proved side i k l is = dite (ℕ_discrete (bound_at s.words side i) (opening_word m side)) (λ (e : bound_at s.words side i ≡ opening_word m side). subst (IsProved m side k) (sym e) (opening_proved m game_laws side k))
+        (λ (n : bound_at s.words side i ≢ opening_word m side). let o = r.posted side i l n in let f = r.each_view o.0 o.1 o.2 in let b = f.backed i side (bound_at s.words side i) o.3 in let known = (f.knows i b.key b.known).1 in
+        let same : b.key ≡ k = omega arith in subst (λ (z : ℕ). IsProved m side z (bound_at s.words side i)) same b.proved)
+
+    module _ (id : ℕ) (v : View G) (at : get_elem? s.views id ≡ some v) (side : Side) (i : ℕ) (holder : v.numbers ≢ []) (inside : i < rows) where
+      abbrev mine : IsConsistentView m g rows s.words r.head r.drawn id v
+      mine = r.each_view id v at
+
+      abbrev n : ℕ
+      n = bound_at s.words side i
+
+      bound_ok : (h : G) → v.game ≡ Some h → g ≡ h
+      bound_ok h is = game_is g h (sym (mine.same_game holder) ∙ is)
+
+      pub reads_now : Rule record { words = set s.words (bound_word side i) n; homes = s.homes; views = set s.views id (reading side v i n) }
+      reads_now = keeps_words m g rows s r id v (reading side v i n) (bound_word side i) at refl refl (λ x h. h)
+          (fits_seen s.words s.words r.head r.drawn id v side i n v.posted (v.loads + 1) holder inside (λ j k e. e) (λ side' j l. word_refl side' (bound_at s.words side' j))
+          (mine.no_tighter side i inside) (word_refl side n) (λ p h. inl h) mine)
+
+      module _ (x key : ℕ) (known : Has (i, key) v.keys) (in_range : IsInRange m x) (proved : IsProved m side key x) where
+        abbrev new : ℕ
+        new = tighter side n x
+
+        abbrev after : List ℕ
+        after = set s.words (bound_word side i) new
+
+        key_same : (j : ℕ) → key_at after j ≡ key_at s.words j
+        key_same j = get_or-set_other s.words (bound_word side i) (key_word j) new 0 (λ e. key_not_bound side i j (sym e))
+
+        bound_here : bound_at after side i ≡ new
+        bound_here = get_or-set_same s.words (bound_word side i) new 0 (subst (λ (z : ℕ). bound_word side i < z) (sym r.wide) (bound_inside side i rows inside))
+
+        bound_else : (side' : Side) (j : ℕ) → (side ≢ side') ⊎ (i ≢ j) → bound_at after side' j ≡ bound_at s.words side' j
+        bound_else side' j ne = get_or-set_other s.words (bound_word side i) (bound_word side' j) new 0 (λ e. let same = bounds_apart side' side j i e in ⊎_elim (λ (a : side ≢ side'). a (sym same.0)) (λ (b : i ≢ j). b (sym same.1)) ne)
+
+        which : (side' : Side) (j : ℕ) → ((side ≡ side') × (i ≡ j)) ⊎ ((side ≢ side') ⊎ (i ≢ j))
+        which side' j = dite (ℕ_discrete i j) (λ (e : i ≡ j). which_side side side' i j e) (λ (ne : i ≢ j). inr (inr ne))
+
+        bounds_grow : (side' : Side) (j : ℕ) → j < rows → IsLooser side' (bound_at s.words side' j) (bound_at after side' j)
+        bounds_grow side' j l = ⊎_elim
+            (λ (same : (side ≡ side') × (i ≡ j)). subst (λ (y : Side × ℕ). IsLooser y.0 (bound_at s.words y.0 y.1) (bound_at after y.0 y.1)) (λ c. (same.0 c, same.1 c)) (subst (IsLooser side n) (sym bound_here) (word_left side n x)))
+            (λ (ne : (side ≢ side') ⊎ (i ≢ j)). subst (IsLooser side' (bound_at s.words side' j)) (sym (bound_else side' j ne)) (word_refl side' (bound_at s.words side' j))) (which side' j)
+
+        others_fit : (j : ℕ) (u : View G) → IsConsistentView m g rows s.words r.head r.drawn j u → IsConsistentView m g rows after r.head r.drawn j u
+        others_fit j u f = record {
+          leads = f.leads;
+          follows = f.follows;
+          idle = f.idle;
+          same_game = f.same_game;
+          shaped = f.shaped;
+          knows = λ q k h. let o = f.knows q k h in (o.0, key_same q ∙ o.1);
+          no_tighter = λ side' q l. word_trans side' (seen_at m side' u q) (bound_at s.words side' q) (bound_at after side' q) (f.no_tighter side' q l) (bounds_grow side' q l);
+          backed = f.backed;
+        }
+
+        row_ok : (j : ℕ) → j < rows → IsRow {G = G} m g rows after j
+        row_ok j l = let o = r.each_row j l in record {
+          reached = λ k e. let t = o.reached k (sym (key_same j) ∙ e) in (t.0, t.1, t.2, λ u lt z. t.3 u lt (sym (key_same _) ∙ z));
+          named = λ k e. o.named k (sym (key_same j) ∙ e);
+          single = λ k q e lq eq. o.single k q (sym (key_same j) ∙ e) lq (sym (key_same q) ∙ eq);
+          free = λ e side'. let was : key_at s.words j ≡ 0 = sym (key_same j) ∙ e in
+              bound_else side' j (inr (λ (is : i ≡ j). let k : key_at s.words i ≡ suc key = (mine.knows i key known).1 in let z : key_at s.words i ≡ 0 = ap (key_at s.words) is ∙ was in (omega arith))) ∙ o.free was side';
+        }
+
+        pub posts_now : Rule record { words = after; homes = s.homes; views = set s.views id (posting side v i x n) }
+        posts_now = changes m g rows s r id v (posting side v i x n) after at (length-set s.words (bound_word side i) new) (get_or-set_other s.words (bound_word side i) 0 new 0 (λ e. bound_not_first side i (sym e)))
+            refl refl (λ p h. inr h)
+            (fits_seen s.words after r.head r.drawn id v side i new ((i, side, x) ∷ v.posted) v.loads holder inside (λ j k e. key_same j ∙ e) bounds_grow
+            (word_trans side (seen_at m side v i) n new (mine.no_tighter side i inside) (word_left side n x)) (subst (IsLooser side new) (sym bound_here) (word_refl side new))
+            (λ p h. ⊎_elim (λ (e : p ≡ (i, side, x)). inr (subst (λ (q : ℕ × Side × ℕ). (i ≡ q.0) × (side ≡ q.1) × IsLooser side q.2 new × ((k : ℕ) × Has (i, k) v.keys × IsProved m side k q.2) × IsInRange m q.2) (sym e)
+            (refl, refl, word_right side n x, (key, known, proved), in_range))) (λ (o : Has p v.posted). inl o) h) mine)
+            others_fit row_ok
+            (λ side' j l. ⊎_elim
+            (λ (same : (side ≡ side') × (i ≡ j)). subst (λ (y : Side × ℕ). (bound_at after y.0 y.1 ≡ bound_at s.words y.0 y.1) ⊎ Has (y.1, y.0, bound_at after y.0 y.1) ((i, side, x) ∷ v.posted)) (λ c. (same.0 c, same.1 c))
+            (⊎_elim (λ (e : new ≡ n). inl (bound_here ∙ e)) (λ (e : new ≡ x). inr (inl (λ c. (i, side, (bound_here ∙ e) c)))) (tighter_is side n x)))
+            (λ (ne : (side ≢ side') ⊎ (i ≢ j)). inl (bound_else side' j ne)) (which side' j))
+
+module _ {S G : Type 0} (model : G → GameModel S) (g : G) (rows : ℕ) (game_laws : IsGame (model g)) where
+  told : (s : State (Unit {0}) (View G)) (r : IsConsistent (model g) g rows s) (id : ℕ) (v : View G) → get_elem? s.views id ≡ some v → (side : Side) (i : ℕ) → v.numbers ≢ [] → i < rows → (h : G) → v.game ≡ Some h
+      → IsBound model side v i (bound_at s.words side i) h
+  told s r id v at side i holder l h is = let f = r.each_view id v at in subst (IsBound model side v i (bound_at s.words side i)) (game_is g h (sym (f.same_game holder) ∙ is)) (record {
+    no_looser = f.no_tighter side i l;
+    in_range = word_in_range (model g) g rows game_laws s r side i l;
+    proved = λ k known. word_proved (model g) g rows game_laws s r side i k l (f.knows i k known).1;
+  })
+
+  pub reads : (slots id : ℕ) (a : Me (Unit {0}) (View G)) (side : Side) (i : ℕ) → MayRead rows a.0 i
+      → Allows (IsConsistent (model g) g rows) slots id a (bound_word side i) (λ n. n) (loaded model side (step slots (bound_word side i) 0 0 none) a)
+  reads slots id a side i may s r deep at _ = let n : ℕ = bound_at s.words side i in
+      let now = reads_now (model g) g rows game_laws s r id a.0 at side i may.holder may.inside in (
+        reading side a.0 i n,
+        keeps,
+        tt,
+        now,
+        (
+          refl,
+          set_apart (model g) g rows s (set s.words (bound_word side i) n) id a.0 (reading side a.0 i n) at now,
+          λ j e. let same : i ≡ j = (bounds_apart side side i j e).1 in subst (λ (z : ℕ). (reading side a.0 i n ≡ reading side a.0 z n) × ((h : G) → a.0.game ≡ Some h → IsBound model side a.0 z n h)) same
+              (refl, told s r id a.0 at side i may.holder may.inside),
+        ),
+      )
+
+  pub posts : (slots id : ℕ) (a : Me (Unit {0}) (View G)) (side : Side) (i x : ℕ) → MayPost (model g) rows side a.0 i x
+      → Allows (IsConsistent (model g) g rows) slots id a (bound_word side i) (λ n. tighter side n x) (met model side (step slots (bound_word side i) x 0 none) a)
+  posts slots id a side i x may s r deep at _ = let n : ℕ = bound_at s.words side i in
+      let now = posts_now (model g) g rows game_laws s r id a.0 at side i may.holder may.inside x may.key may.known may.in_range may.proved in (
+        posting side a.0 i x n,
+        keeps,
+        tt,
+        now,
+        (
+          refl,
+          set_apart (model g) g rows s (set s.words (bound_word side i) (tighter side n x)) id a.0 (posting side a.0 i x n) at now,
+          λ j e. let same : i ≡ j = (bounds_apart side side i j e).1 in subst (λ (z : ℕ). (posting side a.0 i x n ≡ posting side a.0 z x n) × ((h : G) → a.0.game ≡ Some h → IsBound model side a.0 z n h)) same
+              (refl, told s r id a.0 at side i may.holder may.inside),
+        ),
+      )
+
+  pub reads_as : (slots id : ℕ) (a : Me (Unit {0}) (View G)) (side : Side) (i count : ℕ) → count ≡ rows → MayRead rows a.0 i
+      → Allows (IsConsistent (model g) g count) slots id a (bound_word side i) (λ n. n) (loaded model side (step slots (bound_word side i) 0 0 none) a)
+  reads_as slots id a side i count e may = subst (λ (z : ℕ). Allows (IsConsistent (model g) g z) slots id a (bound_word side i) (λ n. n) (loaded model side (step slots (bound_word side i) 0 0 none) a)) (sym e) (reads slots id a side i may)
+
+  pub posts_as : (slots id : ℕ) (a : Me (Unit {0}) (View G)) (side : Side) (i x count : ℕ) → count ≡ rows → MayPost (model g) rows side a.0 i x
+      → Allows (IsConsistent (model g) g count) slots id a (bound_word side i) (λ n. tighter side n x) (met model side (step slots (bound_word side i) x 0 none) a)
+  posts_as slots id a side i x count e may = subst (λ (z : ℕ). Allows (IsConsistent (model g) g z) slots id a (bound_word side i) (λ n. tighter side n x) (met model side (step slots (bound_word side i) x 0 none) a)) (sym e) (posts slots id a side i x may)

@@ -1,0 +1,205 @@
+-- What a closed board has, from the rule and the facts of a whole pass.
+use Rattle.std.proofs.Common.{◌≡◌, ◌≢◌, inl, inr, ⊎_elim, ℕ, zero, suc, ◌<◌, ◌≤◌, ℤ, Bool, true, ◌&&◌, eqb, List, [], ◌∷◌, ◌++◌, length, length-append, get_or, All, sym, refl, ap, ◌∙◌, subst, arith}
+use Rattle.std.specs.List.{Contains}
+use Rattle.std.proofs.lemmas.Bool.{cases_lt}
+use Rattle.std.proofs.lemmas.List.Elements.{All-nil, All-cons, All-weaker, All-contains, Contains-append_right}
+use mathlib.Core.Logic.{dite}
+use native.Mathlib.Decide.{ℕ_discrete}
+use mathlib.Core.Option.{some, some-injective, some-ne-none}
+use lib.ListN.{get_elem?}
+use Rattle.atomic_table.specs.Table.{State}
+use Rattle.sim_game.specs.declared.Side.{Side}
+use Rattle.sim_game.specs.declared.Side.TheVariants.{One, Two}
+use Rattle.sim_game.specs.Model.{GameModel, IsGame}
+use Rattle.sim_game.specs.Sides.{IsNoTighter, opening_bound}
+use Rattle.sim_game.proofs.SideLemmas.{looser_trans, looser_left, looser_both}
+use Rattle.plan_book.specs.declared.Entry.{Entry}
+use Rattle.plan_book.specs.Entries.{IsEntry}
+use Rattle.plan_book.specs.Books.{same_side, best_posted, IsBooked, IsClosed}
+use Rattle.plan_book.proofs.BookLemmas.{best_opening, best_has, eqb_self, same_side_self}
+use Rattle.bounds_board.proofs.PlainLemmas.{entry_weaker}
+use Rattle.shared_board.specs.Words.{IsLooser, key_at, bound_at, opening_word, word_of, bound_of}
+use Rattle.shared_board.specs.Rule.{IsConsistent, IsConsistentView, Has, seen_at}
+use Rattle.shared_board.specs.Passes.{seen_by, IsKnown, IsEntered, IsTold}
+use Rattle.shared_board.specs.Closing.{kept_row, kept_if, kept_rows, kept_bound, IsDistinct, HasKey, IsKeptRow, IsKept}
+use Rattle.shared_board.specs.declared.view.View.{View}
+use Rattle.shared_board.specs.declared.close.Kept.{Kept}
+use Rattle.shared_board.proofs.ListLemmas.{same_at, has_left, has_right, has_split}
+use Rattle.shared_board.proofs.WordLemmas.{word_trans}
+use Rattle.shared_board.proofs.BoundLemmas.{word_in_range, opening_back}
+use Rattle.shared_board.proofs.SeenLemmas.{looser_bound, cond_first, cond_better, seen_most, known_then}
+use Rattle.shared_board.proofs.PassStepLemmas.{entry_back, word_low}
+use Rattle.shared_board.proofs.WholeLemmas.{alone, no_more}
+
+pub at_or : (xs : List ℕ) (i x : ℕ) → get_elem? xs i ≡ some x → get_or xs i 0 ≡ x
+at_or [] i x e = absurd (some-ne-none x (sym e))
+at_or (y ∷ ys) zero x e = some-injective y x e
+at_or (y ∷ ys) (suc i) x e = at_or ys i x e
+
+pub row_is : (words : List ℕ) (i k key : ℕ) (lower upper : ℤ) → key ≡ k → lower ≡ bound_of (bound_at words One i) → upper ≡ bound_of (bound_at words Two i) → mathlib.Core.Path.◌≡◌ {A = Kept} (record { key = key; lower = lower; upper = upper }) (kept_row words i k)
+row_is words i k key lower upper a b c = λ j. record { key = a j; lower = b j; upper = c j }
+
+kept_none : (words : List ℕ) (i n : ℕ) → n ≡ 0 → kept_if words i n ≡ []
+kept_none words i zero e = refl
+kept_none words i (suc n) e = absurd (omega arith)
+
+kept_some : (words : List ℕ) (i n k : ℕ) → n ≡ suc k → kept_if words i n ≡ kept_row words i k ∷ []
+kept_some words i zero k e = absurd (omega arith)
+kept_some words i (suc n) k e = let same : n ≡ k = omega arith in λ c. kept_row words i (same c) ∷ []
+
+-- one row more
+pub more_free : (words : List ℕ) (n m : ℕ) → m ≡ suc n → key_at words n ≡ 0 → kept_rows words m ≡ kept_rows words n
+more_free words n m e free = ap (kept_rows words) e ∙ (ap (λ ks. kept_rows words n ++ ks) (kept_none words n (key_at words n) free) ∙ mathlib.Core.List.append-nil (kept_rows words n))
+
+pub more_taken : (words : List ℕ) (n m k : ℕ) → m ≡ suc n → key_at words n ≡ suc k → kept_rows words m ≡ kept_rows words n ++ kept_row words n k ∷ []
+more_taken words n m k e taken = ap (kept_rows words) e ∙ ap (λ ks. kept_rows words n ++ ks) (kept_some words n (key_at words n) k taken)
+
+-- what is kept comes from a row
+kept_from : (words : List ℕ) (n : ℕ) (x : Kept) → Has x (kept_rows words n) → (i : ℕ) × (k : ℕ) × (i < n) × (key_at words i ≡ suc k) × (x ≡ kept_row words i k)
+kept_from words zero x h = absurd h
+kept_from words (suc n) x h = ⊎_elim (λ (old : Has x (kept_rows words n)). let o = kept_from words n x old in (o.0, o.1, omega arith, o.3, o.4))
+    (λ (new : Has x (kept_if words n (key_at words n))). let o = last_one (key_at words n) refl new in (n, o.0, omega arith, o.1, o.2)) (has_split x (kept_rows words n) (kept_if words n (key_at words n)) h) where
+      last_one : (q : ℕ) → key_at words n ≡ q → Has x (kept_if words n q) → (k : ℕ) × (key_at words n ≡ suc k) × (x ≡ kept_row words n k)
+      last_one zero e t = absurd t
+      last_one (suc k) e t = ⊎_elim (λ (is : x ≡ kept_row words n k). (k, e, is)) (λ (no : ⊥). absurd no) t
+
+kept_has : (words : List ℕ) (n i k : ℕ) → i < n → key_at words i ≡ suc k → Has (kept_row words i k) (kept_rows words n)
+kept_has words zero i k l e = absurd (omega arith)
+kept_has words (suc n) i k l e = ⊎_elim (λ (lt : i < n). has_left (kept_row words i k) (kept_rows words n) (kept_if words n (key_at words n)) (kept_has words n i k lt e))
+    (λ (ge : n ≤ i). let same : n ≡ i = omega arith in has_right (kept_row words i k) (kept_rows words n) (kept_if words n (key_at words n))
+    (subst (λ (ks : List Kept). Has (kept_row words i k) ks) (sym (kept_some words n (key_at words n) k (ap (key_at words) same ∙ e))) (inl (λ c. kept_row words (sym same c) k)))) (cases_lt i n)
+
+length_if : (words : List ℕ) (i n : ℕ) → length (kept_if words i n) ≤ 1
+length_if words i zero = omega arith
+length_if words i (suc n) = omega arith
+
+kept_few : (words : List ℕ) (n : ℕ) → length (kept_rows words n) ≤ n
+kept_few words zero = omega arith
+kept_few words (suc n) = omega (arith, kept_few words n, length-append (kept_rows words n) (kept_if words n (key_at words n)), length_if words n (key_at words n))
+
+length_taken : (words : List ℕ) (i n : ℕ) → n ≢ 0 → length (kept_if words i n) ≡ 1
+length_taken words i zero h = absurd (h refl)
+length_taken words i (suc n) h = refl
+
+kept_full : (words : List ℕ) (n : ℕ) → ((i : ℕ) → i < n → key_at words i ≢ 0) → length (kept_rows words n) ≡ n
+kept_full words zero h = refl
+kept_full words (suc n) h = omega (arith, kept_full words n (λ i l. h i (omega arith)), length-append (kept_rows words n) (kept_if words n (key_at words n)), length_taken words n (key_at words n) (h n (omega arith)))
+
+distinct_append : (xs ys : List Kept) → IsDistinct xs → IsDistinct ys → ((x y : Kept) → Has x xs → Has y ys → x.key ≢ y.key) → IsDistinct (xs ++ ys)
+distinct_append [] ys a b h = b
+distinct_append (x ∷ xs) ys a b h = (
+  (λ y t. ⊎_elim (λ (o : Has y xs). a.0 y o) (λ (n : Has y ys). h x y (inl refl) n) (has_split y xs ys t)),
+  distinct_append xs ys a.1 b (λ p q s t. h p q (inr s) t),
+)
+
+distinct_if : (words : List ℕ) (i n : ℕ) → IsDistinct (kept_if words i n)
+distinct_if words i zero = tt
+distinct_if words i (suc n) = ((λ y h. absurd h), tt)
+
+kept_distinct : (words : List ℕ) (rows n : ℕ) → n ≤ rows → ((i j k : ℕ) → i < rows → j < rows → key_at words i ≡ suc k → key_at words j ≡ suc k → i ≡ j) → IsDistinct (kept_rows words n)
+kept_distinct words rows zero l single = tt
+kept_distinct words rows (suc n) l single = distinct_append (kept_rows words n) (kept_if words n (key_at words n)) (kept_distinct words rows n (omega arith) single) (distinct_if words n (key_at words n))
+    (λ x y h t. let o = kept_from words n x h in let p = last_key (key_at words n) refl y t in λ e. let ox : x.key ≡ o.1 = ap (λ (z : Kept). z.key) o.4 in
+    let same : o.0 ≡ n = single o.0 n o.1 (let a = o.2 in omega arith) (omega arith) o.3 (p ∙ ap suc (sym e ∙ ox)) in let a = o.2 in omega arith) where
+      last_key : (q : ℕ) → key_at words n ≡ q → (y : Kept) → Has y (kept_if words n q) → key_at words n ≡ suc y.key
+      last_key zero e y t = absurd t
+      last_key (suc k) e y t = ⊎_elim (λ (is : y ≡ kept_row words n k). e ∙ ap suc (sym (ap (λ (z : Kept). z.key) is))) (λ (no : ⊥). absurd no) t
+
+kept_side : (side : Side) (words : List ℕ) (i k : ℕ) → kept_bound side (kept_row words i k) ≡ bound_of (bound_at words side i)
+kept_side One words i k = refl
+kept_side Two words i k = refl
+
+-- ---- lists
+pub has_contains : {A : Type 0} (x : A) (xs : List A) → Has x xs → Contains xs x
+has_contains x [] h = absurd h
+has_contains x (y ∷ ys) h = ⊎_elim (λ (e : x ≡ y). (0, omega arith, sym e)) (λ (t : Has x ys). Contains-append_right (y ∷ []) ys x (has_contains x ys t)) h
+
+-- what holds of each that stands in the list
+pub all_has : {A : Type 0} (P : A → Type 0) (xs : List A) → ((x : A) → Has x xs → P x) → All P xs
+all_has P [] each = All-nil P
+all_has P (x ∷ xs) each = All-cons P x xs (each x (inl refl)) (all_has P xs (λ y h. each y (inr h)))
+
+-- ---- the best bounds of a book
+both_true : (a b : Bool) → a ≡ true → b ≡ true → (a && b) ≡ true
+both_true a b p q = rw (p, q) refl
+
+-- no entry of a book is tighter than the best bound
+pub best_entry_of : {S : Type 0} (m : GameModel S) (es : List Entry) (e : Entry) → Has e es → IsNoTighter e.side e.bound (best_posted m es e.side e.key)
+best_entry_of m [] e h = absurd h
+best_entry_of m (f ∷ es) e h = ⊎_elim
+    (λ (here : e ≡ f). subst (λ (z : Entry). IsNoTighter e.side e.bound (best_posted m (z ∷ es) e.side e.key)) here
+    (cond_first (same_side e.side e.side && eqb e.key e.key) e.side e.bound (best_posted m es e.side e.key) (both_true (same_side e.side e.side) (eqb e.key e.key) (same_side_self e.side) (eqb_self e.key))))
+    (λ (there : Has e es). looser_trans e.side e.bound (best_posted m es e.side e.key) (best_posted m (f ∷ es) e.side e.key) (best_entry_of m es e there)
+    (cond_better (same_side f.side e.side && eqb f.key e.key) e.side f.bound (best_posted m es e.side e.key))) h
+
+module _ {S G : Type 0} (m : GameModel S) (game_laws : IsGame m) (g : G) (rows : ℕ) (s : State (Unit {0}) (View G)) (r : IsConsistent m g rows s) (id : ℕ) (v : View G) (at : get_elem? s.views id ≡ some v) (lead : v.lead ≡ true) (whole : v.drawn ≤ length v.numbers)
+    (total : ℕ) (entries : List Entry) (told : IsTold m v total entries) where
+  abbrev f : IsConsistentView m g rows s.words r.head r.drawn id v
+  f = r.each_view id v at
+
+  pub just_whole : length v.numbers ≡ v.drawn
+  just_whole = let a = no_more s.views r.drawn r.held id v at in let b = (f.leads lead).1 in omega arith
+
+  -- a bound that is not the opening one was posted by this view
+  own : (side : Side) (i : ℕ) → i < rows → bound_at s.words side i ≢ opening_word m side → Has (i, side, bound_at s.words side i) v.posted
+  own side i l n = let o = r.posted side i l n in dite (ℕ_discrete o.0 id)
+      (λ (e : o.0 ≡ id). subst (λ (u : View G). Has (i, side, bound_at s.words side i) u.posted) (same_at s.views id o.1 v (subst (λ (z : ℕ). get_elem? s.views z ≡ some o.1) e o.2) at) o.3)
+      (λ (ne : o.0 ≢ id). let none = alone s.views r.drawn r.held id v at (let b = (f.leads lead).1 in omega arith) o.0 o.1 ne o.2 in
+      let empty = ((r.each_view o.0 o.1 o.2).idle none).1 in absurd (subst (Has (i, side, bound_at s.words side i)) empty o.3))
+
+  entry_of : (e : Entry) → Has e entries → IsEntry m total (IsKnown m v) e
+  entry_of e h = All-contains (IsEntry m total (IsKnown m v)) entries e told.lawful (has_contains e entries h)
+
+  -- a row's bound is no tighter than the best of the book
+  booked_low : (side : Side) (i k : ℕ) → i < rows → key_at s.words i ≡ suc k → IsNoTighter side (bound_of (bound_at s.words side i)) (best_posted m entries side k)
+  booked_low side i k l is = dite (ℕ_discrete (bound_at s.words side i) (opening_word m side))
+      (λ (e : bound_at s.words side i ≡ opening_word m side). looser_left side (opening_bound m side) (bound_of (bound_at s.words side i)) (best_posted m entries side k) (sym (ap bound_of e ∙ opening_back m game_laws side)) (best_opening m entries side k))
+      (λ (n : bound_at s.words side i ≢ opening_word m side). let b = told.booked i side (bound_at s.words side i) (own side i l n) in
+      let there = (f.knows i b.entry.key b.known).1 in let key : b.entry.key ≡ k = omega arith in
+      let bound : b.entry.bound ≡ bound_of (bound_at s.words side i) = sym (entry_back m game_laws b.entry total (IsKnown m v) (entry_of b.entry b.booked)) ∙ ap bound_of b.same_bound in
+      subst (λ (y : Side × ℕ × ℤ). IsNoTighter y.0 y.2 (best_posted m entries y.0 y.1)) (λ c. (b.same_side c, key c, bound c)) (best_entry_of m entries b.entry b.booked))
+
+  -- and no entry is tighter than it
+  posted_low : (e : Entry) (i : ℕ) → i < rows → key_at s.words i ≡ suc e.key → IsEntry m total (IsKnown m v) e → IsEntered v e → IsNoTighter e.side e.bound (bound_of (bound_at s.words e.side i))
+  posted_low e i l is lawful n = let k = f.knows n.row e.key n.known in let row : n.row ≡ i = (r.each_row n.row k.0).single e.key i k.1 l is in
+      let b = f.backed n.row e.side (word_of e.bound) n.posted in
+      let low : IsLooser e.side (word_of e.bound) (bound_at s.words e.side n.row) = word_trans e.side (word_of e.bound) (seen_at m e.side v n.row) (bound_at s.words e.side n.row) b.seen_too (f.no_tighter e.side n.row k.0) in
+      subst (λ (y : ℤ × ℕ). IsNoTighter e.side y.0 (bound_of (bound_at s.words e.side y.1))) (λ c. (entry_back m game_laws e total (IsKnown m v) lawful c, row c)) (looser_bound e.side (word_of e.bound) (bound_at s.words e.side n.row) low)
+
+  both_facts : All (λ e. IsEntry m total (IsKnown m v) e × IsEntered v e) entries
+  both_facts = all_has (λ e. IsEntry m total (IsKnown m v) e × IsEntered v e) entries (λ e h. (entry_of e h, All-contains (IsEntered v) entries e told.entered (has_contains e entries h)))
+
+  booked_high : (side : Side) (i k : ℕ) → i < rows → key_at s.words i ≡ suc k → IsNoTighter side (best_posted m entries side k) (bound_of (bound_at s.words side i))
+  booked_high side i k l is = best_has m entries side k (λ x. IsNoTighter side x (bound_of (bound_at s.words side i))) (word_low m game_laws side (bound_at s.words side i) (word_in_range m g rows game_laws s r side i l))
+      (All-weaker (λ e. IsEntry m total (IsKnown m v) e × IsEntered v e) (λ e. e.side ≡ side → e.key ≡ k → IsNoTighter side e.bound (bound_of (bound_at s.words side i)))
+      (λ e h a b. subst (λ (y : Side). IsNoTighter y e.bound (bound_of (bound_at s.words y i))) a (posted_low e i l (is ∙ ap suc (sym b)) h.0 h.1)) entries both_facts)
+
+  booked : (side : Side) (i k : ℕ) → i < rows → key_at s.words i ≡ suc k → bound_of (bound_at s.words side i) ≡ best_posted m entries side k
+  booked side i k l is = looser_both side (bound_of (bound_at s.words side i)) (best_posted m entries side k) (booked_low side i k l is) (booked_high side i k l is)
+
+  -- what was seen is no tighter than the best of the book
+  seen_booked : (side : Side) (key : ℕ) → IsNoTighter side (seen_by m v side key) (best_posted m entries side key)
+  seen_booked side key = seen_most m side v v.keys key (best_posted m entries side key) (best_opening m entries side key)
+      (λ i h. let k = f.knows i key h in looser_trans side (bound_of (seen_at m side v i)) (bound_of (bound_at s.words side i)) (best_posted m entries side key)
+      (looser_bound side (seen_at m side v i) (bound_at s.words side i) (f.no_tighter side i k.0)) (booked_low side i key k.0 k.1))
+
+  pub book_closed : IsClosed m total entries
+  book_closed = All-weaker (IsEntry m total (IsKnown m v)) (IsEntry m total (IsBooked m entries))
+      (λ e h. entry_weaker m total (IsKnown m v) (IsBooked m entries) e (λ t x _ k. known_then (eqb (m.rank t) 0) e.side x _ (seen_by m v e.side (m.key t)) (best_posted m entries e.side (m.key t)) (seen_booked e.side (m.key t)) k) h) entries told.lawful
+
+  has_key : (i k : ℕ) → i < rows → key_at s.words i ≡ suc k → HasKey (kept_rows s.words rows) k
+  has_key i k l is = record { row = kept_row s.words i k; is_kept = has_contains (kept_row s.words i k) (kept_rows s.words rows) (kept_has s.words rows i k l is); is_key = refl }
+
+  pub closes : IsKept m rows v entries (kept_rows s.words rows)
+  closes = record {
+    few = kept_few s.words rows;
+    full = λ all. kept_full s.words rows (λ i l z. let o = all i l in let k = (f.knows i o.0 o.1).1 in omega arith);
+    distinct = kept_distinct s.words rows rows (omega arith) (λ i j k li lj a b. (r.each_row i li).single k j a lj b);
+    each = all_has (IsKeptRow m entries) (kept_rows s.words rows) (λ x h. let o = kept_from s.words rows x h in subst (IsKeptRow m entries) (sym o.4) (record {
+      named = (r.each_row o.0 o.2).named o.1 o.3;
+      best = λ side. kept_side side s.words o.0 o.1 ∙ booked side o.0 o.1 o.2 o.3;
+    }));
+    entered = All-weaker (IsEntered v) (λ e. HasKey (kept_rows s.words rows) e.key) (λ e n. let k = f.knows n.row e.key n.known in has_key n.row e.key k.0 k.1) entries told.entered;
+    known = λ i k h. let q = f.knows i k h in has_key i k q.0 q.1;
+    no_looser = seen_booked;
+  }

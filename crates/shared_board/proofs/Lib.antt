@@ -1,0 +1,15 @@
+pub mod ListLemmas
+pub mod WordLemmas
+pub mod StartLemmas
+pub mod ChangeLemmas
+pub mod ClaimLemmas
+pub mod LoopLemmas
+pub mod SeatLemmas
+pub mod BoundLemmas
+pub mod StepLemmas
+pub mod WholeLemmas
+pub mod SeenLemmas
+pub mod PassLemmas
+pub mod PassStepLemmas
+pub mod CloseLemmas
+pub mod DeskLemmas

@@ -1,0 +1,47 @@
+use Rattle.std.proofs.Common.{rules, ◌≡◌, inl, inr, ℕ, ◌+◌, ◌<◌, refl, subst, arith, mod-lt}
+use Rattle.shared_board.specs.Words.{row_after}
+use Rattle.shared_board.proofs.ClaimLemmas.{claims_as}
+use Rattle.shared_board.proofs.LoopLemmas.{SoFar, keeps_inside, learnt, goes_on, found_row, all_met, may_claim, still_at}
+use Rattle.shared_board.proofs.steps.claim_row.Goals as goal
+use Rattle.shared_board.proofs.steps.claim_row.Goals.{then-found-eq0-via-then-found-eq0, then-found-eq0-via-else-found-eq0+then-found-key}
+
+pub compare_exchange-found-requires : goal.compare_exchange-found-requires
+compare_exchange-found-requires g c = let row : ℕ = row_after c.args.rows c.args.key c.loop-tried.tried in let l = c.loop-tried-test.true in let size = c.requires.board in
+    let inside : row < c.args.rows = mod-lt _ (omega arith) in
+    let may = may_claim g.G.Game.model c.args.rows c.args.key c.args.seat.now.me.0 c.loop-tried.tried c.loop-tried.seat.me.0 c.args.words.now.key.0 c.loop-tried.invariant.2 c.loop-tried.invariant.0.1 c.requires.key (search rules) in
+    (search rules, omega arith, claims_as g.G.Game.model c.args.words.now.key.0 c.args.rows c.args.words.now.table_id.slots c.loop-tried.seat.id c.loop-tried.seat.me row c.args.key c.loop-tried.tried c.args.words.now.key.1 (c.args.key + 1) may size.0 (omega arith))
+
+pub returns-then-found-eq0-clause-seat : goal.returns-then-found-eq0-clause-seat
+returns-then-found-eq0-clause-seat g c = let told = c.compare_exchange-found.ensures.2 in let l = told.2 (row_after c.args.rows c.args.key c.loop-tried.tried) c.args.key refl (omega arith) in
+    let still = still_at g.G.Game.model c.args.rows c.args.key c.args.seat.now.me.0 _ _ _ _ _ _ _ c.loop-tried.invariant.0 told.0 l in ((search rules, still.0, still.1), search rules)
+
+pub returns-then-found-eq0-clause-keys : goal.returns-then-found-eq0-clause-keys
+returns-then-found-eq0-clause-keys g c = let told = c.compare_exchange-found.ensures.2 in let l = told.2 (row_after c.args.rows c.args.key c.loop-tried.tried) c.args.key refl (omega arith) in
+    (learnt g.G.Game.model c.args.rows c.args.key c.args.seat.now.me.0 _ _ _ _ _ _ c.loop-tried.invariant.2 l).0
+
+pub returns-then-found-eq0-clause-named : goal.returns-then-found-eq0-clause-named
+returns-then-found-eq0-clause-named g c = let told = c.compare_exchange-found.ensures.2 in let l = told.2 (row_after c.args.rows c.args.key c.loop-tried.tried) c.args.key refl (omega arith) in
+    (learnt g.G.Game.model c.args.rows c.args.key c.args.seat.now.me.0 _ _ _ _ _ _ c.loop-tried.invariant.2 l).1
+
+pub returns-then-found-eq0-clause-inside : goal.returns-then-found-eq0-clause-inside
+returns-then-found-eq0-clause-inside g c = let told = c.compare_exchange-found.ensures.2 in let l = told.2 (row_after c.args.rows c.args.key c.loop-tried.tried) c.args.key refl (omega arith) in
+    keeps_inside g.G.Game.model c.args.rows c.args.key c.args.seat.now.me.0 _ _ _ _ _ _ c.loop-tried.invariant.2 l (mod-lt _ (let h = c.loop-tried-test.true in omega arith))
+
+pub returns-then-found-eq0-clause-some : goal.returns-then-found-eq0-clause-some
+returns-then-found-eq0-clause-some g c = let told = c.compare_exchange-found.ensures.2 in let l = told.2 (row_after c.args.rows c.args.key c.loop-tried.tried) c.args.key refl (omega arith) in
+    (mod-lt _ (omega arith), found_row g.G.Game.model c.args.rows c.args.key c.args.seat.now.me.0 _ _ _ _ l (elim c.then-found-eq0.branch [ then-found-eq0-via-then-found-eq0 w ↦ inl (omega arith) | then-found-eq0-via-else-found-eq0+then-found-key w ↦ inr (omega arith) ]))
+
+pub loop-tried-preserved : goal.loop-tried-preserved
+loop-tried-preserved g c = let told = c.compare_exchange-found.ensures.2 in let l = told.2 (row_after c.args.rows c.args.key c.loop-tried.tried) c.args.key refl (omega arith) in
+    let still = still_at g.G.Game.model c.args.rows c.args.key c.args.seat.now.me.0 _ _ _ _ _ _ _ c.loop-tried.invariant.0 told.0 l in (
+      (search rules, still.0, still.1),
+      search rules,
+      goes_on g.G.Game.model c.args.rows c.args.key c.args.seat.now.me.0 _ _ _ _ c.loop-tried.invariant.2 l told.1 (mod-lt _ (let h = c.loop-tried-test.true in omega arith)) (search rules) (λ e. c.if-found-key.false (omega arith)),
+    )
+
+pub returns-clause-apart : goal.returns-clause-apart
+returns-clause-apart g c = let l = c.loop-tried-test.false in let size = c.requires.board in c.loop-tried.invariant.2.apart (omega arith)
+
+pub returns-clause-none : goal.returns-clause-none
+returns-clause-none g c = let l = c.loop-tried-test.false in let same : c.loop-tried.tried ≡ c.args.rows = omega arith in
+    all_met g.G.Game.model c.args.rows c.args.key c.args.seat.now.me.0 _ (subst (λ (z : ℕ). SoFar g.G.Game.model c.args.rows c.args.key z c.args.seat.now.me.0 c.loop-tried.seat.me.0) same c.loop-tried.invariant.2)

@@ -1,0 +1,158 @@
+//! The board that threads share.
+ghost use Rattle.std.specs.Prelude.{◌≡◌, ◌<◌, ◌≤◌, true, [], ◌++◌, IfOk, IfErr, OnOk, OnErr};
+ghost use Rattle.sim_game.specs.declared.Side.TheVariants.{One, Two};
+ghost use Rattle.shared_board.specs.Words.{opening_word};
+ghost use Rattle.shared_board.specs.Rule.{first_view};
+ghost use Rattle.shared_board.specs.Passes.{KnowsNoLess};
+ghost use Rattle.shared_board.specs.Values.{IsPassOf};
+ghost use Rattle.shared_board.specs.Plays.{drawing, drawn_view, joined};
+
+use crate::pass::Pass;
+use crate::rule::{Draw, Gather, Rules};
+use crate::view::View;
+use crate::words::{blank_words, word_of_bound};
+use atomic_table::Table;
+use plan_book::Book;
+use sim_game::{Game, NoMemory, Side, opening_bound};
+use std::alloc::Global;
+use std::marker::Model;
+
+pub(crate) type Words<G> = Table<(), View<G>, (G, u32), Rules, Global>;
+
+/// A board of bounds that threads share without a lock.
+#[derive(Drop)]
+pub struct Board<G: Game> {
+    pub(crate) words: Words<G>,
+    pub(crate) game: G,
+    pub(crate) rows: u32,
+    pub(crate) total: u32,
+    pub(crate) alloc: Global,
+}
+
+impl<G: Game> Model for Board<G> {
+    ghost use Rattle.std.specs.Prelude.{◌≡◌, ◌+◌, ◌*◌, ◌≤◌};
+    ghost use Rattle.shared_board.specs.Values.{BoardValue};
+
+    ghost Value = { BoardValue G };
+
+    ghost view = { λ b. record { name = b.words.shared.table_id; game = b.game; rows = b.rows; total = b.total } };
+
+    ghost invariant = { λ b. (b.words.shared.key ≡ (b.game, b.rows)) × (b.words.shared.table_id.words ≡ 3 * b.rows + 1) × (1 ≤ b.rows) × (b.rows ≤ 1048576) × (b.words.shared.table_id.slots ≡ 0) × (8192 ≤ b.total) × (b.total ≤ 1048576) };
+}
+
+/// 65535 numbers of the board were drawn.
+#[derive(Clone, Copy, PartialEq, Eq, Debug)]
+pub struct TooMany;
+
+/// There was no memory for the books. The other pass comes back.
+#[derive(Drop)]
+pub struct JoinError<G: Game> {
+    pub other: Pass<G>,
+}
+
+const MOST_DRAWN: u32 = 65535;
+
+impl<G: Game> Board<G> {
+    /// A board of free rows, and the pass of its lead.
+    pub fn create(
+        alloc: Global,
+        game: G,
+        rows: u32,
+        total: u32,
+    ) -> Result<(Board<G>, Pass<G>), NoMemory>
+        requires rows_low { 1 ≤ rows }
+        requires rows_high { rows ≤ 1048576 }
+        requires total_low { 8192 ≤ total }
+        requires total_high { total ≤ 1048576 }
+        ensures game { IfOk result (λ r. r.0.game ≡ game) }
+        ensures rows { IfOk result (λ r. r.0.rows ≡ rows) }
+        ensures total { IfOk result (λ r. r.0.total ≡ total) }
+        ensures ours { IfOk result (λ r. IsPassOf r.0 r.1) }
+        ensures entries { IfOk result (λ r. r.1.entries ≡ []) }
+        ensures view { IfOk result (λ r. r.1.view ≡ first_view game rows (opening_word (G.model game) One) (opening_word (G.model game) Two)) }
+    {
+        let low = word_of_bound(opening_bound(game, Side::One));
+        let high = word_of_bound(opening_bound(game, Side::Two));
+        let opening = blank_words(alloc, rows, low, high)?;
+        let (words, seat) = Table::of_words(alloc, opening.as_slice(), &(game, rows))?;
+        let board = Board {
+            words,
+            game,
+            rows,
+            total,
+            alloc,
+        };
+        let pass = Pass {
+            seat,
+            book: Book::new(alloc, total),
+            lead: true,
+            drawn: 1,
+            held: 1,
+        };
+        Ok((board, pass))
+    }
+
+    /// A new pass, which has seen all that the lead's pass has. It takes no memory.
+    pub fn split(&self, pass: &mut Pass<G>) -> Result<Pass<G>, TooMany>
+        requires ours { IsPassOf self.now pass.old }
+        requires lead { pass.old.view.lead ≡ true }
+        ensures few { OnOk result (pass.old.view.drawn < 65535) }
+        ensures pass { OnOk result (pass.new ≡ record pass.old { view = drawing pass.old.view }) }
+        ensures ours { IfOk result (λ new. IsPassOf self.now new) }
+        ensures view { IfOk result (λ new. new.view ≡ drawn_view pass.old.view) }
+        ensures entries { IfOk result (λ new. new.entries ≡ []) }
+        ensures mine { OnOk result (KnowsNoLess (G.model self.now.game) pass.old.view pass.new.view) }
+        ensures theirs { IfOk result (λ new. KnowsNoLess (G.model self.now.game) pass.old.view new.view) }
+        ensures err { OnErr result ((pass.new ≡ pass.old) × (pass.old.view.drawn ≡ 65535)) }
+    {
+        if pass.drawn >= MOST_DRAWN {
+            return Err(TooMany);
+        }
+        let seat = self.words.shared.split_seat::<Draw>(&mut pass.seat);
+        pass.drawn += 1;
+        Ok(Pass {
+            seat,
+            book: Book::new(self.alloc, self.total),
+            lead: false,
+            drawn: 0,
+            held: 1,
+        })
+    }
+
+    /// The first pass takes in the other one: its numbers, its book and what it has seen.
+    pub fn join(&self, pass: &mut Pass<G>, other: Pass<G>) -> Result<(), JoinError<G>>
+        requires ours { IsPassOf self.now pass.old }
+        requires theirs { IsPassOf self.now other }
+        ensures name { pass.new.name ≡ pass.old.name }
+        ensures total { pass.new.total ≡ pass.old.total }
+        ensures view { OnOk result (pass.new.view ≡ joined pass.old.view other.view) }
+        ensures entries { OnOk result (pass.new.entries ≡ pass.old.entries ++ other.entries) }
+        ensures mine { OnOk result (KnowsNoLess (G.model self.now.game) pass.old.view pass.new.view) }
+        ensures theirs { OnOk result (KnowsNoLess (G.model self.now.game) other.view pass.new.view) }
+        ensures err { IfErr result (λ e. (pass.new ≡ pass.old) × (e.other ≡ other)) }
+    {
+        let Pass {
+            seat,
+            book,
+            lead,
+            drawn,
+            held,
+        } = other;
+        if let Err(book) = pass.book.join(book) {
+            return Err(JoinError {
+                other: Pass {
+                    seat,
+                    book,
+                    lead,
+                    drawn,
+                    held,
+                },
+            });
+        }
+        self.words.shared.join_seat::<Gather>(&mut pass.seat, seat);
+        pass.lead = pass.lead || lead;
+        pass.drawn = pass.drawn.max(drawn);
+        pass.held = pass.held.saturating_add(held);
+        Ok(())
+    }
+}

@@ -1,0 +1,170 @@
+//! A pass at its board.
+ghost use Rattle.std.specs.Prelude.{◌≡◌, ◌≢◌, ℕ, ◌+◌, ◌<◌, ◌≤◌, Some, IsSome, List, length, IfOk, IfErr, OnOk, OnErr};
+ghost use Rattle.sim_game.specs.declared.Side.{Side};
+ghost use Rattle.sim_game.specs.declared.Side.TheVariants.{One, Two};
+ghost use Rattle.sim_game.specs.Model.{Reachable};
+ghost use Rattle.bounds_board.specs.Views.{IsInnerKey, IsPostable, IsLater, IsRead, IsEnclosure};
+ghost use Rattle.shared_board.specs.Words.{word_of, bound_of, IsLooser};
+ghost use Rattle.shared_board.specs.Rule.{Has, seen, seen_at};
+ghost use Rattle.shared_board.specs.Plays.{more_keys, reading, posting, IsApart, AllNamed};
+ghost use Rattle.shared_board.specs.Passes.{IsUnseen, IsAnswer};
+ghost use Rattle.shared_board.specs.Values.{IsPassOf, viewing, entering, desk_view, DeskName};
+
+use crate::board::Board;
+use crate::pass::Pass;
+use crate::steps::{claim_row, load_lower, load_upper, post_word};
+use crate::words::{bound_of_word, word_of_bound};
+use bounds_board::{Bounds, Enclosure, Full, Row};
+use plan_book::Entry;
+use sim_game::{Game, NoMemory};
+use std::marker::Model;
+
+/// A pass at its board, through which a thread claims, reads and posts.
+#[derive(Drop)]
+pub struct Desk<'a, G: Game> {
+    board: &'a Board<G>,
+    pass: Pass<G>,
+}
+
+impl<'a, G: Game> Model for Desk<'a, G> {
+    ghost use Rattle.shared_board.specs.Values.{DeskValue, IsPassOf};
+
+    ghost Value = { DeskValue G };
+
+    ghost view = { λ d. record { board = d.board.now; pass = d.pass } };
+
+    ghost invariant = { λ d. IsPassOf d.board.now d.pass };
+}
+
+impl<'a, G: Game> Desk<'a, G> {
+    /// The pass at its board. It takes no memory.
+    pub fn new(board: &'a Board<G>, pass: Pass<G>) -> Desk<'a, G>
+        requires { IsPassOf board.now pass }
+        ensures board { result.board ≡ board.now }
+        ensures pass { result.pass ≡ pass }
+    {
+        Desk { board, pass }
+    }
+
+    /// The pass, which is still of the board.
+    pub fn into_pass(self) -> Pass<G>
+        ensures pass { result ≡ self.entry.pass }
+        ensures ours { IsPassOf self.entry.board result }
+    {
+        let Desk { board: _, pass } = self;
+        pass
+    }
+
+    fn game_of(&self) -> G
+        ensures { result ≡ self.now.board.game }
+    {
+        let board = self.board;
+        board.game
+    }
+
+    fn total_of(&self) -> u32
+        ensures total { result ≡ self.now.board.total }
+        ensures low { 8192 ≤ result }
+        ensures high { result ≤ 1048576 }
+    {
+        let board = self.board;
+        board.total
+    }
+
+    /// The row of a key, claimed for it if need be.
+    fn claim_key(&mut self, key: u64) -> Result<Row, Full>
+        requires { IsInnerKey (G.model self.old.board.game) key }
+        ensures view { (ks : List (ℕ × ℕ)) × (self.new ≡ viewing self.old (more_keys ks self.old.pass.view)) }
+        ensures ok { IfOk result (λ row. Has (row, key) self.new.pass.view.keys) }
+        ensures err { OnErr result ((i : ℕ) → i < self.old.board.rows → (k : ℕ) × Has (i, k) self.new.pass.view.keys × (k ≢ key)) }
+        ensures apart { IsApart self.new.pass.view.keys }
+        ensures named { AllNamed (G.model self.old.board.game) self.new.pass.view.keys }
+        ensures unseen { (side : Side) (i : ℕ) → IsUnseen (G.model self.old.board.game) self.old.pass.view side i }
+    {
+        let board = self.board;
+        let pass = &mut self.pass;
+        match claim_row(&board.words.shared, &mut pass.seat, board.rows, key) {
+            Some(row) => Ok(Row::new(row)),
+            None => Err(Full),
+        }
+    }
+
+    /// The bounds of a row, by a load of each.
+    fn read_row(&mut self, row: Row) -> Enclosure
+        requires { (k : ℕ) × Has (row, k) self.old.pass.view.keys }
+        ensures view { (a b : ℕ) × (self.new ≡ viewing self.old (reading Two (reading One self.old.pass.view row a) row b)) × (result.lower ≡ bound_of a) × (result.upper ≡ bound_of b) }
+        ensures loads { self.new.pass.view.loads ≡ self.old.pass.view.loads + 2 }
+        ensures lower { IsAnswer (G.model self.old.board.game) One self.old.pass.view row result.lower }
+        ensures upper { IsAnswer (G.model self.old.board.game) Two self.old.pass.view row result.upper }
+        ensures shaped { (side : Side) → (row < self.old.board.rows) × (length (seen side self.old.pass.view) ≡ self.old.board.rows) }
+        ensures apart { IsApart self.old.pass.view.keys }
+    {
+        let board = self.board;
+        let pass = &mut self.pass;
+        let place = row.place();
+        let lower = load_lower(&board.words.shared, &mut pass.seat, board.rows, place);
+        let upper = load_upper(&board.words.shared, &mut pass.seat, board.rows, place);
+        Enclosure {
+            lower: bound_of_word(lower),
+            upper: bound_of_word(upper),
+        }
+    }
+
+    /// Raises the lower or cuts the upper bound of a row by one atomic step, and keeps the entry.
+    fn post_entry(&mut self, row: Row, e: Entry) -> Result<(), NoMemory>
+        requires known { Has (row, e.key) self.old.pass.view.keys }
+        requires lawful { IsPostable (G.model self.old.board.game) (desk_view G.model self.old) e }
+        ensures ok { OnOk result ((n : ℕ) × (self.new ≡ entering self.old (posting e.side self.old.pass.view row (word_of e.bound) n) e) × IsLooser e.side (seen_at (G.model self.old.board.game) e.side self.old.pass.view row) n × (row < self.old.board.rows) × (length (seen e.side self.old.pass.view) ≡ self.old.board.rows)) }
+        ensures err { OnErr result (self.new ≡ self.old) }
+    {
+        let board = self.board;
+        let pass = &mut self.pass;
+        pass.book.reserve(1)?;
+        let bound = word_of_bound(e.bound);
+        post_word(
+            &board.words.shared,
+            &mut pass.seat,
+            board.rows,
+            e.side,
+            row.place(),
+            bound,
+        );
+        pass.book.push(e);
+        Ok(())
+    }
+}
+
+impl<'a, G: Game> Bounds<G> for Desk<'a, G> {
+    ghost Name = { DeskName };
+
+    ghost view = { desk_view G.model };
+
+    fn game(&self) -> G {
+        self.game_of()
+    }
+
+    fn total(&self) -> u32 {
+        self.total_of()
+    }
+
+    fn claim(&mut self, key: u64) -> Result<Row, Full> {
+        self.claim_key(key)
+    }
+
+    /// The bounds of a row, by a load of each of its two words.
+    fn read(&mut self, row: Row) -> Enclosure
+        requires { IsSome ((desk_view G.model self.old).key_at row) }
+        ensures later { IsLater (desk_view G.model self.old) (desk_view G.model self.new) }
+        ensures entries { (desk_view G.model self.new).entries ≡ (desk_view G.model self.old).entries }
+        ensures seen { (key : ℕ) → (desk_view G.model self.old).key_at row ≡ Some key → IsRead (desk_view G.model self.new) result.lower result.upper key }
+        ensures backed { (s : G.State) → Reachable (G.model (desk_view G.model self.old).game) s → (desk_view G.model self.old).key_at row ≡ Some ((G.model (desk_view G.model self.old).game).key s)
+            → IsEnclosure (G.model (desk_view G.model self.old).game) result.lower result.upper s }
+        ensures loads { self.new.pass.view.loads ≡ self.old.pass.view.loads + 2 }
+    {
+        self.read_row(row)
+    }
+
+    fn post(&mut self, row: Row, e: Entry) -> Result<(), NoMemory> {
+        self.post_entry(row, e)
+    }
+}

@@ -1,0 +1,92 @@
+//! The steps of a seat at the words of a board.
+ghost use Rattle.std.specs.Prelude.{◌≡◌, ◌≢◌, ℕ, ◌+◌, ◌*◌, ◌<◌, ◌≤◌, List, [], Some, IfSome, IfNone};
+ghost use Rattle.bounds_board.specs.Views.{IsInnerKey};
+ghost use Rattle.shared_board.specs.Rule.{Has};
+ghost use Rattle.shared_board.specs.Plays.{more_keys, reading, posting, IsBound, IsApart, AllNamed, IsAt, IsSized, MayPost};
+ghost use Rattle.sim_game.specs.declared.Side.TheVariants.{One, Two};
+
+use crate::rule::{Claim, Cut, Raise, ReadLower, ReadUpper, Rules};
+use crate::view::View;
+use atomic_table::{Seat, Shared};
+use sim_game::{Game, Side};
+
+pub(crate) type Words<G> = Shared<(), View<G>, (G, u32), Rules>;
+
+pub(crate) type Place<G> = Seat<(), View<G>>;
+
+/// Finds the row of a key, or claims one for it.
+pub(crate) fn claim_row<G: Game>(
+    words: &Words<G>,
+    seat: &mut Place<G>,
+    rows: u32,
+    key: u64,
+) -> Option<u32>
+    requires board { IsSized words.now.table_id words.now.key.1 rows }
+    requires seat { IsAt words.now.table_id seat.old.table_id seat.old.me }
+    requires key { IsInnerKey (G.model words.now.key.0) key }
+    ensures seat { IsAt words.now.table_id seat.new.table_id seat.new.me × (seat.new.id ≡ seat.old.id) }
+    ensures keys { (ks : List (ℕ × ℕ)) × (seat.new.me.0 ≡ more_keys ks seat.old.me.0) }
+    ensures named { (g : G) → seat.old.me.0.game ≡ Some g → AllNamed (G.model g) seat.old.me.0.keys → AllNamed (G.model g) seat.new.me.0.keys }
+    ensures inside { ((i k : ℕ) → Has (i, k) seat.old.me.0.keys → i < rows) → (i k : ℕ) → Has (i, k) seat.new.me.0.keys → i < rows }
+    ensures apart { IsApart seat.new.me.0.keys }
+    ensures some { IfSome result (λ r. (r < rows) × Has (r, key) seat.new.me.0.keys) }
+    ensures none { IfNone result ((i : ℕ) → i < rows → (k : ℕ) × Has (i, k) seat.new.me.0.keys × (k ≢ key)) }
+{
+    let count = rows as u64;
+    for tried in 0..count {
+        let row = (key % count + tried) % count;
+        let word = 3 * row as usize + 1;
+        let found = words.compare_exchange::<Claim<G>>(seat, word, 0, key + 1);
+        if found == 0 || found == key + 1 {
+            return Some(row as u32);
+        }
+    }
+    None
+}
+
+/// Loads the lower bound of a row.
+pub(crate) fn load_lower<G: Game>(words: &Words<G>, seat: &mut Place<G>, rows: u32, row: u32) -> u64
+    requires board { IsSized words.now.table_id words.now.key.1 rows }
+    requires seat { IsAt words.now.table_id seat.old.table_id seat.old.me }
+    requires row { row < rows }
+    ensures seat { IsAt words.now.table_id seat.new.table_id seat.new.me × (seat.new.id ≡ seat.old.id) }
+    ensures view { seat.new.me.0 ≡ reading One seat.old.me.0 row result }
+    ensures apart { IsApart seat.old.me.0.keys }
+    ensures told { (g : G) → seat.old.me.0.game ≡ Some g → IsBound G.model One seat.old.me.0 row result g }
+{
+    words.load::<ReadLower<G>>(seat, 3 * row as usize + 2)
+}
+
+/// Loads the upper bound of a row.
+pub(crate) fn load_upper<G: Game>(words: &Words<G>, seat: &mut Place<G>, rows: u32, row: u32) -> u64
+    requires board { IsSized words.now.table_id words.now.key.1 rows }
+    requires seat { IsAt words.now.table_id seat.old.table_id seat.old.me }
+    requires row { row < rows }
+    ensures seat { IsAt words.now.table_id seat.new.table_id seat.new.me × (seat.new.id ≡ seat.old.id) }
+    ensures view { seat.new.me.0 ≡ reading Two seat.old.me.0 row result }
+    ensures apart { IsApart seat.old.me.0.keys }
+    ensures told { (g : G) → seat.old.me.0.game ≡ Some g → IsBound G.model Two seat.old.me.0 row result g }
+{
+    words.load::<ReadUpper<G>>(seat, 3 * row as usize + 3)
+}
+
+/// Posts a bound for a side.
+pub(crate) fn post_word<G: Game>(
+    words: &Words<G>,
+    seat: &mut Place<G>,
+    rows: u32,
+    side: Side,
+    row: u32,
+    bound: u64,
+)
+    requires board { IsSized words.now.table_id words.now.key.1 rows }
+    requires seat { IsAt words.now.table_id seat.old.table_id seat.old.me }
+    requires post { MayPost (G.model words.now.key.0) rows side seat.old.me.0 row bound }
+    ensures seat { IsAt words.now.table_id seat.new.table_id seat.new.me × (seat.new.id ≡ seat.old.id) }
+    ensures view { (n : ℕ) × (seat.new.me.0 ≡ posting side seat.old.me.0 row bound n) × ((g : G) → seat.old.me.0.game ≡ Some g → IsBound G.model side seat.old.me.0 row n g) }
+{
+    match side {
+        Side::One => words.fetch_max::<Raise<G>>(seat, 3 * row as usize + 2, bound),
+        Side::Two => words.fetch_min::<Cut<G>>(seat, 3 * row as usize + 3, bound),
+    };
+}

@@ -1,0 +1,46 @@
+//! Bounds as words of a board.
+ghost use Rattle.std.specs.Prelude.{◌≡◌, ◌+◌, ◌*◌, ◌≤◌, pos, neg_ℤ, ◌≤ℤ◌, IfOk};
+ghost use Rattle.shared_board.specs.Words.{word_of, bound_of, IsBlank};
+
+use sim_game::NoMemory;
+use std::alloc::Global;
+
+const SHIFT: i64 = 4000000000;
+
+/// The word of a bound.
+pub(crate) fn word_of_bound(bound: i64) -> u64
+    requires low { neg_ℤ (pos 4000000000) ≤ℤ bound }
+    requires high { bound ≤ℤ pos 4000000000 }
+    ensures word { result ≡ word_of bound }
+    ensures small { result ≤ 8000000000 }
+{
+    (bound + SHIFT) as u64
+}
+
+/// The bound of a word.
+pub(crate) fn bound_of_word(word: u64) -> i64
+    requires { word ≤ 8000000000 }
+    ensures { result ≡ bound_of word }
+{
+    word as i64 - SHIFT
+}
+
+/// The words of a board of free rows.
+pub(crate) fn blank_words(
+    alloc: Global,
+    rows: u32,
+    low: u64,
+    high: u64,
+) -> Result<Vec<u64>, NoMemory>
+    requires { rows ≤ 1048576 }
+    ensures { IfOk result (λ v. IsBlank v.items rows low high) }
+{
+    let mut words = Vec::with_capacity(alloc, 3 * rows as usize + 1)?;
+    words.push(0)?;
+    for _row in 0..rows {
+        words.push(0)?;
+        words.push(low)?;
+        words.push(high)?;
+    }
+    Ok(words)
+}

@@ -12,7 +12,7 @@ use Rattle.tron.specs.Rules.{tron_game}
 use Rattle.certificate.specs.declared.report.Ask.{Ask}
 use Rattle.certificate.specs.declared.report.PositionText.{PositionText}
 use Rattle.certificate.specs.declared.report.PositionText.TheVariants as texts
-use Rattle.certificate.specs.declared.report.Report.{Report}
+use Rattle.lazy_workers.specs.declared.summary.Solved.{Solved}
 use Rattle.certificate.specs.Texts.{report_text}
 use Rattle.certificate.specs.Reading.{read_report}
 use Rattle.position.specs.declared.error.InputError.{InputError}
@@ -26,8 +26,8 @@ use Rattle.dosolve.specs.declared.run.Answer.{Answer}
 use Rattle.dosolve.specs.declared.words.Command.{Command}
 use Rattle.dosolve.specs.declared.words.Command.TheVariants.{Solve}
 use Rattle.dosolve.specs.Games.{OfGame}
-use Rattle.dosolve.specs.Texts.{not_built_text, input_text}
-use Rattle.dosolve.specs.Runs.{status_of, IsBuilt, IsSolved, IsAnswer, IsTaken, IsTakenInPart, IsRun, devices, IsWritten}
+use Rattle.dosolve.specs.Texts.{input_text}
+use Rattle.dosolve.specs.Runs.{status_of, IsSolved, IsAnswer, IsTaken, IsTakenInPart, IsRun, devices, IsWritten}
 
 -- an answer that was written, whole or in part or not at all, makes a run
 pub run_of : (command : Option Command) (left left' written written' : Option (List ℕ)) (read read' wrote wrote' : ℕ) (bytes : List ℕ) (answer : Result Answer NoMemory) (status : ℕ)
@@ -55,14 +55,11 @@ of_tron (texts.OshiZumo size one two least place) g P is p = absurd is
 
 -- ---- the answers of solve
 module _ (bytes : List ℕ) (text : PositionText) (ask : Ask) (is : position_of bytes ≡ Ok (record { text = text; ask = ask })) where
-  pub not_built_is : (result : Result Answer NoMemory) → (IsBuilt ask → ⊥) → IfOk result (λ a. (a.status ≡ 2) × (a.text ≡ not_built_text)) → IfOk result (λ a. IsSolved bytes a.status a.text)
-  not_built_is result not said = IfOk-weaker result _ (λ a. IsSolved bytes a.status a.text)
-      (λ a s. rw (s.0, s.1) (IsSolved.not_built (record { text = text; ask = ask }) is not)) said
-
-  pub reported_is : (found : Result Report NoMemory) (result : Result Answer NoMemory) → IsBuilt ask → ((r : Report) → found ≡ Ok r → OfGame text (λ S m. IsSolution m text ask r))
-      → IfOk result (λ a. (r : Report) × (found ≡ Ok r) × (a.status ≡ status_of r.outcome) × (a.text ≡ report_text r) × (read_report (report_text r) ≡ Ok r)) → IfOk result (λ a. IsSolved bytes a.status a.text)
-  reported_is found result built solves said = IfOk-weaker result _ (λ a. IsSolved bytes a.status a.text)
-      (λ a s. rw (s.2, s.3) (IsSolved.reported (record { text = text; ask = ask }) s.0 is built (solves s.0 s.1) s.4)) said
+  pub reported_is : (found : Result Solved NoMemory) (result : Result Answer NoMemory) → ((solved : Solved) → found ≡ Ok solved → OfGame text (λ S m. IsSolution m text ask solved.report))
+      → IfOk result (λ a. (solved : Solved) × (found ≡ Ok solved) × (a.status ≡ status_of solved.report.outcome) × (a.text ≡ report_text solved.report) × (read_report (report_text solved.report) ≡ Ok solved.report))
+      → IfOk result (λ a. IsSolved bytes a.status a.text)
+  reported_is found result solves said = IfOk-weaker result _ (λ a. IsSolved bytes a.status a.text)
+      (λ a s. rw (s.2, s.3) (IsSolved.reported (record { text = text; ask = ask }) s.0.report is (solves s.0 s.1) s.4)) said
 
 pub refused_is : (bytes : List ℕ) (e : InputError) (result : Result Answer NoMemory) → (¬ (e ≡ errors.NoMemory) → position_of bytes ≡ Err e)
     → IfOk result (λ a. a.status ≡ 2) → IfOk result (λ a. a.text ≡ input_text e) → IfOk result (λ a. ¬ (e ≡ errors.NoMemory)) → IfOk result (λ a. IsSolved bytes a.status a.text)

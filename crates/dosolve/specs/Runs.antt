@@ -1,7 +1,6 @@
 -- What a run of the program takes, answers and writes.
 use Rattle.std.specs.Prelude.{◌≡◌, ◌⊎◌, ℕ, ◌+◌, ◌≤◌, List, length, Option, None, Some, Result, Ok, Err}
 use Rattle.std.specs.Io.KnownBytes.{Consumes, IsAtEnd, Appends}
-use Rattle.certificate.specs.declared.report.Ask.{Ask}
 use Rattle.certificate.specs.declared.report.Outcome.{Outcome}
 use Rattle.certificate.specs.declared.report.Outcome.TheVariants.{Closed, Settled, Spent, Full}
 use Rattle.certificate.specs.declared.report.Report.{Report}
@@ -17,7 +16,7 @@ use Rattle.dosolve.specs.declared.run.Answer.{Answer}
 use Rattle.dosolve.specs.declared.words.Command.{Command}
 use Rattle.dosolve.specs.declared.words.Command.TheVariants.{Solve}
 use Rattle.dosolve.specs.Games.{OfGame}
-use Rattle.dosolve.specs.Texts.{usage_text, not_built_text, input_text}
+use Rattle.dosolve.specs.Texts.{usage_text, input_text}
 
 -- ---- answers
 abbrev pub status_of : Outcome → ℕ
@@ -26,15 +25,10 @@ status_of Settled = 3
 status_of Spent = 4
 status_of Full = 5
 
--- the search is built for one worker
-abbrev pub IsBuilt : Ask → Type 0
-IsBuilt ask = ask.workers ≡ 1
-
 -- the status and the text that solve answers to the bytes of a position
 pub data IsSolved (bytes : List ℕ) : ℕ → List ℕ → Type 0 where
   refused : (e : InputError) → position_of bytes ≡ Err e → IsSolved bytes 2 (input_text e)
-  not_built : (task : TaskText) → position_of bytes ≡ Ok task → (IsBuilt task.ask → ⊥) → IsSolved bytes 2 not_built_text
-  reported : (task : TaskText) (r : Report) → position_of bytes ≡ Ok task → IsBuilt task.ask → OfGame task.text (λ S m. IsSolution m task.text task.ask r) → read_report (report_text r) ≡ Ok r
+  reported : (task : TaskText) (r : Report) → position_of bytes ≡ Ok task → OfGame task.text (λ S m. IsSolution m task.text task.ask r) → read_report (report_text r) ≡ Ok r
       → IsSolved bytes (status_of r.outcome) (report_text r)
 
 -- to the words that are no command, or to the bytes that a command is given

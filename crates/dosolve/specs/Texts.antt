@@ -16,9 +16,6 @@ use Rattle.position.specs.Fields.{name_of}
 abbrev pub usage_text : List ℕ
 usage_text = codes "usage: dosolve solve, check, bounds or sample N\n"
 
-abbrev pub not_built_text : List ℕ
-not_built_text = codes "input 60 not built\n"
-
 abbrev pub side_word : Side → List ℕ
 side_word One = codes "one"
 side_word Two = codes "two"

@@ -1,18 +1,18 @@
 //! A run of the program.
 
 ghost use Rattle.std.specs.Prelude.{◌≡◌, ◌≢◌, map, string_bytes, Ok, IfOk};
-ghost use Rattle.certificate.specs.declared.report.Report.{Report};
+ghost use Rattle.lazy_workers.specs.declared.summary.Solved.{Solved};
 ghost use Rattle.certificate.specs.Texts.{report_text};
 ghost use Rattle.certificate.specs.Reading.{read_report};
 ghost use Rattle.certificate.specs.Ranges.{IsInRange};
 ghost use Rattle.dosolve.specs.Words.{command_of};
-ghost use Rattle.dosolve.specs.Texts.{usage_text, not_built_text, input_text};
+ghost use Rattle.dosolve.specs.Texts.{usage_text, input_text};
 ghost use Rattle.dosolve.specs.Runs.{status_of, IsSolved, IsRun, devices, IsWritten};
 
 use crate::texts::input_text;
 use crate::words::{Command, command_of};
-use certificate::{Outcome, Report, write};
-use lazy_workers::solve;
+use certificate::{Outcome, write};
+use lazy_workers::{Solved, solve};
 use oracle_search::Gate;
 use position::{AnyGame, InputError, ReadError, Sink, Source, position, read_all, write_all};
 use seq::Seq;
@@ -34,7 +34,7 @@ const USAGE: &[u8] = b"usage: dosolve solve, check, bounds or sample N\n";
 
 /// Reads what the command needs, makes the whole answer, and writes it. The result is the status of the program.
 pub(crate) fn run<R: Threads + Sync, S: Source, K: Sink, T: Gate + Sync>(
-    _rt: &R,
+    rt: &R,
     alloc: Global,
     words: &[String],
     source: &mut S,
@@ -49,7 +49,7 @@ pub(crate) fn run<R: Threads + Sync, S: Source, K: Sink, T: Gate + Sync>(
     match command_of(words) {
         None => respond(sink, usage(alloc)),
         Some(Command::Solve) => match read_all(alloc, source, MOST_POSITION) {
-            Ok(bytes) => respond(sink, solved(alloc, &bytes, gate)),
+            Ok(bytes) => respond(sink, solved(rt, alloc, &bytes, gate)),
             Err(ReadError::TooLong) => respond(sink, refused(alloc, InputError::TooLong)),
             Err(ReadError::Failed) => 6,
             Err(ReadError::NoMemory) => 8,
@@ -96,49 +96,39 @@ fn refused(alloc: Global, error: InputError) -> Result<Answer, NoMemory>
 }
 
 /// The answer to the bytes of a position.
-fn solved<T: Gate>(alloc: Global, bytes: &[u8], gate: &T) -> Result<Answer, NoMemory>
+fn solved<R: Threads + Sync, T: Gate + Sync>(
+    rt: &R,
+    alloc: Global,
+    bytes: &[u8],
+    gate: &T,
+) -> Result<Answer, NoMemory>
     ensures { IfOk result (λ a. IsSolved bytes.now a.status a.text) }
 {
     match position(alloc, bytes) {
-        Ok(task) => {
-            if task.ask.workers != 1 {
-                return not_built(alloc);
-            }
-            match task.game {
-                AnyGame::Goofspiel(g) => reported(
-                    alloc,
-                    solve(alloc, g, task.text, &task.ask, gate),
-                ),
-                AnyGame::OshiZumo(g) => reported(
-                    alloc,
-                    solve(alloc, g, task.text, &task.ask, gate),
-                ),
-                AnyGame::Tron(g) => reported(alloc, solve(alloc, g, task.text, &task.ask, gate)),
-            }
-        }
+        Ok(task) => match task.game {
+            AnyGame::Goofspiel(g) => reported(
+                alloc,
+                solve(rt, alloc, g, task.text, &task.ask, gate),
+            ),
+            AnyGame::OshiZumo(g) => reported(
+                alloc,
+                solve(rt, alloc, g, task.text, &task.ask, gate),
+            ),
+            AnyGame::Tron(g) => reported(alloc, solve(rt, alloc, g, task.text, &task.ask, gate)),
+        },
         Err(error) => refused(alloc, error),
     }
 }
 
-fn not_built(alloc: Global) -> Result<Answer, NoMemory>
-    ensures { IfOk result (λ a. (a.status ≡ 2) × (a.text ≡ not_built_text)) }
-{
-    let text = b"input 60 not built\n".to_vec(alloc)?;
-    Ok(Answer {
-        status: 2,
-        text: Seq::from_vec(text),
-    })
-}
-
-fn reported(alloc: Global, found: Result<Report, NoMemory>) -> Result<Answer, NoMemory>
-    requires { IfOk found IsInRange }
-    ensures { IfOk result (λ a. (r : Report) × (found ≡ Ok r) × (a.status ≡ status_of r.outcome) × (a.text ≡ report_text r) × (read_report (report_text r) ≡ Ok r)) }
+fn reported(alloc: Global, found: Result<Solved, NoMemory>) -> Result<Answer, NoMemory>
+    requires { IfOk found (λ solved. IsInRange solved.report) }
+    ensures { IfOk result (λ a. (solved : Solved) × (found ≡ Ok solved) × (a.status ≡ status_of solved.report.outcome) × (a.text ≡ report_text solved.report) × (read_report (report_text solved.report) ≡ Ok solved.report)) }
 {
     match found {
-        Ok(report) => {
-            let text = write(alloc, &report)?;
+        Ok(solved) => {
+            let text = write(alloc, &solved.report)?;
             Ok(Answer {
-                status: status_of(report.outcome),
+                status: status_of(solved.report.outcome),
                 text: Seq::from_vec(text),
             })
         }

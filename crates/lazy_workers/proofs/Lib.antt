@@ -1,3 +1,4 @@
+pub mod JoinLemmas
 pub mod SolutionLemmas
 pub mod SummaryLemmas
 pub mod WorkerLemmas

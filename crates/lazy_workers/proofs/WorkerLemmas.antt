@@ -1,26 +1,21 @@
 -- What the search of one worker shows of the game.
-use Rattle.std.proofs.Common.{◌≡◌, ⊎_elim, ℕ, ◌<◌, ◌≤◌, pos, ◌-ℤ◌, ◌≤ℤ◌, Bool, true, false, None, Some, List, [], ◌∷◌, length, get_or, slice_index, replicate, All, refl, sym, ap, subst, ◌∙◌, arith}
+use Rattle.std.proofs.Common.{◌≡◌, ⊎_elim, ℕ, ◌<◌, ◌≤◌, pos, ◌-ℤ◌, ◌≤ℤ◌, Bool, true, false, None, List, [], length, get_or, slice_index, replicate, refl, sym, ap, subst, ◌∙◌, arith}
 use Rattle.std.proofs.lemmas.Int.{ints}
-use Rattle.std.proofs.lemmas.Bool.{cases_lt, MatchBool-at_true, MatchBool-at_false}
-use Rattle.std.proofs.lemmas.List.Elements.{All-get_or, All-nil, All-push, All-weaker, All-replicate}
+use Rattle.std.proofs.lemmas.Bool.{cases_lt}
+use Rattle.std.proofs.lemmas.List.Elements.{All-get_or, All-nil, All-replicate}
 use Rattle.std.proofs.lemmas.List.{length-replicate}
-use Rattle.std.specs.Bool.{MatchBool}
 use Rattle.sim_game.specs.declared.Side.{Side}
 use Rattle.sim_game.specs.declared.Side.TheVariants.{One, Two}
 use Rattle.sim_game.specs.Model.{GameModel, IsGame, IsEnd, Reachable, HasAtMost}
 use Rattle.sim_game.specs.Resolution.{IsStageGap, payoff_range}
-use Rattle.sim_game.specs.Sides.{IsNoTighter, end_bound}
+use Rattle.sim_game.specs.Sides.{end_bound}
 use Rattle.sim_game.proofs.SideLemmas.{looser_refl}
 use Rattle.sim_game.proofs.ResolutionLemmas.{least_exists}
-use Rattle.plan_book.specs.declared.Entry.{Entry}
-use Rattle.plan_book.specs.Books.{IsClosed, book_bound}
-use Rattle.plan_book.specs.Serial.{serial_bound, tree_size}
+use Rattle.plan_book.specs.Books.{book_bound}
+use Rattle.plan_book.specs.Serial.{tree_size}
 use Rattle.plan_book.proofs.ExpectedLemmas.{is_same}
 use Rattle.serial_ab.proofs.ValueLemmas.{serial_end}
 use Rattle.matrix_game.specs.Budget.{Budget, left_of}
-use Rattle.bounds_board.specs.declared.slots.Slot.{Slot}
-use Rattle.bounds_board.specs.Slots.{key_in}
-use Rattle.bounds_board.specs.Plain.{IsHeld}
 use Rattle.bounds_board.specs.Views.{BoardView, WasFull}
 use Rattle.bounds_board.proofs.FullLemmas.{rows_too_few}
 use Rattle.serial_ab.specs.Counts.{VisitsView, left_on}
@@ -29,10 +24,8 @@ use Rattle.oracle_search.specs.declared.ends.SearchEnd.TheVariants.{Reached, Set
 use Rattle.oracle_search.specs.Finished.{FinishedView, IsFinished, AreFinished, IsWithin, rank_gap}
 use Rattle.oracle_search.specs.Searches.{WorkView, IsWorked, Ends, TakesTurns, HasTaken, open_states, IsPureTight, HasVisits as Whole}
 use Rattle.certificate.specs.declared.report.Ask.{Ask}
-use Rattle.lazy_workers.specs.Searched.{root_gap, HasKeysIn, IsFar, HasRoom, HasVisits, IsPureClose, TooFewTurns, IsSearched}
-
-all_one : (P : ℕ → Type 0) (n : ℕ) → P n → All P (n ∷ [])
-all_one P n h = All-push P [] n (All-nil P) h
+use Rattle.lazy_workers.specs.Workers.{HasFound}
+use Rattle.lazy_workers.specs.Searched.{root_gap, IsFar, HasRoom, HasVisits, IsPureClose, TooFewTurns, IsSearched}
 
 module _ {S : Type 0} (m : GameModel S) (game : IsGame m) where
   -- distinct keys of reachable states are no more than there are states
@@ -111,29 +104,14 @@ module _ {S : Type 0} (m : GameModel S) (game : IsGame m) where
         each One = omega (arith, has)
         each Two = omega (arith, has)
 
-      pub searched : (entries : List Entry) (was_full : Bool) → IsClosed m ask.weight entries → HasKeysIn ask.rows entries → ask.workers ≡ 1 → last.turns.spent ≤ last.turns.limit
-          → ((side : Side) → book_bound m entries side m.root ≡ last.board.seen side (m.key m.root)) → MatchBool was_full (end ≡ Full) (end ≡ Full → ⊥) → IsSearched m ask entries (last.turns.spent ∷ []) was_full
-      searched entries was_full closed held alone within seen is = record {
-        closed = closed;
-        held = held;
-        workers = sym alone;
-        within = all_one (λ n. n ≤ ask.turns) last.turns.spent (omega (arith, within, worked.turns.limit, ap (λ (t : Budget). t.limit) turns));
-        full = λ e has. not_full (subst (Ends m m.root ask.gap last) (MatchBool-at_true (end ≡ Full) (end ≡ Full → ⊥) e is) ends) has;
-        all_spent = λ e far.
-            let all = all_spent (rw (seen Two, seen One) at far) within (MatchBool-at_false (end ≡ Full) (end ≡ Full → ⊥) e is) in
-            (all_one (λ n. n ≡ ask.turns) last.turns.spent all.0, all.1);
-        pure = λ has many side. subst (IsNoTighter side (serial_bound m side m.root)) (sym (seen side)) (pure (whole many) (room has) side);
-        at_once = λ has many near.
-            let same : last.turns.spent ≡ 0 = ap (λ (t : Budget). t.spent) (at_once (whole many) (room has) near).1 ∙ ap (λ (t : Budget). t.spent) turns in
-            all_one (λ n. n ≡ 0) last.turns.spent same;
+      pub found : last.turns.spent ≤ last.turns.limit → HasFound m ask last.board.seen last.turns.spent end
+      found within = record {
+        within = omega (arith, within, worked.turns.limit, ap (λ (t : Budget). t.limit) turns);
+        full = λ e has. not_full (subst (Ends m m.root ask.gap last) e ends) has;
+        all_spent = λ not far. all_spent far within not;
+        pure = λ has many side. pure (whole many) (room has) side;
+        at_once = λ has many near. ap (λ (t : Budget). t.spent) (at_once (whole many) (room has) near).1 ∙ ap (λ (t : Budget). t.spent) turns;
       }
-
--- the keys of a plain board's entries have rows
-pub plain_keys : (slots : List Slot) (rows : ℕ) (entries : List Entry) → length slots ≡ rows → All (λ (e : Entry). IsHeld slots e.key) entries → HasKeysIn rows entries
-plain_keys slots rows entries count held = record {
-  key_at = key_in slots;
-  held = All-weaker (λ (e : Entry). IsHeld slots e.key) (λ e. (row : ℕ) × (row < rows) × (key_in slots row ≡ Some e.key)) (λ e h. (h.row, subst (λ (n : ℕ). h.row < n) count h.inside, h.holds)) entries held;
-}
 
 -- an end as root needs no search
 pub nothing_searched : {S : Type 0} (m : GameModel S) → IsGame m → (ask : Ask) → IsEnd m m.root → pos 0 ≤ℤ ask.gap → IsSearched m ask [] (replicate ask.workers 0) false

@@ -8,12 +8,21 @@ ghost use Rattle.lazy_workers.specs.Solutions.{IsSolution, IsOutcomeFor};
 use certificate::{Ask, Outcome, PositionText, Report};
 use plan_book::{Book, bound_of};
 use seq::Seq;
+use shared_board::Kept;
 use sim_game::{Game, NoMemory, Side, resolution};
+
+/// A report, and the bounds of the states that the board had rows for.
+#[derive(Drop)]
+pub struct Solved {
+    pub report: Report,
+    pub kept: Seq<Kept>,
+}
 
 /// What all workers together have found.
 #[derive(Drop)]
 pub(crate) struct Found {
     pub book: Book,
+    pub kept: Seq<Kept>,
     /// The turns that each worker has spent.
     pub spent: Seq<u64>,
     /// Whether the search of some worker ended at a full board.
@@ -26,12 +35,12 @@ pub(crate) fn report_of<G: Game>(
     position: PositionText,
     ask: &Ask,
     found: Found,
-) -> Result<Report, NoMemory>
+) -> Result<Solved, NoMemory>
     requires ask { IsAskInRange ask.now }
     requires position { IsPositionInRange position }
     requires total { found.book.total ≡ ask.now.weight }
     requires searched { IsSearched (G.model g) ask.now found.book.entries found.spent found.was_full }
-    ensures { IfOk result (IsSolution (G.model g) position ask.now) }
+    ensures { IfOk result (λ solved. IsSolution (G.model g) position ask.now solved.report) }
 {
     let one = found.book.sheet(g, Side::One)?;
     let two = found.book.sheet(g, Side::Two)?;
@@ -39,18 +48,21 @@ pub(crate) fn report_of<G: Game>(
     let upper = bound_of(g, &two, g.root());
     let resolution = resolution(g, ask.weight);
     let outcome = outcome_for(upper - lower, ask.gap, resolution, found.was_full);
-    Ok(Report {
-        position,
-        weight: ask.weight,
-        turns: ask.turns,
-        asked: ask.gap,
-        resolution,
-        outcome,
-        lower,
-        upper,
-        spent: found.spent,
-        one,
-        two,
+    Ok(Solved {
+        report: Report {
+            position,
+            weight: ask.weight,
+            turns: ask.turns,
+            asked: ask.gap,
+            resolution,
+            outcome,
+            lower,
+            upper,
+            spent: found.spent,
+            one,
+            two,
+        },
+        kept: found.kept,
     })
 }
 

@@ -1,0 +1,138 @@
+//! The work of each worker, from its pass to the lead's.
+
+ghost use Rattle.std.specs.Prelude.{◌≡◌, ◌+◌, ◌≤◌, true, [], length, All, IfOk};
+ghost use Rattle.shared_board.specs.Values.{IsPassOf};
+ghost use Rattle.shared_board.specs.Passes.{seen_by};
+ghost use Rattle.lazy_workers.specs.Workers.{IsBoardFor, IsLead, IsJob, IsDone, AreJoined, KnowsEach};
+
+use certificate::Ask;
+use matrix_game::Turns;
+use oracle_search::{Gate, SearchEnd, Settled, search};
+use serial_ab::Visits;
+use shared_board::{BarePass, Board, Desk, Pass};
+use sim_game::{Game, NoMemory};
+use std::alloc::Global;
+
+/// What a worker begins with.
+#[derive(Drop)]
+pub(crate) struct Job<G> {
+    pub pass: BarePass<G>,
+    pub worker: u32,
+}
+
+/// What a worker ends with.
+#[derive(Drop)]
+pub(crate) struct Done<G> {
+    pub pass: BarePass<G>,
+    /// The turns that it has spent.
+    pub spent: u64,
+    pub end: SearchEnd,
+}
+
+/// A pass for each worker. The last worker is the first, so that the first is at the end.
+pub(crate) fn split_all<G: Game>(
+    alloc: Global,
+    board: &Board<G>,
+    lead: &mut Pass<G>,
+    workers: u32,
+) -> Result<Vec<Job<G>>, NoMemory>
+    requires ours { IsPassOf board.now lead.old }
+    requires lead { IsLead lead.old.view 1 1 }
+    requires few { workers ≤ 16 }
+    ensures ours { IfOk result (λ _. IsPassOf board.now lead.new) }
+    ensures lead { IfOk result (λ _. IsLead lead.new.view (1 + workers) 1) }
+    ensures entries { IfOk result (λ _. lead.new.entries ≡ lead.old.entries) }
+    ensures count { IfOk result (λ jobs. length jobs.items ≡ workers) }
+    ensures jobs { IfOk result (λ jobs. All (IsJob G.model board.now) jobs.items) }
+{
+    let mut jobs = Vec::with_capacity(alloc, workers as usize)?;
+    for behind in 0..workers {
+        let Ok(pass) = board.split(lead) else {
+            unreachable!()
+        };
+        jobs.push(Job {
+            pass: pass.into_bare(),
+            worker: workers - 1 - behind,
+        })?;
+    }
+    Ok(jobs)
+}
+
+/// Searches the root, with turns, visits and finished states of the worker's own.
+pub(crate) fn work<G: Game, T: Gate>(
+    alloc: Global,
+    g: G,
+    board: &Board<G>,
+    ask: &Ask,
+    gate: &T,
+    job: Job<G>,
+) -> Result<Done<G>, NoMemory>
+    requires board { IsBoardFor G.model g board.now ask.now }
+    requires job { IsJob G.model board.now job }
+    ensures { IfOk result (IsDone G.model g board.now ask.now) }
+{
+    let Job { pass, worker } = job;
+    let mut desk = Desk::new(board, Pass::from_bare(pass));
+    let mut turns = Turns::new(ask.turns);
+    let mut visits = Visits::new(ask.visits);
+    let mut settled = Settled::new(alloc);
+    let end = search(
+        alloc,
+        g,
+        g.root(),
+        ask.gap,
+        worker,
+        gate,
+        &mut turns,
+        &mut visits,
+        &mut settled,
+        &mut desk,
+    )?;
+    Ok(Done {
+        pass: desk.into_pass().into_bare(),
+        spent: turns.spent(),
+        end,
+    })
+}
+
+/// Joins the passes to the lead's, and adds the turns that each worker has spent. The result is whether some worker's
+/// search ended at a full board.
+pub(crate) fn join_all<G: Game>(
+    g: G,
+    board: &Board<G>,
+    ask: &Ask,
+    lead: &mut Pass<G>,
+    mut found: Vec<Result<Done<G>, NoMemory>>,
+    spent: &mut Vec<u64>,
+) -> Result<bool, NoMemory>
+    requires board { IsBoardFor G.model g board.now ask.now }
+    requires ours { IsPassOf board.now lead.old }
+    requires lead { lead.old.view.lead ≡ true }
+    requires found { All (λ r. IfOk r (IsDone G.model g board.now ask.now)) found.items }
+    requires none { spent.old.items ≡ [] }
+    ensures ours { IfOk result (λ _. IsPassOf board.now lead.new) }
+    ensures lead { IfOk result (λ _. IsLead lead.new.view lead.old.view.drawn (length lead.old.view.numbers + length found.items)) }
+    ensures count { IfOk result (λ _. length spent.new.items ≡ length found.items) }
+    ensures joined { IfOk result (AreJoined (G.model g) ask.now (seen_by (G.model g) lead.new.view) spent.new.items) }
+    ensures full { IfOk result (λ was_full. was_full ≡ true → KnowsEach board.now.rows lead.new.view) }
+{
+    let mut was_full = false;
+    while let Some(done) = found.pop() {
+        let Ok(done) = done else {
+            return Err(NoMemory);
+        };
+        let Done {
+            pass,
+            spent: turns,
+            end,
+        } = done;
+        let Ok(()) = board.join(lead, Pass::from_bare(pass)) else {
+            return Err(NoMemory);
+        };
+        spent.push(turns)?;
+        if end.is_full() {
+            was_full = true;
+        }
+    }
+    Ok(was_full)
+}

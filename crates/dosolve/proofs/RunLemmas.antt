@@ -24,7 +24,6 @@ use Rattle.position.specs.Taken.{TakesAtMost}
 use Rattle.lazy_workers.specs.Solutions.{IsSolution}
 use Rattle.dosolve.specs.declared.run.Answer.{Answer}
 use Rattle.dosolve.specs.declared.words.Command.{Command}
-use Rattle.dosolve.specs.declared.words.Command.TheVariants.{Solve}
 use Rattle.dosolve.specs.Games.{OfGame}
 use Rattle.dosolve.specs.Texts.{input_text}
 use Rattle.dosolve.specs.Runs.{status_of, IsSolved, IsAnswer, IsTaken, IsTakenInPart, IsRun, devices, IsWritten}
@@ -74,8 +73,10 @@ pub too_long : (bytes : List ℕ) → length bytes ≡ 1048576 + 1 → position_
 unfolding position_of object_at
 too_long bytes is = let over : nat_lt 1048576 (length bytes) ≡ true = rw is refl in rw over refl
 
+pub solve_too_long : (result : Result Answer NoMemory) → IfOk result (λ a. a.status ≡ 2) → IfOk result (λ a. a.text ≡ input_text errors.TooLong)
+    → IfOk result (λ a. (bytes : List ℕ) → length bytes ≡ 1048576 + 1 → IsSolved bytes a.status a.text)
+solve_too_long (Ok a) status text = λ bytes long. rw (status, text) (IsSolved.refused errors.TooLong (too_long bytes long))
+solve_too_long (Err _) status text = tt
+
 pub in_part : (old new : Option (List ℕ)) (limit : ℕ) → TakesAtMost old new limit → TakesAtMost old new (limit + 1)
 in_part old new limit taken = (taken.0, taken.1, omega (arith, taken.2))
-
-pub only : (command : Command) → command ≡ Solve
-only Solve = refl

@@ -1,4 +1,6 @@
 pub mod Words
 pub mod Texts
 pub mod Games
+pub mod Reports
+pub mod Checks
 pub mod Runs

@@ -1,6 +1,8 @@
 //! Solves finite two-player zero-sum games in which both players move at the same time.
 #![tactic(auto)]
 
+mod check;
+mod reports;
 mod run;
 mod texts;
 mod words;

@@ -7,6 +7,7 @@ ghost use Rattle.dosolve.specs.Texts.{side_word, goofspiel_text, oshi_text, tron
 
 use certificate::Text;
 use goofspiel::GoofspielError;
+use itoa::Integer;
 use oshi_zumo::OshiError;
 use position::{Field, InputError};
 use sim_game::{NoMemory, Side};
@@ -57,16 +58,20 @@ fn of_side(text: &mut Text, words: &[u8], side: Side, number: u32) -> Result<(),
 {
     text.word(words)?;
     match side {
-        Side::One => of_number(text, b"one ", number),
-        Side::Two => of_number(text, b"two ", number),
+        Side::One => of_number(text, b"one ", &number),
+        Side::Two => of_number(text, b"two ", &number),
     }
 }
 
-fn of_number(text: &mut Text, words: &[u8], number: u32) -> Result<(), NoMemory>
-    ensures { OnOk result (Adds text.old text.new (words.now ++ decimal number)) }
+pub(crate) fn of_number<I: Integer>(
+    text: &mut Text,
+    words: &[u8],
+    number: &I,
+) -> Result<(), NoMemory>
+    ensures { OnOk result (Adds text.old text.new (words.now ++ I.text number.now)) }
 {
     text.word(words)?;
-    text.number(&number)
+    text.number(number)
 }
 
 fn goofspiel_reason(text: &mut Text, fault: GoofspielError) -> Result<(), NoMemory>
@@ -78,11 +83,11 @@ fn goofspiel_reason(text: &mut Text, fault: GoofspielError) -> Result<(), NoMemo
             of_side(text, b"card twice ", side, card as u32)
         }
         GoofspielError::Lengths { one, two, prizes } => {
-            of_number(text, b"lengths ", one)?;
-            of_number(text, b" ", two)?;
-            of_number(text, b" ", prizes)
+            of_number(text, b"lengths ", &one)?;
+            of_number(text, b" ", &two)?;
+            of_number(text, b" ", &prizes)
         }
-        GoofspielError::PrizeRange { place } => of_number(text, b"prize range ", place),
+        GoofspielError::PrizeRange { place } => of_number(text, b"prize range ", &place),
         GoofspielError::ScoreRange => text.word(b"score range"),
     }
 }
@@ -103,7 +108,7 @@ fn tron_reason(text: &mut Text, fault: TronError) -> Result<(), NoMemory>
 {
     match fault {
         TronError::GridRange => text.word(b"grid range"),
-        TronError::CellRange { place } => of_number(text, b"cell range ", place),
+        TronError::CellRange { place } => of_number(text, b"cell range ", &place),
         TronError::HeadInWall => text.word(b"head in wall"),
         TronError::HeadsMeet => text.word(b"heads meet"),
     }

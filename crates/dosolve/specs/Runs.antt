@@ -26,9 +26,9 @@ status_of Settled = 3
 status_of Spent = 4
 status_of Full = 5
 
--- the search is built for no turns and one worker
+-- the search is built for one worker
 abbrev pub IsBuilt : Ask → Type 0
-IsBuilt ask = ask.turns ≡ 0 × ask.workers ≡ 1
+IsBuilt ask = ask.workers ≡ 1
 
 -- the status and the text that solve answers to the bytes of a position
 pub data IsSolved (bytes : List ℕ) : ℕ → List ℕ → Type 0 where

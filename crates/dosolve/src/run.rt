@@ -101,9 +101,6 @@ fn solved<T: Gate>(alloc: Global, bytes: &[u8], gate: &T) -> Result<Answer, NoMe
 {
     match position(alloc, bytes) {
         Ok(task) => {
-            if task.ask.turns != 0 {
-                return not_built(alloc);
-            }
             if task.ask.workers != 1 {
                 return not_built(alloc);
             }

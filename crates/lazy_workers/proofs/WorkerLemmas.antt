@@ -17,7 +17,7 @@ use Rattle.plan_book.specs.Books.{IsClosed, book_bound}
 use Rattle.plan_book.specs.Serial.{serial_bound, tree_size}
 use Rattle.plan_book.proofs.ExpectedLemmas.{is_same}
 use Rattle.serial_ab.proofs.ValueLemmas.{serial_end}
-use Rattle.matrix_game.specs.Budget.{Budget}
+use Rattle.matrix_game.specs.Budget.{Budget, left_of}
 use Rattle.bounds_board.specs.declared.slots.Slot.{Slot}
 use Rattle.bounds_board.specs.Slots.{key_in}
 use Rattle.bounds_board.specs.Plain.{IsHeld}
@@ -27,7 +27,7 @@ use Rattle.serial_ab.specs.Counts.{VisitsView, left_on}
 use Rattle.oracle_search.specs.declared.ends.SearchEnd.{SearchEnd}
 use Rattle.oracle_search.specs.declared.ends.SearchEnd.TheVariants.{Reached, Settled, Spent, Full}
 use Rattle.oracle_search.specs.Finished.{FinishedView, IsFinished, AreFinished, IsWithin, rank_gap}
-use Rattle.oracle_search.specs.Searches.{WorkView, IsWorked, Ends, TakesTurns, open_states, IsPureTight, HasVisits as Whole}
+use Rattle.oracle_search.specs.Searches.{WorkView, IsWorked, Ends, TakesTurns, HasTaken, open_states, IsPureTight, HasVisits as Whole}
 use Rattle.certificate.specs.declared.report.Ask.{Ask}
 use Rattle.lazy_workers.specs.Searched.{root_gap, HasKeysIn, IsFar, HasRoom, HasVisits, IsPureClose, TooFewTurns, IsSearched}
 
@@ -53,13 +53,19 @@ module _ {S : Type 0} (m : GameModel S) (game : IsGame m) where
   module _ {G N : Type 0} (ask : Ask) (start last : WorkView G N) (end : SearchEnd)
       (rows : last.board.rows ≡ ask.rows) (total : last.board.total ≡ ask.weight) (weight : 1 ≤ ask.weight) (goes_on : 1 ≤ m.rank m.root)
       (none : start.settled ≡ record { keys = []; was_full = false }) (turns : start.turns ≡ record { limit = ask.turns; spent = 0 })
-      (worked : IsWorked m (m.rank m.root) start last) (ends : Ends m m.root ask.gap last end) (takes : TakesTurns (open_states (m.rank m.root) end) start last) where
+      (worked : IsWorked m (m.rank m.root) start last) (ends : Ends m m.root ask.gap last end) (takes : HasTaken (open_states (m.rank m.root) end) (m.rank m.root) start last) where
     -- a full board had no row for each state
     pub not_full : last.settled.was_full ≡ true → HasRoom m ask → ⊥
     not_full was has = ⊎_elim
         (λ (before : start.settled.was_full ≡ true). let no = ap (λ (f : FinishedView). f.was_full) none in let wrong : false ≡ true = sym no ∙ before in absurd (cc))
         (λ (full : WasFull m last.board). let few = rows_too_few m last.board full.asked full.full ask.rows has in absurd (omega (arith, few, rows)))
         (worked.cause was)
+
+    room : HasRoom m ask → last.settled.was_full ≡ false
+    room has = by last.settled.was_full refl where
+      by : (b : Bool) → last.settled.was_full ≡ b → last.settled.was_full ≡ false
+      by true e = absurd (not_full e has)
+      by false e = e
 
     keys_none : length start.settled.keys ≡ 0
     keys_none = ap (λ (f : FinishedView). length f.keys) none
@@ -74,15 +80,22 @@ module _ {S : Type 0} (m : GameModel S) (game : IsGame m) where
           let beyond = far.resolution (rank_gap m stage (m.rank m.root)) (record { gap = stage; is_gap = subst (λ (w : ℕ). IsStageGap m w stage) total is; sums = refl }) in
           absurd (omega (arith, ints))
 
-      spent_by : (e : SearchEnd) → (e ≡ Full → ⊥) → Ends m m.root ask.gap last e → TakesTurns (open_states (m.rank m.root) e) start last → (last.turns.spent ≡ ask.turns) × TooFewTurns m ask
+      spent_by : (e : SearchEnd) → (e ≡ Full → ⊥) → Ends m m.root ask.gap last e → HasTaken (open_states (m.rank m.root) e) (m.rank m.root) start last → (last.turns.spent ≡ ask.turns) × TooFewTurns m ask
       spent_by Reached not ends takes = absurd (not_reached (ends goes_on))
       spent_by Settled not ends takes = let stage = stage_exists last.board.total (subst (λ (w : ℕ). 1 ≤ w) (sym total) weight) in absurd (not_settled stage.0 stage.1 (ends.2 stage.0 stage.1))
       spent_by Spent not ends takes =
           let limit : last.turns.limit ≡ ask.turns = worked.turns.limit ∙ ap (λ (t : Budget). t.limit) turns in
           let none_spent : start.turns.spent ≡ 0 = ap (λ (t : Budget). t.spent) turns in
           let none_left = ends.2 in
-          let all : last.turns.spent ≡ ask.turns = omega arith in
-          (all, λ n has few. let keys = keys_few last.board.total last.board last.settled.keys worked.finished n has in let none = keys_none in omega arith)
+          let all : last.turns.spent ≡ ask.turns = omega arith in (
+            all,
+            λ n has few.
+                let wide : HasRoom m ask = record { few = λ count states reach apart. let less = has.few count states reach apart in omega arith } in
+                let keys = keys_few last.board.total last.board last.settled.keys worked.finished n has in
+                let none = keys_none in
+                let taken : TakesTurns (m.rank m.root) start last = ⊎_elim (λ (a : TakesTurns (m.rank m.root) start last). a) (λ (b : (left_of last.turns ≡ 0) × TakesTurns (m.rank m.root) start last). b.1) (takes (room wide)) in
+                omega arith,
+          )
       spent_by Full not ends takes = absurd (not refl)
 
       pub all_spent : (end ≡ Full → ⊥) → (last.turns.spent ≡ ask.turns) × TooFewTurns m ask
@@ -97,12 +110,6 @@ module _ {S : Type 0} (m : GameModel S) (game : IsGame m) where
         each : (of : Side) → tree_size m m.root ≤ left_on of (record { limit = ask.visits; one = 0; two = 0 })
         each One = omega (arith, has)
         each Two = omega (arith, has)
-
-      room : HasRoom m ask → last.settled.was_full ≡ false
-      room has = by last.settled.was_full refl where
-        by : (b : Bool) → last.settled.was_full ≡ b → last.settled.was_full ≡ false
-        by true e = absurd (not_full e has)
-        by false e = e
 
       pub searched : (entries : List Entry) (was_full : Bool) → IsClosed m ask.weight entries → HasKeysIn ask.rows entries → ask.workers ≡ 1 → last.turns.spent ≤ last.turns.limit
           → ((side : Side) → book_bound m entries side m.root ≡ last.board.seen side (m.key m.root)) → MatchBool was_full (end ≡ Full) (end ≡ Full → ⊥) → IsSearched m ask entries (last.turns.spent ∷ []) was_full

@@ -26,7 +26,6 @@ pub fn solve<G: Game, T: Gate>(
 ) -> Result<Report, NoMemory>
     requires ask { IsAskInRange ask.now }
     requires position { IsPositionInRange position }
-    requires no_turns { ask.now.turns ≡ 0 }
     requires alone { ask.now.workers ≡ 1 }
     ensures { IfOk result (IsSolution (G.model g) position ask.now) }
 {
@@ -62,7 +61,6 @@ fn search_alone<G: Game, T: Gate>(
 ) -> Result<Found, NoMemory>
     requires ask { IsAskInRange ask.now }
     requires goes_on { 1 ≤ (G.model g).rank (G.model g).root }
-    requires no_turns { ask.now.turns ≡ 0 }
     requires alone { ask.now.workers ≡ 1 }
     ensures total { IfOk result (λ found. found.book.total ≡ ask.now.weight) }
     ensures searched { IfOk result (λ found. IsSearched (G.model g) ask.now found.book.entries found.spent found.was_full) }

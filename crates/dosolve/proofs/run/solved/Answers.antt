@@ -7,30 +7,27 @@ use Rattle.lazy_workers.specs.Solutions.{IsSolution}
 use Rattle.dosolve.proofs.RunLemmas.{of_goofspiel, of_oshi_zumo, of_tron, not_built_is, reported_is, refused_is, fails_unless}
 use Rattle.dosolve.proofs.run.solved.Goals as goal
 
-pub returns-then-task-ne0 : goal.returns-then-task-ne0
-returns-then-task-ne0 g c = not_built_is c.args.bytes.now c.in-Ok.task.text c.in-Ok.task.ask c.in-Ok.ensures.exact c.not_built.result (λ built. c.if-task-ne0.true built.0) c.not_built.ensures
-
 pub returns-then-task-ne1 : goal.returns-then-task-ne1
-returns-then-task-ne1 g c = not_built_is c.args.bytes.now c.in-Ok.task.text c.in-Ok.task.ask c.in-Ok.ensures.exact c.not_built-then-task-ne1.result (λ built. c.if-task-ne1.true built.1) c.not_built-then-task-ne1.ensures
+returns-then-task-ne1 g c = not_built_is c.args.bytes.now c.in-Ok.task.text c.in-Ok.task.ask c.in-Ok.ensures.exact c.not_built.result c.if-task-ne1.true c.not_built.ensures
 
 pub returns-in-Goofspiel : goal.returns-in-Goofspiel
 returns-in-Goofspiel g c =
     let text = c.in-Ok.task.text in let ask = c.in-Ok.task.ask in let m = goofspiel_game c.in-Goofspiel.g.setting in
-    reported_is c.args.bytes.now text ask c.in-Ok.ensures.exact c.solve.result c.reported.result (c.if-task-ne0.false, c.if-task-ne1.false)
+    reported_is c.args.bytes.now text ask c.in-Ok.ensures.exact c.solve.result c.reported.result c.if-task-ne1.false
     (λ r e. of_goofspiel text c.in-Goofspiel.g (λ S m. IsSolution m text ask r) (subst (IsGameOf text) c.in-Goofspiel.is c.in-Ok.ensures.game) (subst (λ f. IfOk f (IsSolution m text ask)) e c.solve.ensures))
     c.reported.ensures
 
 pub returns-in-OshiZumo : goal.returns-in-OshiZumo
 returns-in-OshiZumo g c =
     let text = c.in-Ok.task.text in let ask = c.in-Ok.task.ask in let m = oshi_zumo_game c.in-OshiZumo.g.setting in
-    reported_is c.args.bytes.now text ask c.in-Ok.ensures.exact c.solve-in-OshiZumo.result c.reported-in-OshiZumo.result (c.if-task-ne0.false, c.if-task-ne1.false)
+    reported_is c.args.bytes.now text ask c.in-Ok.ensures.exact c.solve-in-OshiZumo.result c.reported-in-OshiZumo.result c.if-task-ne1.false
     (λ r e. of_oshi_zumo text c.in-OshiZumo.g (λ S m. IsSolution m text ask r) (subst (IsGameOf text) c.in-OshiZumo.is c.in-Ok.ensures.game) (subst (λ f. IfOk f (IsSolution m text ask)) e c.solve-in-OshiZumo.ensures))
     c.reported-in-OshiZumo.ensures
 
 pub returns-in-Tron : goal.returns-in-Tron
 returns-in-Tron g c =
     let text = c.in-Ok.task.text in let ask = c.in-Ok.task.ask in let m = tron_game c.in-Tron.g.setting in
-    reported_is c.args.bytes.now text ask c.in-Ok.ensures.exact c.solve-in-Tron.result c.reported-in-Tron.result (c.if-task-ne0.false, c.if-task-ne1.false)
+    reported_is c.args.bytes.now text ask c.in-Ok.ensures.exact c.solve-in-Tron.result c.reported-in-Tron.result c.if-task-ne1.false
     (λ r e. of_tron text c.in-Tron.g (λ S m. IsSolution m text ask r) (subst (IsGameOf text) c.in-Tron.is c.in-Ok.ensures.game) (subst (λ f. IfOk f (IsSolution m text ask)) e c.solve-in-Tron.ensures))
     c.reported-in-Tron.ensures
 

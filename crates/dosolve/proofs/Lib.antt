@@ -1,1 +1,2 @@
+pub mod BoundedLemmas
 pub mod RunLemmas

@@ -1,4 +1,5 @@
 pub mod Words
 pub mod Texts
 pub mod Games
+pub mod Bounded
 pub mod Runs

@@ -1,14 +1,15 @@
 //! A run of the program.
 
-ghost use Rattle.std.specs.Prelude.{◌≡◌, ◌≢◌, map, string_bytes, Ok, IfOk};
+ghost use Rattle.std.specs.Prelude.{◌≡◌, ◌≢◌, ◌≤◌, ◌+◌, ℕ, List, length, map, string_bytes, Some, Ok, IfOk};
 ghost use Rattle.certificate.specs.declared.report.Report.{Report};
 ghost use Rattle.certificate.specs.Texts.{report_text};
 ghost use Rattle.certificate.specs.Reading.{read_report};
 ghost use Rattle.certificate.specs.Ranges.{IsInRange};
 ghost use Rattle.dosolve.specs.Words.{command_of};
 ghost use Rattle.dosolve.specs.Texts.{usage_text, not_built_text, input_text};
-ghost use Rattle.dosolve.specs.Runs.{status_of, IsSolved, IsRun, devices, IsWritten};
+ghost use Rattle.dosolve.specs.Runs.{status_of, IsSolved, IsAnswer, limit_of, IsRun, devices, IsWritten};
 
+use crate::bounds::bounded;
 use crate::texts::input_text;
 use crate::words::{Command, command_of};
 use certificate::{Outcome, Report, write};
@@ -22,13 +23,10 @@ use std::thread::Threads;
 
 /// What is answered: the status of the program, and its whole text.
 #[derive(Drop)]
-struct Answer {
-    status: u8,
-    text: Seq<u8>,
+pub(crate) struct Answer {
+    pub(crate) status: u8,
+    pub(crate) text: Seq<u8>,
 }
-
-/// The most bytes of a position.
-const MOST_POSITION: u64 = 1_048_576;
 
 const USAGE: &[u8] = b"usage: dosolve solve, check, bounds or sample N\n";
 
@@ -48,12 +46,49 @@ pub(crate) fn run<R: Threads + Sync, S: Source, K: Sink, T: Gate + Sync>(
 {
     match command_of(words) {
         None => respond(sink, usage(alloc)),
-        Some(Command::Solve) => match read_all(alloc, source, MOST_POSITION) {
-            Ok(bytes) => respond(sink, solved(alloc, &bytes, gate)),
-            Err(ReadError::TooLong) => respond(sink, refused(alloc, InputError::TooLong)),
+        Some(command) => match read_all(alloc, source, limit_of(command)) {
+            Ok(bytes) => respond(sink, answer_to(alloc, command, &bytes, gate)),
+            Err(ReadError::TooLong) => respond(sink, too_long(alloc, command)),
             Err(ReadError::Failed) => 6,
             Err(ReadError::NoMemory) => 8,
         },
+    }
+}
+
+/// The most bytes that a command reads.
+fn limit_of(command: Command) -> u64
+    ensures { result ≡ limit_of command }
+{
+    match command {
+        Command::Solve => 1_048_576,
+        Command::Bounds => 1_048_576,
+    }
+}
+
+/// The answer to the bytes that a command is given, where they are not too many.
+fn answer_to<T: Gate>(
+    alloc: Global,
+    command: Command,
+    bytes: &[u8],
+    gate: &T,
+) -> Result<Answer, NoMemory>
+    requires { length bytes.now ≤ limit_of command }
+    ensures { IfOk result (λ a. IsAnswer (Some command) bytes.now a.status a.text) }
+{
+    match command {
+        Command::Solve => solved(alloc, bytes, gate),
+        Command::Bounds => bounded(alloc, bytes),
+    }
+}
+
+/// The answer to more bytes than the command reads.
+fn too_long(alloc: Global, command: Command) -> Result<Answer, NoMemory>
+    ensures { IfOk result (λ a. (bytes : List ℕ) → length bytes ≡ limit_of command + 1
+        → IsAnswer (Some command) bytes a.status a.text) }
+{
+    match command {
+        Command::Solve => refused(alloc, InputError::TooLong),
+        Command::Bounds => refused(alloc, InputError::TooLong),
     }
 }
 
@@ -80,7 +115,7 @@ fn usage(alloc: Global) -> Result<Answer, NoMemory>
     })
 }
 
-fn refused(alloc: Global, error: InputError) -> Result<Answer, NoMemory>
+pub(crate) fn refused(alloc: Global, error: InputError) -> Result<Answer, NoMemory>
     ensures status { IfOk result (λ a. a.status ≡ 2) }
     ensures text { IfOk result (λ a. a.text ≡ input_text error) }
     ensures memory { IfOk result (λ a. error ≢ InputError.NoMemory) }

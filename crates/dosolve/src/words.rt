@@ -7,6 +7,7 @@ ghost use Rattle.dosolve.specs.Words.{command_of};
 #[derive(Clone, Copy, PartialEq, Eq, Debug)]
 pub(crate) enum Command {
     Solve,
+    Bounds,
 }
 
 /// The command of the words behind the program's name, if they are one.
@@ -15,6 +16,7 @@ pub(crate) fn command_of(words: &[String]) -> Option<Command>
 {
     match words {
         [word] if word.as_str() == "solve" => Some(Command::Solve),
+        [word] if word.as_str() == "bounds" => Some(Command::Bounds),
         _ => None,
     }
 }

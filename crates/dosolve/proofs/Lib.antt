@@ -1,2 +1,3 @@
+pub mod BoundedLemmas
 pub mod RunLemmas
 pub mod CheckLemmas

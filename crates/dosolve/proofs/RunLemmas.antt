@@ -1,5 +1,5 @@
 -- Runs, by what was taken, answered and written.
-use Rattle.std.proofs.Common.{◌≡◌, ℕ, ◌+◌, List, length, Option, Result, Ok, Err, IfOk, nat_lt, true, refl, subst, arith}
+use Rattle.std.proofs.Common.{◌≡◌, ℕ, ◌+◌, List, length, Option, Result, Ok, Err, IfOk, nat_lt, true, refl, sym, ◌∙◌, subst, arith}
 use Rattle.std.proofs.lemmas.Result.{IfOk-weaker}
 use Rattle.sim_game.specs.Model.{GameModel}
 use Rattle.sim_game.specs.declared.NoMemory.{NoMemory}
@@ -17,6 +17,8 @@ use Rattle.certificate.specs.Texts.{report_text}
 use Rattle.certificate.specs.Reading.{read_report}
 use Rattle.position.specs.declared.error.InputError.{InputError}
 use Rattle.position.specs.declared.error.InputError.TheVariants as errors
+use Rattle.position.specs.declared.source.ReadError.{ReadError}
+use Rattle.position.specs.declared.source.ReadError.TheVariants as read_errors
 use Rattle.position.specs.declared.building.AnyGame.TheVariants.{Goofspiel, OshiZumo, Tron}
 use Rattle.position.specs.Building.{IsGameOf}
 use Rattle.position.specs.Position.{Fails, position_of, object_at}
@@ -60,10 +62,15 @@ module _ (bytes : List ℕ) (text : PositionText) (ask : Ask) (is : position_of 
   reported_is found result solves said = IfOk-weaker result _ (λ a. IsSolved bytes a.status a.text)
       (λ a s. rw (s.2, s.3) (IsSolved.reported (record { text = text; ask = ask }) s.0.report is (solves s.0 s.1) s.4)) said
 
+-- a refusal of the bytes
+pub refused_as : (P : ℕ → List ℕ → Type 0) (e : InputError) (result : Result Answer NoMemory) → (¬ (e ≡ errors.NoMemory) → P 2 (input_text e))
+    → IfOk result (λ a. a.status ≡ 2) → IfOk result (λ a. a.text ≡ input_text e) → IfOk result (λ a. ¬ (e ≡ errors.NoMemory)) → IfOk result (λ a. P a.status a.text)
+refused_as P e (Ok a) is status text memory = rw (status, text) (is memory)
+refused_as P e (Err _) is status text memory = tt
+
 pub refused_is : (bytes : List ℕ) (e : InputError) (result : Result Answer NoMemory) → (¬ (e ≡ errors.NoMemory) → position_of bytes ≡ Err e)
     → IfOk result (λ a. a.status ≡ 2) → IfOk result (λ a. a.text ≡ input_text e) → IfOk result (λ a. ¬ (e ≡ errors.NoMemory)) → IfOk result (λ a. IsSolved bytes a.status a.text)
-refused_is bytes e (Ok a) is status text memory = rw (status, text) (IsSolved.refused e (is memory))
-refused_is bytes e (Err _) is status text memory = tt
+refused_is bytes e result is = refused_as (IsSolved bytes) e result (λ memory. IsSolved.refused e (is memory))
 
 pub fails_unless : (bytes : List ℕ) (e : InputError) → Fails e (position_of bytes) → ¬ (e ≡ errors.NoMemory) → position_of bytes ≡ Err e
 fails_unless bytes errors.NoMemory is not = absurd (not refl)
@@ -73,10 +80,15 @@ pub too_long : (bytes : List ℕ) → length bytes ≡ 1048576 + 1 → position_
 unfolding position_of object_at
 too_long bytes is = let over : nat_lt 1048576 (length bytes) ≡ true = rw is refl in rw over refl
 
-pub solve_too_long : (result : Result Answer NoMemory) → IfOk result (λ a. a.status ≡ 2) → IfOk result (λ a. a.text ≡ input_text errors.TooLong)
-    → IfOk result (λ a. (bytes : List ℕ) → length bytes ≡ 1048576 + 1 → IsSolved bytes a.status a.text)
-solve_too_long (Ok a) status text = λ bytes long. rw (status, text) (IsSolved.refused errors.TooLong (too_long bytes long))
-solve_too_long (Err _) status text = tt
-
 pub in_part : (old new : Option (List ℕ)) (limit : ℕ) → TakesAtMost old new limit → TakesAtMost old new (limit + 1)
 in_part old new limit taken = (taken.0, taken.1, omega (arith, taken.2))
+
+-- the refusal of bytes that are too many
+pub long_as : (P : List ℕ → ℕ → List ℕ → Type 0) (result : Result Answer NoMemory) → ((bytes : List ℕ) → position_of bytes ≡ Err errors.TooLong → P bytes 2 (input_text errors.TooLong))
+    → IfOk result (λ a. a.status ≡ 2) → IfOk result (λ a. a.text ≡ input_text errors.TooLong) → IfOk result (λ a. (bytes : List ℕ) → length bytes ≡ 1048576 + 1 → P bytes a.status a.text)
+long_as P (Ok a) is status text = rw (status, text) (λ bytes long. is bytes (too_long bytes long))
+long_as P (Err _) is status text = tt
+
+-- another failed read is not one of bytes that are too many
+pub not_long : {A : Type 0} (r : Result A ReadError) (e f : ReadError) → r ≡ Err e → e ≡ f → ¬ (f ≡ read_errors.TooLong) → ¬ (r ≡ Err read_errors.TooLong)
+not_long r e f is same other long = let e_is : e ≡ read_errors.TooLong = cc in other (sym same ∙ e_is)

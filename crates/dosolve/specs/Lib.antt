@@ -3,4 +3,5 @@ pub mod Texts
 pub mod Games
 pub mod Reports
 pub mod Checks
+pub mod Bounded
 pub mod Runs

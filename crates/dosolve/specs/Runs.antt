@@ -14,9 +14,10 @@ use Rattle.lazy_workers.specs.Solutions.{IsSolution}
 use Rattle.sim_game.specs.declared.NoMemory.{NoMemory}
 use Rattle.dosolve.specs.declared.run.Answer.{Answer}
 use Rattle.dosolve.specs.declared.words.Command.{Command}
-use Rattle.dosolve.specs.declared.words.Command.TheVariants.{Solve, Check}
+use Rattle.dosolve.specs.declared.words.Command.TheVariants.{Solve, Check, Bounds}
 use Rattle.dosolve.specs.Games.{OfGame}
 use Rattle.dosolve.specs.Checks.{most_report, IsChecked}
+use Rattle.dosolve.specs.Bounded.{IsBounded}
 use Rattle.dosolve.specs.Texts.{usage_text, input_text}
 
 -- ---- answers
@@ -37,12 +38,14 @@ abbrev pub IsAnswer : Option Command → List ℕ → ℕ → List ℕ → Type 
 IsAnswer None bytes status text = (status ≡ 1) × (text ≡ usage_text)
 IsAnswer (Some Solve) bytes status text = IsSolved bytes status text
 IsAnswer (Some Check) bytes status text = IsChecked bytes status text
+IsAnswer (Some Bounds) bytes status text = IsBounded bytes status text
 
 -- ---- what is taken
 -- how many bytes a command reads
 abbrev pub limit_of : Command → ℕ
 limit_of Solve = 1048576
 limit_of Check = most_report
+limit_of Bounds = 1048576
 
 -- all that was left, or one byte more than the limit
 pub record IsInput (limit : ℕ) (old new : Option (List ℕ)) (bytes : List ℕ) : Type 0 where

@@ -1,6 +1,7 @@
 //! Solves finite two-player zero-sum games in which both players move at the same time.
 #![tactic(auto)]
 
+mod bounds;
 mod check;
 mod reports;
 mod run;

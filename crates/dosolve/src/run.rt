@@ -9,6 +9,7 @@ ghost use Rattle.dosolve.specs.Words.{command_of};
 ghost use Rattle.dosolve.specs.Texts.{usage_text, input_text};
 ghost use Rattle.dosolve.specs.Runs.{status_of, IsSolved, IsAnswer, limit_of, IsRun, devices, IsWritten};
 
+use crate::bounds::bounded;
 use crate::check::{checked, faulty};
 use crate::reports::ReportFault;
 use crate::texts::input_text;
@@ -63,6 +64,7 @@ fn limit_of(command: Command) -> u64
     match command {
         Command::Solve => 1_048_576,
         Command::Check => 1_073_741_824,
+        Command::Bounds => 1_048_576,
     }
 }
 
@@ -80,6 +82,7 @@ fn answer_to<R: Threads + Sync, T: Gate + Sync>(
     match command {
         Command::Solve => solved(rt, alloc, bytes, gate),
         Command::Check => checked(alloc, bytes),
+        Command::Bounds => bounded(alloc, bytes),
     }
 }
 
@@ -91,6 +94,7 @@ fn too_long(alloc: Global, command: Command) -> Result<Answer, NoMemory>
     match command {
         Command::Solve => refused(alloc, InputError::TooLong),
         Command::Check => faulty(alloc, ReportFault::TooLong),
+        Command::Bounds => refused(alloc, InputError::TooLong),
     }
 }
 
@@ -117,7 +121,7 @@ fn usage(alloc: Global) -> Result<Answer, NoMemory>
     })
 }
 
-fn refused(alloc: Global, error: InputError) -> Result<Answer, NoMemory>
+pub(crate) fn refused(alloc: Global, error: InputError) -> Result<Answer, NoMemory>
     ensures status { IfOk result (λ a. a.status ≡ 2) }
     ensures text { IfOk result (λ a. a.text ≡ input_text error) }
     ensures memory { IfOk result (λ a. error ≢ InputError.NoMemory) }

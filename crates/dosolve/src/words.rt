@@ -8,6 +8,7 @@ ghost use Rattle.dosolve.specs.Words.{command_of};
 pub(crate) enum Command {
     Solve,
     Check,
+    Bounds,
 }
 
 /// The command of the words behind the program's name, if they are one.
@@ -17,6 +18,7 @@ pub(crate) fn command_of(words: &[String]) -> Option<Command>
     match words {
         [word] if word.as_str() == "solve" => Some(Command::Solve),
         [word] if word.as_str() == "check" => Some(Command::Check),
+        [word] if word.as_str() == "bounds" => Some(Command::Bounds),
         _ => None,
     }
 }

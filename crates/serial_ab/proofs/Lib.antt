@@ -3,5 +3,6 @@ pub mod DrawLemmas
 pub mod EndLemmas
 pub mod EntryLemmas
 pub mod KeptLemmas
+pub mod RootLemmas
 pub mod SearchLemmas
 pub mod ValueLemmas

@@ -1,0 +1,113 @@
+//! The serial bounds of a whole game.
+ghost use Rattle.std.specs.Prelude.{◌≡◌, ◌≤◌, ◌<ℤ◌, IfOk};
+ghost use Rattle.sim_game.specs.declared.Side.TheVariants.{One, Two};
+ghost use Rattle.sim_game.specs.Sides.{opening_bound};
+ghost use Rattle.plan_book.specs.Serial.{serial_bound, tree_size};
+ghost use Rattle.bounds_board.specs.Views.{WasFull};
+ghost use Rattle.serial_ab.specs.Counts.{left_on, IsCut};
+ghost use Rattle.serial_ab.specs.Searches.{Ends, IsKept};
+ghost use Rattle.serial_ab.specs.Roots.{IsSearchable, IsRootValue, IsRootEnd, HasCounted};
+
+use crate::visits::Visits;
+use crate::windowed::{SerialEnd, serial};
+use bounds_board::{BoardFault, Bounds, PlainBoard};
+use sim_game::{Game, NoMemory, Side, end_bound, opening_bound};
+use std::alloc::Global;
+
+/// What the serial searches of a root found, One's first.
+#[derive(Clone, Copy, PartialEq, Eq, Debug, Drop)]
+pub enum RootEnd {
+    /// Both serial bounds, in millionths of a payoff.
+    Found { lower: i64, upper: i64 },
+    /// The search of the side came to a state with no visit left.
+    Cut { side: Side },
+    /// A search came to a state that has no row on the full board.
+    Full,
+}
+
+/// The serial bounds of the root, by a search for One and one for Two over a plain board of 1 to 1048576 rows. Where
+/// the root is an end, or all payoffs are equal, there is no search and no visit. Without an answer only for want of
+/// memory.
+pub fn root_bounds<G: Game>(
+    alloc: Global,
+    g: G,
+    rows: u32,
+    total: u32,
+    visits: &mut Visits,
+) -> Result<RootEnd, NoMemory>
+    requires rows_low { 1 ≤ rows }
+    requires rows_high { rows ≤ 1048576 }
+    requires total_low { 8192 ≤ total }
+    requires total_high { total ≤ 1048576 }
+    ensures ends { IfOk result (IsRootEnd (G.model g) rows visits.old visits.new) }
+    ensures counted { HasCounted visits.old visits.new }
+{
+    if g.rank(g.root()) == 0 {
+        let value = end_bound(g, g.root());
+        return Ok(RootEnd::Found {
+            lower: value,
+            upper: value,
+        });
+    }
+    let low = opening_bound(g, Side::One);
+    if low == opening_bound(g, Side::Two) {
+        return Ok(RootEnd::Found {
+            lower: low,
+            upper: low,
+        });
+    }
+    match PlainBoard::new(alloc, g, rows, total) {
+        Ok(mut board) => search_both(alloc, g, visits, &mut board),
+        Err(_) => Err(NoMemory),
+    }
+}
+
+/// Searches the root for One, then for Two.
+fn search_both<G: Game, B: Bounds<G>>(
+    alloc: Global,
+    g: G,
+    visits: &mut Visits,
+    board: &mut B,
+) -> Result<RootEnd, NoMemory>
+    requires game { (B.view board.old).game ≡ g }
+    requires searched { IsSearchable (G.model g) }
+    ensures ends { IfOk result (IsRootEnd (G.model g) (B.view board.old).rows visits.old visits.new) }
+    ensures counted { HasCounted visits.old visits.new }
+{
+    match search_root(alloc, g, Side::One, visits, board) {
+        Ok(Some(lower)) => match search_root(alloc, g, Side::Two, visits, board) {
+            Ok(Some(upper)) => Ok(RootEnd::Found { lower, upper }),
+            Ok(None) => Ok(RootEnd::Cut { side: Side::Two }),
+            Err(BoardFault::Full) => Ok(RootEnd::Full),
+            Err(BoardFault::NoMemory) => Err(NoMemory),
+        },
+        Ok(None) => Ok(RootEnd::Cut { side: Side::One }),
+        Err(BoardFault::Full) => Ok(RootEnd::Full),
+        Err(BoardFault::NoMemory) => Err(NoMemory),
+    }
+}
+
+/// The serial bound of the root for a side, or none where the search was cut.
+fn search_root<G: Game, B: Bounds<G>>(
+    alloc: Global,
+    g: G,
+    side: Side,
+    visits: &mut Visits,
+    board: &mut B,
+) -> Result<Option<i64>, BoardFault>
+    requires game { (B.view board.old).game ≡ g }
+    requires searched { IsSearchable (G.model g) }
+    ensures kept { IsKept (G.model g) side (tree_size (G.model g) (G.model g).root) (B.view board.old) (B.view board.new) visits.old visits.new }
+    ensures ends { Ends (IsRootValue (G.model g) side visits.old visits.new) (IsCut side (tree_size (G.model g) (G.model g).root) visits.old visits.new)
+        ((1 ≤ left_on side visits.old) × WasFull (G.model g) (B.view board.new)) result }
+{
+    let low = opening_bound(g, Side::One);
+    let high = opening_bound(g, Side::Two);
+    match serial(alloc, g, g.root(), side, (low, high), visits, board) {
+        Ok(SerialEnd::Exact { value }) => Ok(Some(value)),
+        Ok(SerialEnd::AtLeast { value }) => Ok(Some(value)),
+        Ok(SerialEnd::AtMost { value }) => Ok(Some(value)),
+        Ok(SerialEnd::Cut) => Ok(None),
+        Err(fault) => Err(fault),
+    }
+}

@@ -1,0 +1,57 @@
+use crate::chance::OneInThree;
+use crate::steps::bound_state;
+use bounds_board::PlainBoard;
+use matrix_game::Turns;
+use oracle_search::{OpenGate, SearchEnd, Settled, search};
+use restricted_game::{Restricted, StepEnd};
+use serial_ab::{SerialEnd, Visits};
+use sim_game::{Game, Side, opening_bound, resolution};
+use std::test::Fail;
+
+#[test]
+fn a_mean_is_rounded_for_each_side(rt: HostRuntime) -> Result<(), Fail> {
+    let g = OneInThree;
+    assert!(rt; opening_bound(g, Side::One) < opening_bound(g, Side::Two));
+    let mut board = PlainBoard::new(rt.alloc(), g, 1, 8192)?;
+    let (lower, upper) = bound_state(rt.alloc(), g, g.root(), &mut board)?;
+    assert_eq!(rt; lower, SerialEnd::Exact { value: 333333 });
+    assert_eq!(rt; upper, SerialEnd::Exact { value: 333334 });
+    Ok(())
+}
+
+#[test]
+fn a_step_rounds_for_each_side(rt: HostRuntime) -> Result<(), Fail> {
+    let g = OneInThree;
+    let mut board = PlainBoard::new(rt.alloc(), g, 1, 8192)?;
+    let mut held = Restricted::new(rt.alloc(), 1, 1, (0, 0))?;
+    let end = held.step(g, g.root(), &mut board, &mut Turns::new(1));
+    let want = StepEnd::Done {
+        lower: 333333,
+        upper: 333334,
+    };
+    assert_eq!(rt; end, Ok(want));
+    Ok(())
+}
+
+#[test]
+fn a_search_settles_above_a_gap_of_nothing(rt: HostRuntime) -> Result<(), Fail> {
+    let g = OneInThree;
+    let mut board = PlainBoard::new(rt.alloc(), g, 1, 8192)?;
+    let mut turns = Turns::new(1);
+    let end = search(
+        rt.alloc(),
+        g,
+        g.root(),
+        0,
+        0,
+        &OpenGate,
+        &mut turns,
+        &mut Visits::new(1000),
+        &mut Settled::new(rt.alloc()),
+        &mut board,
+    )?;
+    assert_eq!(rt; end, SearchEnd::Settled);
+    assert_eq!(rt; turns.spent(), 1);
+    assert_eq!(rt; resolution(g, 8192), 15627);
+    Ok(())
+}

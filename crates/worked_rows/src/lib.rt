@@ -1,0 +1,15 @@
+//! Worked examples that cross crates, as tests.
+#![tactic(auto)]
+
+mod chance;
+
+pub use chance::{OneInThree, Place};
+
+#[cfg(test)]
+mod boards;
+#[cfg(test)]
+mod draws;
+#[cfg(test)]
+mod reports;
+#[cfg(test)]
+mod steps;

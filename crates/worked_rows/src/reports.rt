@@ -1,0 +1,213 @@
+use certificate::{Pay, read};
+use checker::{Verdict, Why, check};
+use goofspiel::Goofspiel;
+use oshi_zumo::OshiZumo;
+use sim_game::{Game, Side};
+use std::alloc::{AllocError, Global};
+use std::process::Abort;
+use std::test::Fail;
+
+// The line at a place, as the last of the changes at this place has it.
+fn line_at<'a>(line: &'a str, place: usize, changes: &[(usize, &'a str)]) -> &'a str {
+    let mut now = line;
+    for (at, changed) in changes {
+        if *at == place {
+            now = changed;
+        }
+    }
+    now
+}
+
+// The text of the lines, of which some are changed: an empty one is left out.
+fn text_of<'a>(
+    alloc: Global,
+    lines: &[&'a str],
+    changes: &[(usize, &'a str)],
+) -> Result<String, AllocError> {
+    let mut text = String::new(alloc);
+    for (place, line) in lines.iter().enumerate() {
+        let now = line_at(line, place, &*changes);
+        if !now.is_empty() {
+            text.push_str(now)?;
+            text.push_str("\n")?;
+        }
+    }
+    Ok(text)
+}
+
+fn check_changed<'a, G: Game>(
+    rt: &impl Abort,
+    alloc: Global,
+    g: G,
+    lines: &[&'a str],
+    changes: &[(usize, &'a str)],
+    want: Verdict,
+) -> Result<(), Fail> {
+    let text = text_of(alloc, &*lines, &*changes)?;
+    let report = read(alloc, text.as_bytes())?;
+    assert_eq!(rt; check(alloc, g, &report), Ok(want), "{text}");
+    Ok(())
+}
+
+const CARDS: [&str; 23] = [
+    "dosolve report 1",
+    "game goofspiel 1,3 2,3 1,1 0 margin",
+    "weight 65536",
+    "turns 1000",
+    "asked 0",
+    "resolution 62502",
+    "outcome closed",
+    "lower -500000",
+    "upper -500000",
+    "spent 3",
+    "one 5",
+    "67127548 -1000000 65536",
+    "67143933 0 65536",
+    "268454139 0 65536",
+    "268470523 -1000000 65536",
+    "335595772 -500000 32768 32768",
+    "two 5",
+    "67127548 -1000000 65536",
+    "67143933 0 65536",
+    "268454139 0 65536",
+    "268470523 -1000000 65536",
+    "335595772 -500000 32768 32768",
+    "end",
+];
+
+#[test]
+fn two_cards_each(rt: HostRuntime) -> Result<(), Fail> {
+    let Ok(g) = Goofspiel::new(&[1, 3], &[2, 3], &[1, 1], 0, Pay::Margin) else {
+        panic!(rt; "the position is valid");
+    };
+    let root = 335595772;
+    let won = 67127548;
+    let bound = |side, sum, need| Why::Bound {
+        side,
+        key: root,
+        reply: 0,
+        sum,
+        need,
+    };
+    check_changed(&rt, rt.alloc(), g, &CARDS, &[], Verdict::Accepted)?;
+    let cases: [(&[(usize, &str)], Why); 10] = [
+        (
+            &[(7, "lower -499999"), (15, "335595772 -499999 32768 32768")],
+            bound(Side::One, -32768000000, -32767934464),
+        ),
+        (
+            &[(21, "335595772 -500001 32768 32768")],
+            bound(Side::Two, -32768000000, -32768065536),
+        ),
+        (
+            &[(15, "335595772 -500000 32767 32768")],
+            Why::Weights {
+                side: Side::One,
+                key: root,
+            },
+        ),
+        (&[(7, "lower -500001")], Why::Root { side: Side::One }),
+        (&[(8, "upper -500001")], Why::Root { side: Side::Two }),
+        (
+            &[(5, "resolution 62503")],
+            Why::ResolutionWrong { want: 62502 },
+        ),
+        (&[(6, "outcome spent")], Why::OutcomeWrong),
+        (
+            &[(11, "67127548 -2000001 65536")],
+            Why::Outside {
+                side: Side::One,
+                key: won,
+            },
+        ),
+        (
+            &[(10, "one 4"), (15, "")],
+            Why::Idle {
+                side: Side::One,
+                key: won,
+            },
+        ),
+        (
+            &[(21, "335595772 -500000 32768")],
+            Why::Idle {
+                side: Side::Two,
+                key: won,
+            },
+        ),
+    ];
+    for (changes, why) in cases {
+        check_changed(&rt, rt.alloc(), g, &CARDS, changes, Verdict::Refused(why))?;
+    }
+    Ok(())
+}
+
+const PUSH: [&str; 15] = [
+    "dosolve report 1",
+    "game oshi_zumo 1 2 1 1 0",
+    "weight 65536",
+    "turns 0",
+    "asked 0",
+    "resolution 31252",
+    "outcome closed",
+    "lower 1000000",
+    "upper 1000000",
+    "spent 0",
+    "one 2",
+    "16416 1000000 65536",
+    "16449 1000000 65536 0",
+    "two 0",
+    "end",
+];
+
+#[test]
+fn a_tie_and_a_push(rt: HostRuntime) -> Result<(), Fail> {
+    let Ok(g) = OshiZumo::new(1, 2, 1, 1, 0) else {
+        panic!(rt; "the position is valid");
+    };
+    let root = 16449;
+    let tied = 16416;
+    check_changed(&rt, rt.alloc(), g, &PUSH, &[], Verdict::Accepted)?;
+    let cases: [(&[(usize, &str)], Why); 7] = [
+        (
+            &[(12, "16449 1000000 65535 0")],
+            Why::Weights {
+                side: Side::One,
+                key: root,
+            },
+        ),
+        (
+            &[(10, "one 1"), (11, "")],
+            Why::Bound {
+                side: Side::One,
+                key: root,
+                reply: 0,
+                sum: -65536000000,
+                need: 65536000000,
+            },
+        ),
+        (
+            &[(12, "16449 1000000 0 65536")],
+            Why::Idle {
+                side: Side::One,
+                key: tied,
+            },
+        ),
+        (
+            &[(7, "lower 1000001"), (12, "16449 1000001 65536 0")],
+            Why::Outside {
+                side: Side::One,
+                key: root,
+            },
+        ),
+        (&[(7, "lower 999999")], Why::Root { side: Side::One }),
+        (
+            &[(5, "resolution 31253")],
+            Why::ResolutionWrong { want: 31252 },
+        ),
+        (&[(6, "outcome spent")], Why::OutcomeWrong),
+    ];
+    for (changes, why) in cases {
+        check_changed(&rt, rt.alloc(), g, &PUSH, changes, Verdict::Refused(why))?;
+    }
+    Ok(())
+}

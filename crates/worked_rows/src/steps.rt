@@ -1,0 +1,190 @@
+ghost use Rattle.std.specs.Prelude.{◌≡◌, ◌<◌, ◌≤◌, ◌<ℤ◌};
+ghost use Rattle.sim_game.specs.declared.Side.{Side};
+ghost use Rattle.sim_game.specs.Sides.{opening_bound};
+ghost use Rattle.bounds_board.specs.Views.{IsLater};
+ghost use Rattle.sim_game.specs.Model.{Reachable};
+
+use bounds_board::{BoardFault, Bounds, Enclosure, PlainBoard};
+use certificate::Pay;
+use goofspiel::Goofspiel;
+use matrix_game::Turns;
+use oracle_search::{OpenGate, SearchEnd, Settled, search};
+use restricted_game::{Restricted, StepEnd, StepFault};
+use serial_ab::{SerialEnd, Visits, serial};
+use sim_game::{Game, Side, opening_bound};
+use std::alloc::Global;
+use std::process::Abort;
+use std::test::Fail;
+
+// Bounds a state for both sides by serial searches over the whole range.
+pub(crate) fn bound_state<G: Game, B: Bounds<G>>(
+    alloc: Global,
+    g: G,
+    s: G::State,
+    board: &mut B,
+) -> Result<(SerialEnd, SerialEnd), BoardFault>
+    requires game { (B.view board.old).game ≡ g }
+    requires reachable { Reachable (G.model g) s }
+    requires wide { opening_bound (G.model g) Side.One <ℤ opening_bound (G.model g) Side.Two }
+    ensures later { IsLater (B.view board.old) (B.view board.new) }
+{
+    let window = (opening_bound(g, Side::One), opening_bound(g, Side::Two));
+    let mut visits = Visits::new(1000);
+    let lower = match serial(alloc, g, s, Side::One, window, &mut visits, board) {
+        Ok(end) => end,
+        Err(fault) => return Err(fault),
+    };
+    match serial(alloc, g, s, Side::Two, window, &mut visits, board) {
+        Ok(upper) => Ok((lower, upper)),
+        Err(fault) => Err(fault),
+    }
+}
+
+// The state after a first pair of moves.
+pub(crate) fn after<G: Game>(g: G, one: u32, two: u32) -> G::State
+    requires one { one < (G.model g).moves Side.One (G.model g).root }
+    requires two { two < (G.model g).moves Side.Two (G.model g).root }
+    ensures reachable { Reachable (G.model g) result }
+{
+    g.next(g.root(), one, two)
+}
+
+// Makes a step at the root.
+fn step_root<G: Game, B: Bounds<G>>(
+    g: G,
+    held: &mut Restricted,
+    board: &mut B,
+    turns: &mut Turns,
+) -> Result<StepEnd, StepFault>
+    requires game { (B.view board.old).game ≡ g }
+    requires goes_on { 1 ≤ (G.model g).rank (G.model g).root }
+    requires rows { held.old.most_rows ≡ (G.model g).moves Side.One (G.model g).root }
+    requires cols { held.old.most_cols ≡ (G.model g).moves Side.Two (G.model g).root }
+    ensures later { IsLater (B.view board.old) (B.view board.new) }
+    ensures rows { held.new.most_rows ≡ held.old.most_rows }
+    ensures cols { held.new.most_cols ≡ held.old.most_cols }
+{
+    match held.step(g, g.root(), board, turns) {
+        Ok(end) => Ok(end),
+        Err(fault) => Err(fault),
+    }
+}
+
+// What the board has at the root.
+fn root_bounds<G: Game, B: Bounds<G>>(rt: &impl Abort, g: G, board: &mut B) -> Option<Enclosure>
+    requires game { (B.view board.old).game ≡ g }
+{
+    let root = g.root();
+    assert!(rt; g.rank(root) >= 1);
+    match board.claim(g.key(root)) {
+        Ok(row) => Some(board.read(row)),
+        Err(_) => None,
+    }
+}
+
+// The third step of a game in which each side has two cards, after searches of the states after the first pairs of
+// moves; and the moves that are held then.
+fn third_step(
+    rt: &impl Abort,
+    alloc: Global,
+    limit: u64,
+) -> Result<(Result<StepEnd, StepFault>, Option<Enclosure>, Restricted), Fail> {
+    let Ok(g) = Goofspiel::new(&[1, 3], &[2, 3], &[1, 1], 0, Pay::Margin) else {
+        panic!(rt; "the position is valid");
+    };
+    let root = g.root();
+    assert!(rt; g.moves(Side::One, root) == 2);
+    assert!(rt; g.moves(Side::Two, root) == 2);
+    assert!(rt; g.rank(root) >= 1);
+    assert!(rt; opening_bound(g, Side::One) < opening_bound(g, Side::Two));
+    let mut board = PlainBoard::new(alloc, g, 16, 65536)?;
+    bound_state(alloc, g, after(g, 0, 0), &mut board)?;
+    bound_state(alloc, g, after(g, 0, 1), &mut board)?;
+    bound_state(alloc, g, after(g, 1, 0), &mut board)?;
+    bound_state(alloc, g, after(g, 1, 1), &mut board)?;
+    let mut turns = Turns::new(limit);
+    let mut held = Restricted::new(alloc, 2, 2, (0, 0))?;
+    let first = step_root(g, &mut held, &mut board, &mut turns);
+    let a_row = StepEnd::Grown {
+        row: Some(1),
+        col: None,
+    };
+    assert_eq!(rt; first, Ok(a_row));
+    let second = step_root(g, &mut held, &mut board, &mut turns);
+    let a_column = StepEnd::Grown {
+        row: None,
+        col: Some(1),
+    };
+    assert_eq!(rt; second, Ok(a_column));
+    let third = step_root(g, &mut held, &mut board, &mut turns);
+    let found = root_bounds(rt, g, &mut board);
+    Ok((third, found, held))
+}
+
+#[test]
+fn a_restricted_game_grows_to_the_whole(rt: HostRuntime) -> Result<(), Fail> {
+    let (third, found, held) = third_step(&rt, rt.alloc(), 3)?;
+    assert_eq!(rt;
+        third,
+        Ok(StepEnd::Done {
+            lower: -500000,
+            upper: -500000
+        })
+    );
+    assert_eq!(rt;
+        found,
+        Some(Enclosure {
+            lower: -500000,
+            upper: -500000
+        })
+    );
+    assert_eq!(rt; held.rows(), [0, 1].as_slice());
+    assert_eq!(rt; held.cols(), [0, 1].as_slice());
+    Ok(())
+}
+
+#[test]
+fn a_step_without_a_turn_changes_nothing(rt: HostRuntime) -> Result<(), Fail> {
+    let (third, found, held) = third_step(&rt, rt.alloc(), 2)?;
+    assert_eq!(rt; third, Err(StepFault::Spent));
+    assert_eq!(rt;
+        found,
+        Some(Enclosure {
+            lower: -1000000,
+            upper: 0
+        })
+    );
+    assert_eq!(rt; held.rows(), [0, 1].as_slice());
+    assert_eq!(rt; held.cols(), [0, 1].as_slice());
+    Ok(())
+}
+
+#[test]
+fn a_search_leaves_most_states_out(rt: HostRuntime) -> Result<(), Fail> {
+    let Ok(g) = Goofspiel::new(&[5, 6, 7, 8], &[1, 2, 3, 4], &[1, 1, 1, 1], 0, Pay::Margin) else {
+        panic!(rt; "the position is valid");
+    };
+    let mut board = PlainBoard::new(rt.alloc(), g, 48, 65536)?;
+    let mut settled = Settled::new(rt.alloc());
+    let end = search(
+        rt.alloc(),
+        g,
+        g.root(),
+        0,
+        0,
+        &OpenGate,
+        &mut Turns::new(1000),
+        &mut Visits::new(0),
+        &mut settled,
+        &mut board,
+    )?;
+    assert_eq!(rt; end, SearchEnd::Reached, "69 states are no ends");
+    assert_eq!(rt;
+        root_bounds(&rt, g, &mut board),
+        Some(Enclosure {
+            lower: 4000000,
+            upper: 4000000
+        })
+    );
+    Ok(())
+}

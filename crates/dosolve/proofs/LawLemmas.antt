@@ -1,5 +1,5 @@
 -- What the answers of solve and of check say of each other.
-use Rattle.std.proofs.Common.{◌≡◌, ℕ, ℤ, List, Ok, refl, sym, ap, subst, ◌∙◌}
+use Rattle.std.proofs.Common.{◌≡◌, ℕ, ℤ, List, Option, None, Some, Result, Ok, Err, refl, sym, ap, subst, ◌∙◌}
 use Rattle.sim_game.specs.Model.{GameModel, IsGame}
 use Rattle.sim_game.specs.Resolution.{IsResolution}
 use Rattle.goofspiel.specs.declared.Pay.{Pay}
@@ -15,19 +15,27 @@ use Rattle.tron.specs.Position.{IsSettingOf as IsTronOf}
 use Rattle.tron.specs.CellLaws.{same_set}
 use Rattle.tron.specs.Laws.{tron_is_game}
 use Rattle.tron.specs.Rules.{tron_game}
-use Rattle.certificate.specs.declared.report.Ask.{Ask}
-use Rattle.certificate.specs.declared.report.PositionText.{PositionText}
-use Rattle.certificate.specs.declared.report.PositionText.TheVariants.{Goofspiel, OshiZumo, Tron}
-use Rattle.certificate.specs.declared.report.Report.{Report}
-use Rattle.position.specs.Building.{oshi_zumo_setting}
 use Rattle.checker.specs.declared.verdict.Why.{Why}
 use Rattle.checker.specs.declared.verdict.Verdict.{Verdict}
 use Rattle.checker.specs.declared.verdict.Verdict.TheVariants.{Accepted, Refused}
 use Rattle.checker.specs.Verdicts.{IsVerdict}
 use Rattle.checker.proofs.VerdictLemmas.{verdict_once}
 use Rattle.lazy_workers.specs.Solutions.{IsSolution}
+use Rattle.certificate.specs.declared.report.Ask.{Ask}
+use Rattle.certificate.specs.declared.report.PositionText.{PositionText}
+use Rattle.certificate.specs.declared.report.PositionText.TheVariants.{Goofspiel, OshiZumo, Tron}
+use Rattle.certificate.specs.declared.report.Report.{Report}
+use Rattle.certificate.specs.Ranges.{IsInRange}
+use Rattle.certificate.specs.Texts.{report_text}
+use Rattle.position.specs.declared.error.InputError.{InputError}
+use Rattle.position.specs.Building.{oshi_zumo_setting, fault_of}
+use Rattle.position.specs.Fields.{fields_of}
+use Rattle.position.specs.Position.{◌>>=◌, TaskText, object_at, game_at, known_at, text_of, ask_at, refuse_if, task_of, position_of}
 use Rattle.dosolve.specs.declared.reports.ReportFault.TheVariants as faults
 use Rattle.dosolve.specs.Games.{OfGame}
+use Rattle.dosolve.specs.Runs.{IsSolved}
+use Rattle.dosolve.proofs.CheckLemmas.{report_built}
+use Rattle.dosolve.proofs.LengthLemmas.{report_short}
 use Rattle.dosolve.specs.Reports.{accepted_text, fault_text}
 use Rattle.dosolve.specs.Checks.{report_in, IsJudged, IsChecked}
 
@@ -104,3 +112,43 @@ solution_is_right S m text ask r is = record {
     outcome = is.outcome;
   };
 }
+
+-- ---- a position that is read breaks no rule of its game
+bind_ok : {A B : Type 0} (r : Result A InputError) (f : A → Result B InputError) (y : B) → (r >>= f) ≡ Ok y → (x : A) × (r ≡ Ok x) × (f x ≡ Ok y)
+bind_ok (Ok x) f y e = (x, refl, e)
+bind_ok (Err d) f y e = absurd cc
+
+no_fault : (fault : Option InputError) (u : Unit {0}) → refuse_if fault ≡ Ok u → fault ≡ None
+no_fault None u e = refl
+no_fault (Some e) u is = absurd cc
+
+built : (bytes : List ℕ) (task : TaskText) → position_of bytes ≡ Ok task → fault_of task.text ≡ None
+unfolding position_of task_of
+built bytes task is =
+    let d = bind_ok (object_at bytes) _ task is in
+    let game = bind_ok (game_at d.0) _ task d.2 in
+    let known = bind_ok (known_at (fields_of game.0) d.0) _ task game.2 in
+    let text = bind_ok (text_of game.0 d.0) _ task known.2 in
+    let ask = bind_ok (ask_at d.0) _ task text.2 in
+    let rules = bind_ok (refuse_if (fault_of text.0)) _ task ask.2 in
+    let made : Ok (record { text = text.0; ask = ask.0 }) ≡ Ok task = rules.2 in
+    let same : record { text = text.0; ask = ask.0 } ≡ task = cc (made) in
+    subst (λ (t : TaskText). fault_of t.text ≡ None) same (no_fault (fault_of text.0) rules.0 rules.1)
+
+-- ---- what solve writes as a report is accepted
+pub reported_accepted : (bytes text : List ℕ) (status : ℕ) → IsSolved bytes status text → ¬ (status ≡ 2) → (r : Report) × (text ≡ report_text r) × IsChecked text 0 (accepted_text r)
+reported_accepted bytes _ _ (IsSolved.refused e is) not = absurd (not refl)
+reported_accepted bytes _ _ (IsSolved.not_built task is unbuilt) not = absurd (not refl)
+reported_accepted bytes _ _ (IsSolved.reported task r is can solves again) not =
+    let P : (S : Type 0) → GameModel S → Type 0 = λ S m. IsSolution m task.text task.ask r in
+    let position : r.position ≡ task.text = of_one_game task.text P P (r.position ≡ task.text) (λ S m game p q. p.of_ask.position) solves solves in
+    let in_range : IsInRange r = of_one_game task.text P P (IsInRange r) (λ S m game p q. p.in_range) solves solves in
+    let right : OfGame task.text (λ S m. IsVerdict m r Accepted) = of_game_weaker task.text P (λ S m. IsVerdict m r Accepted) (λ S m p. solution_is_right S m task.text task.ask r p) solves in
+    let judged : IsJudged r Accepted = subst (λ (t : PositionText). OfGame t (λ S m. IsVerdict m r Accepted)) (sym position) right in
+    let fault : fault_of r.position ≡ None = subst (λ (t : PositionText). fault_of t ≡ None) (sym position) (built bytes task is) in
+    (r, refl, IsChecked.accepted r (report_built (report_text r) (report_short r in_range) r again fault) judged)
+
+pub accepted_alone : (bytes text answer : List ℕ) (status state : ℕ) → IsSolved bytes status text → ¬ (status ≡ 2) → IsChecked text state answer → state ≡ 0
+accepted_alone bytes text answer status state solved not checked =
+    let told = reported_accepted bytes text status solved not in
+    (one_answer text state 0 answer (accepted_text told.0) checked told.2).0

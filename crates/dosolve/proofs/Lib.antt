@@ -1,3 +1,4 @@
 pub mod RunLemmas
 pub mod CheckLemmas
 pub mod LawLemmas
+pub mod LengthLemmas

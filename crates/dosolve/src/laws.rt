@@ -7,7 +7,11 @@ ghost use Rattle.checker.specs.declared.verdict.Verdict.{Verdict};
 ghost use Rattle.checker.specs.declared.verdict.Verdict.TheVariants.{Accepted};
 ghost use Rattle.checker.specs.Verdicts.{IsVerdict};
 ghost use Rattle.lazy_workers.specs.Solutions.{IsSolution};
+ghost use Rattle.certificate.specs.Texts.{report_text};
+ghost use Rattle.certificate.specs.declared.report.Report.{Report};
 ghost use Rattle.dosolve.specs.Checks.{IsChecked};
+ghost use Rattle.dosolve.specs.Reports.{accepted_text};
+ghost use Rattle.dosolve.specs.Runs.{IsSolved};
 
 use certificate::Report;
 use checker::one_verdict;
@@ -28,3 +32,12 @@ pub fn solutions_are_accepted<G: Game>(g: &G, r: &Report)
 {
     one_verdict(g, r);
 }
+
+/// `check` accepts each report that `solve` prints, and has no other answer to it. Of `solve`'s statuses 2 alone is
+/// that of a refusal.
+pub fn printed_reports_are_accepted()
+    ensures accepted { (bytes text : List ℕ) (status : ℕ) → IsSolved bytes status text → status ≢ 2
+        → (r : Report) × (text ≡ report_text r) × IsChecked text 0 (accepted_text r) }
+    ensures only { (bytes text answer : List ℕ) (status state : ℕ) → IsSolved bytes status text → status ≢ 2
+        → IsChecked text state answer → state ≡ 0 }
+{}

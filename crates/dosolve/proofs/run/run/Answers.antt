@@ -34,9 +34,8 @@ returns-in-Err-TooLong g c =
 pub returns-in-Err-Failed : goal.returns-in-Err-Failed
 returns-in-Err-Failed g c =
     let some = sym c.command_of.ensures ∙ c.in-Some.is in
-    let failed = ap Err c.in-Err-Failed.field-0-is in
     let part = rw c.limit_of.ensures at c.in-Err-Failed.ensures.others (λ e. absurd (cc (e, c.in-Err-Failed.field-0-is))) in
-    rw some (IsRun.unread (in_part _ _ (limit_of c.in-Some.command) part) (c.in-Err-Failed.ensures.failed failed) refl)
+    rw some (IsRun.unread (in_part _ _ (limit_of c.in-Some.command) part) (c.in-Err-Failed.ensures.failed (ap Err c.in-Err-Failed.field-0-is)) refl)
 
 pub returns-in-Err-NoMemory : goal.returns-in-Err-NoMemory
 returns-in-Err-NoMemory g c =

@@ -1,3 +1,5 @@
 pub mod BoundedLemmas
 pub mod RunLemmas
 pub mod CheckLemmas
+pub mod LawLemmas
+pub mod LengthLemmas

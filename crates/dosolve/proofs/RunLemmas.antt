@@ -6,6 +6,7 @@ use Rattle.sim_game.specs.declared.NoMemory.{NoMemory}
 use Rattle.goofspiel.specs.declared.Goofspiel.{Goofspiel as GoofspielGame}
 use Rattle.goofspiel.specs.Rules.{goofspiel_game}
 use Rattle.oshi_zumo.specs.declared.OshiZumo.{OshiZumo as OshiZumoGame}
+use Rattle.oshi_zumo.specs.Position.{IsPosition}
 use Rattle.oshi_zumo.specs.Rules.{oshi_zumo_game}
 use Rattle.tron.specs.declared.Tron.{Tron as TronGame}
 use Rattle.tron.specs.Rules.{tron_game}
@@ -40,17 +41,17 @@ run_of command left left' written written' read read' wrote wrote' bytes answer 
 
 -- ---- the game of a position
 pub of_goofspiel : (text : PositionText) (g : GoofspielGame) (P : (S : Type 0) → GameModel S → Type 0) → IsGameOf text (Goofspiel g) → P _ (goofspiel_game g.setting) → OfGame text P
-of_goofspiel (texts.Goofspiel one two prizes score pay) g P is p = (g.setting, is, p)
+of_goofspiel (texts.Goofspiel one two prizes score pay) g P is p = (g.setting, g.valid, is, p)
 of_goofspiel (texts.OshiZumo size one two least place) g P is p = absurd is
 of_goofspiel (texts.Tron height width walls one two) g P is p = absurd is
 
 pub of_oshi_zumo : (text : PositionText) (g : OshiZumoGame) (P : (S : Type 0) → GameModel S → Type 0) → IsGameOf text (OshiZumo g) → P _ (oshi_zumo_game g.setting) → OfGame text P
-of_oshi_zumo (texts.OshiZumo size one two least place) g P is p = subst (λ s. P _ (oshi_zumo_game s)) is p
+of_oshi_zumo (texts.OshiZumo size one two least place) g P is p = subst (λ s. IsPosition s × P _ (oshi_zumo_game s)) is (g.valid, p)
 of_oshi_zumo (texts.Goofspiel one two prizes score pay) g P is p = absurd is
 of_oshi_zumo (texts.Tron height width walls one two) g P is p = absurd is
 
 pub of_tron : (text : PositionText) (g : TronGame) (P : (S : Type 0) → GameModel S → Type 0) → IsGameOf text (Tron g) → P _ (tron_game g.setting) → OfGame text P
-of_tron (texts.Tron height width walls one two) g P is p = (g.setting, is, p)
+of_tron (texts.Tron height width walls one two) g P is p = (g.setting, g.valid, is, p)
 of_tron (texts.Goofspiel one two prizes score pay) g P is p = absurd is
 of_tron (texts.OshiZumo size one two least place) g P is p = absurd is
 

@@ -1,5 +1,5 @@
 -- What check answers to the bytes of a report.
-use Rattle.std.specs.Prelude.{◌≡◌, ℕ, ◌<◌, ◌≤◌, List, length, None, Some, Ok, Err}
+use Rattle.std.specs.Prelude.{◌≡◌, ℕ, List, length, nat_lt, if◌then◌else◌, Option, None, Some, Result, Ok, Err}
 use Rattle.certificate.specs.declared.error.TextError.{TextError}
 use Rattle.certificate.specs.declared.report.Report.{Report}
 use Rattle.certificate.specs.Reading.{read_report}
@@ -18,24 +18,25 @@ use Rattle.dosolve.specs.Reports.{accepted_text, fault_text}
 abbrev pub most_report : ℕ
 most_report = 1073741824
 
--- the bytes are not too many, and spell the report
-pub record IsReadAs (bytes : List ℕ) (r : Report) : Type 0 where
-  pub within : length bytes ≤ most_report
-  pub read : read_report bytes ≡ Ok r
+-- a report whose position breaks no rule of its game
+abbrev pub if_built : Option InputError → Report → Result Report ReportFault
+if_built None r = Ok r
+if_built (Some e) r = Err (faults.Position e)
 
--- the report's position has a game, for which the checker has this verdict on the report
-pub record IsJudged (r : Report) (v : Verdict) : Type 0 where
-  pub built : fault_of r.position ≡ None
-  pub verdict : OfGame r.position (λ S m. IsVerdict m r v)
+abbrev pub if_read : Result Report TextError → Result Report ReportFault
+if_read (Ok r) = if_built (fault_of r.position) r
+if_read (Err e) = Err (faults.Text e)
 
--- the first fault: of the length, of the text, of the position, and the first that the checker finds
-pub data IsReportFault (bytes : List ℕ) : ReportFault → Type 0 where
-  too_long : most_report < length bytes → IsReportFault bytes faults.TooLong
-  unread : (e : TextError) → length bytes ≤ most_report → read_report bytes ≡ Err e → IsReportFault bytes (faults.Text e)
-  no_game : (r : Report) (e : InputError) → IsReadAs bytes r → fault_of r.position ≡ Some e → IsReportFault bytes (faults.Position e)
-  refused : (r : Report) (w : Why) → IsReadAs bytes r → IsJudged r (Refused w) → IsReportFault bytes (faults.Refused w)
+-- the report of the bytes, or the first fault: of their length, of the text, of the position
+unfoldable pub report_in : List ℕ → Result Report ReportFault
+report_in bytes = if nat_lt most_report (length bytes) then Err faults.TooLong else if_read (read_report bytes)
 
--- the status and the text that check answers to the bytes
+-- the checker's verdict on the report, for the game of its position
+abbrev pub IsJudged : Report → Verdict → Type 0
+IsJudged r v = OfGame r.position (λ S m. IsVerdict m r v)
+
+-- the status and the text that check answers to the bytes: what is wrong first, or that nothing is
 pub data IsChecked (bytes : List ℕ) : ℕ → List ℕ → Type 0 where
-  accepted : (r : Report) → IsReadAs bytes r → IsJudged r Accepted → IsChecked bytes 0 (accepted_text r)
-  faulty : (f : ReportFault) → IsReportFault bytes f → IsChecked bytes 9 (fault_text f)
+  accepted : (r : Report) → report_in bytes ≡ Ok r → IsJudged r Accepted → IsChecked bytes 0 (accepted_text r)
+  refused : (r : Report) (w : Why) → report_in bytes ≡ Ok r → IsJudged r (Refused w) → IsChecked bytes 9 (fault_text (faults.Refused w))
+  unread : (f : ReportFault) → report_in bytes ≡ Err f → IsChecked bytes 9 (fault_text f)

@@ -3,6 +3,7 @@
 
 mod bounds;
 mod check;
+mod laws;
 mod reports;
 mod run;
 mod texts;

@@ -1,0 +1,43 @@
+//! What the answers of the commands say of each other.
+
+ghost use Rattle.std.specs.Prelude.{◌≡◌, ◌≢◌, ℕ, List};
+ghost use Rattle.certificate.specs.declared.report.Ask.{Ask};
+ghost use Rattle.certificate.specs.declared.report.PositionText.{PositionText};
+ghost use Rattle.checker.specs.declared.verdict.Verdict.{Verdict};
+ghost use Rattle.checker.specs.declared.verdict.Verdict.TheVariants.{Accepted};
+ghost use Rattle.checker.specs.Verdicts.{IsVerdict};
+ghost use Rattle.lazy_workers.specs.Solutions.{IsSolution};
+ghost use Rattle.certificate.specs.Texts.{report_text};
+ghost use Rattle.certificate.specs.declared.report.Report.{Report};
+ghost use Rattle.dosolve.specs.Checks.{IsChecked};
+ghost use Rattle.dosolve.specs.Reports.{accepted_text};
+ghost use Rattle.dosolve.specs.Runs.{IsSolved};
+
+use certificate::Report;
+use checker::one_verdict;
+use sim_game::Game;
+
+/// `check` has at most one answer to the bytes of a report.
+pub fn check_has_one_answer()
+    ensures { (bytes text other : List ℕ) (status state : ℕ) → IsChecked bytes status text → IsChecked bytes state other
+        → (status ≡ state) × (text ≡ other) }
+{}
+
+/// The checker accepts each report that is a solution of its game, and has no other verdict on it.
+pub fn solutions_are_accepted<G: Game>(g: &G, r: &Report)
+    ensures accepted { (text : PositionText) (ask : Ask) → IsSolution (G.model g.now) text ask r.now
+        → IsVerdict (G.model g.now) r.now Accepted }
+    ensures only { (text : PositionText) (ask : Ask) → IsSolution (G.model g.now) text ask r.now
+        → (v : Verdict) → IsVerdict (G.model g.now) r.now v → v ≡ Accepted }
+{
+    one_verdict(g, r);
+}
+
+/// `check` accepts each report that `solve` prints, and has no other answer to it. Of `solve`'s statuses 2 alone is
+/// that of a refusal.
+pub fn printed_reports_are_accepted()
+    ensures accepted { (bytes text : List ℕ) (status : ℕ) → IsSolved bytes status text → status ≢ 2
+        → (r : Report) × (text ≡ report_text r) × IsChecked text 0 (accepted_text r) }
+    ensures only { (bytes text answer : List ℕ) (status state : ℕ) → IsSolved bytes status text → status ≢ 2
+        → IsChecked text state answer → state ≡ 0 }
+{}

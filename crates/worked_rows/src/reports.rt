@@ -18,14 +18,14 @@ fn line_at<'a>(line: &'a str, place: usize, changes: &[(usize, &'a str)]) -> &'a
     now
 }
 
-// The text of the lines, of which some are changed: an empty one is left out.
+// A text of which some lines are changed, with those left out that are changed to nothing.
 fn text_of<'a>(
     alloc: Global,
-    lines: &[&'a str],
+    base: &'a str,
     changes: &[(usize, &'a str)],
 ) -> Result<String, AllocError> {
     let mut text = String::new(alloc);
-    for (place, line) in lines.iter().enumerate() {
+    for (place, line) in base.lines().enumerate() {
         let now = line_at(line, place, &*changes);
         if !now.is_empty() {
             text.push_str(now)?;
@@ -39,41 +39,30 @@ fn check_changed<'a, G: Game>(
     rt: &impl Abort,
     alloc: Global,
     g: G,
-    lines: &[&'a str],
+    base: &'a str,
     changes: &[(usize, &'a str)],
     want: Verdict,
 ) -> Result<(), Fail> {
-    let text = text_of(alloc, &*lines, &*changes)?;
+    let text = text_of(alloc, base, &*changes)?;
     let report = read(alloc, text.as_bytes())?;
     assert_eq!(rt; check(alloc, g, &report), Ok(want), "{text}");
     Ok(())
 }
 
-const CARDS: [&str; 23] = [
-    "dosolve report 1",
-    "game goofspiel 1,3 2,3 1,1 0 margin",
-    "weight 65536",
-    "turns 1000",
-    "asked 0",
-    "resolution 62502",
-    "outcome closed",
-    "lower -500000",
-    "upper -500000",
-    "spent 3",
-    "one 5",
-    "67127548 -1000000 65536",
-    "67143933 0 65536",
-    "268454139 0 65536",
-    "268470523 -1000000 65536",
-    "335595772 -500000 32768 32768",
-    "two 5",
-    "67127548 -1000000 65536",
-    "67143933 0 65536",
-    "268454139 0 65536",
-    "268470523 -1000000 65536",
-    "335595772 -500000 32768 32768",
-    "end",
-];
+fn weights(side: Side, key: u64) -> Why {
+    Why::Weights { side, key }
+}
+
+fn idle(side: Side, key: u64) -> Why {
+    Why::Idle { side, key }
+}
+
+fn outside(side: Side, key: u64) -> Why {
+    Why::Outside { side, key }
+}
+
+const CARDS: &str =
+    "dosolve report 1\ngame goofspiel 1,3 2,3 1,1 0 margin\nweight 65536\nturns 1000\nasked 0\nresolution 62502\noutcome closed\nlower -500000\nupper -500000\nspent 3\none 5\n67127548 -1000000 65536\n67143933 0 65536\n268454139 0 65536\n268470523 -1000000 65536\n335595772 -500000 32768 32768\ntwo 5\n67127548 -1000000 65536\n67143933 0 65536\n268454139 0 65536\n268470523 -1000000 65536\n335595772 -500000 32768 32768\nend\n";
 
 #[test]
 fn two_cards_each(rt: HostRuntime) -> Result<(), Fail> {
@@ -89,7 +78,7 @@ fn two_cards_each(rt: HostRuntime) -> Result<(), Fail> {
         sum,
         need,
     };
-    check_changed(&rt, rt.alloc(), g, &CARDS, &[], Verdict::Accepted)?;
+    check_changed(&rt, rt.alloc(), g, CARDS, &[], Verdict::Accepted)?;
     let cases: [(&[(usize, &str)], Why); 10] = [
         (
             &[(7, "lower -499999"), (15, "335595772 -499999 32768 32768")],
@@ -101,10 +90,7 @@ fn two_cards_each(rt: HostRuntime) -> Result<(), Fail> {
         ),
         (
             &[(15, "335595772 -500000 32767 32768")],
-            Why::Weights {
-                side: Side::One,
-                key: root,
-            },
+            weights(Side::One, root),
         ),
         (&[(7, "lower -500001")], Why::Root { side: Side::One }),
         (&[(8, "upper -500001")], Why::Root { side: Side::Two }),
@@ -113,51 +99,18 @@ fn two_cards_each(rt: HostRuntime) -> Result<(), Fail> {
             Why::ResolutionWrong { want: 62502 },
         ),
         (&[(6, "outcome spent")], Why::OutcomeWrong),
-        (
-            &[(11, "67127548 -2000001 65536")],
-            Why::Outside {
-                side: Side::One,
-                key: won,
-            },
-        ),
-        (
-            &[(10, "one 4"), (15, "")],
-            Why::Idle {
-                side: Side::One,
-                key: won,
-            },
-        ),
-        (
-            &[(21, "335595772 -500000 32768")],
-            Why::Idle {
-                side: Side::Two,
-                key: won,
-            },
-        ),
+        (&[(11, "67127548 -2000001 65536")], outside(Side::One, won)),
+        (&[(10, "one 4"), (15, "")], idle(Side::One, won)),
+        (&[(21, "335595772 -500000 32768")], idle(Side::Two, won)),
     ];
     for (changes, why) in cases {
-        check_changed(&rt, rt.alloc(), g, &CARDS, changes, Verdict::Refused(why))?;
+        check_changed(&rt, rt.alloc(), g, CARDS, changes, Verdict::Refused(why))?;
     }
     Ok(())
 }
 
-const PUSH: [&str; 15] = [
-    "dosolve report 1",
-    "game oshi_zumo 1 2 1 1 0",
-    "weight 65536",
-    "turns 0",
-    "asked 0",
-    "resolution 31252",
-    "outcome closed",
-    "lower 1000000",
-    "upper 1000000",
-    "spent 0",
-    "one 2",
-    "16416 1000000 65536",
-    "16449 1000000 65536 0",
-    "two 0",
-    "end",
-];
+const PUSH: &str =
+    "dosolve report 1\ngame oshi_zumo 1 2 1 1 0\nweight 65536\nturns 0\nasked 0\nresolution 31252\noutcome closed\nlower 1000000\nupper 1000000\nspent 0\none 2\n16416 1000000 65536\n16449 1000000 65536 0\ntwo 0\nend\n";
 
 #[test]
 fn a_tie_and_a_push(rt: HostRuntime) -> Result<(), Fail> {
@@ -166,15 +119,9 @@ fn a_tie_and_a_push(rt: HostRuntime) -> Result<(), Fail> {
     };
     let root = 16449;
     let tied = 16416;
-    check_changed(&rt, rt.alloc(), g, &PUSH, &[], Verdict::Accepted)?;
+    check_changed(&rt, rt.alloc(), g, PUSH, &[], Verdict::Accepted)?;
     let cases: [(&[(usize, &str)], Why); 7] = [
-        (
-            &[(12, "16449 1000000 65535 0")],
-            Why::Weights {
-                side: Side::One,
-                key: root,
-            },
-        ),
+        (&[(12, "16449 1000000 65535 0")], weights(Side::One, root)),
         (
             &[(10, "one 1"), (11, "")],
             Why::Bound {
@@ -185,19 +132,10 @@ fn a_tie_and_a_push(rt: HostRuntime) -> Result<(), Fail> {
                 need: 65536000000,
             },
         ),
-        (
-            &[(12, "16449 1000000 0 65536")],
-            Why::Idle {
-                side: Side::One,
-                key: tied,
-            },
-        ),
+        (&[(12, "16449 1000000 0 65536")], idle(Side::One, tied)),
         (
             &[(7, "lower 1000001"), (12, "16449 1000001 65536 0")],
-            Why::Outside {
-                side: Side::One,
-                key: root,
-            },
+            outside(Side::One, root),
         ),
         (&[(7, "lower 999999")], Why::Root { side: Side::One }),
         (
@@ -207,7 +145,7 @@ fn a_tie_and_a_push(rt: HostRuntime) -> Result<(), Fail> {
         (&[(6, "outcome spent")], Why::OutcomeWrong),
     ];
     for (changes, why) in cases {
-        check_changed(&rt, rt.alloc(), g, &PUSH, changes, Verdict::Refused(why))?;
+        check_changed(&rt, rt.alloc(), g, PUSH, changes, Verdict::Refused(why))?;
     }
     Ok(())
 }

@@ -4,7 +4,7 @@ ghost use Rattle.sim_game.specs.Sides.{opening_bound};
 ghost use Rattle.bounds_board.specs.Views.{IsLater};
 ghost use Rattle.sim_game.specs.Model.{Reachable};
 
-use bounds_board::{BoardFault, Bounds, Enclosure, PlainBoard};
+use bounds_board::{BoardFault, Bounds, PlainBoard};
 use certificate::Pay;
 use goofspiel::Goofspiel;
 use matrix_game::Turns;
@@ -71,13 +71,16 @@ fn step_root<G: Game, B: Bounds<G>>(
 }
 
 // What the board has at the root.
-fn root_bounds<G: Game, B: Bounds<G>>(rt: &impl Abort, g: G, board: &mut B) -> Option<Enclosure>
+fn root_bounds<G: Game, B: Bounds<G>>(rt: &impl Abort, g: G, board: &mut B) -> Option<(i64, i64)>
     requires game { (B.view board.old).game ≡ g }
 {
     let root = g.root();
     assert!(rt; g.rank(root) >= 1);
     match board.claim(g.key(root)) {
-        Ok(row) => Some(board.read(row)),
+        Ok(row) => {
+            let found = board.read(row);
+            Some((found.lower, found.upper))
+        }
         Err(_) => None,
     }
 }
@@ -88,7 +91,7 @@ fn third_step(
     rt: &impl Abort,
     alloc: Global,
     limit: u64,
-) -> Result<(Result<StepEnd, StepFault>, Option<Enclosure>, Restricted), Fail> {
+) -> Result<(Result<StepEnd, StepFault>, Option<(i64, i64)>, Restricted), Fail> {
     let Ok(g) = Goofspiel::new(&[1, 3], &[2, 3], &[1, 1], 0, Pay::Margin) else {
         panic!(rt; "the position is valid");
     };
@@ -131,13 +134,7 @@ fn a_restricted_game_grows_to_the_whole(rt: HostRuntime) -> Result<(), Fail> {
             upper: -500000
         })
     );
-    assert_eq!(rt;
-        found,
-        Some(Enclosure {
-            lower: -500000,
-            upper: -500000
-        })
-    );
+    assert_eq!(rt; found, Some((-500000, -500000)));
     assert_eq!(rt; held.rows(), [0, 1].as_slice());
     assert_eq!(rt; held.cols(), [0, 1].as_slice());
     Ok(())
@@ -147,13 +144,7 @@ fn a_restricted_game_grows_to_the_whole(rt: HostRuntime) -> Result<(), Fail> {
 fn a_step_without_a_turn_changes_nothing(rt: HostRuntime) -> Result<(), Fail> {
     let (third, found, held) = third_step(&rt, rt.alloc(), 2)?;
     assert_eq!(rt; third, Err(StepFault::Spent));
-    assert_eq!(rt;
-        found,
-        Some(Enclosure {
-            lower: -1000000,
-            upper: 0
-        })
-    );
+    assert_eq!(rt; found, Some((-1000000, 0)));
     assert_eq!(rt; held.rows(), [0, 1].as_slice());
     assert_eq!(rt; held.cols(), [0, 1].as_slice());
     Ok(())
@@ -179,12 +170,6 @@ fn a_search_leaves_most_states_out(rt: HostRuntime) -> Result<(), Fail> {
         &mut board,
     )?;
     assert_eq!(rt; end, SearchEnd::Reached, "69 states are no ends");
-    assert_eq!(rt;
-        root_bounds(&rt, g, &mut board),
-        Some(Enclosure {
-            lower: 4000000,
-            upper: 4000000
-        })
-    );
+    assert_eq!(rt; root_bounds(&rt, g, &mut board), Some((4000000, 4000000)));
     Ok(())
 }

@@ -16,19 +16,19 @@ use Rattle.plan_book.specs.Entries.{IsEntry}
 use Rattle.sim_game.proofs.SideLemmas.{looser_refl, looser_trans, looser_left, looser_right, side_turn, end_range}
 use Rattle.sim_game.proofs.ReachLemmas.{reachable_turn}
 use Rattle.bounds_board.specs.declared.slots.Slot.{Slot}
-use Rattle.bounds_board.specs.Slots.{free_slot, slot_at, key_in, bound_of, row_after, IsOther, IsPlace, IsMet}
+use Rattle.bounds_board.specs.Slots.{free_slot, slot_at, key_in, bound_of, scattered, row_after, IsOther, IsPlace, IsMet}
 use Rattle.bounds_board.specs.Plain.{IsPlain, IsProbed, IsHeld, plain_view}
 use Rattle.bounds_board.specs.Views.{BoardView, IsLater, IsInnerKey, IsEnclosure, IsSeenNumber, by_end, by_opening, by_seen}
 use Rattle.plan_book.proofs.BookLemmas.{best_backed, best_range, best_push, best_grows, best_has, best_opening, eqb_self, eqb_other, cond_and, cond_and_false}
 
--- each row is tried
-pub row_met : (rows k i : ℕ) → i < rows → (u : ℕ) × (u < rows) × (row_after rows k u ≡ i)
+-- each row is tried, from any number's remainder on
+pub row_met : (rows k i : ℕ) → i < rows → (u : ℕ) × (u < rows) × ((k % rows + u) % rows ≡ i)
 row_met rows k i l = let h : ℕ = k % rows in let low : h < rows = mod-lt k (omega arith) in ⊎_elim
     (λ (lt : i < h). (i + rows - h, omega arith, let sum : h + (i + rows - h) ≡ i + rows = omega arith in ap (λ (z : ℕ). z % rows) sum ∙ (add-mod_right i rows ∙ mod-eq_of_lt l)))
     (λ (ge : h ≤ i). (i - h, omega arith, let sum : h + (i - h) ≡ i = omega arith in ap (λ (z : ℕ). z % rows) sum ∙ mod-eq_of_lt l)) (cases_lt i h)
 
 pub none_held : (slots : List Slot) (key : ℕ) → ((t : ℕ) → t < length slots → IsOther slots key (row_after (length slots) key t)) → (row : ℕ) → row < length slots → IsOther slots key row
-none_held slots key passed row l = let u = row_met (length slots) key row l in subst (λ (z : ℕ). IsOther slots key z) u.2 (passed u.0 u.1)
+none_held slots key passed row l = let u = row_met (length slots) (scattered key) row l in subst (λ (z : ℕ). IsOther slots key z) u.2 (passed u.0 u.1)
 
 -- a row that has a key is a row of the board
 pub held_inside : (slots : List Slot) (row key : ℕ) → key_in slots row ≡ Some key → row < length slots
@@ -308,7 +308,7 @@ opening_returned m One x game e = let a = game.low_least in let b = game.high_mo
 opening_returned m Two x game e = let a = game.low_least in let b = game.high_most in let c = game.low_high in omega (arith, ints)
 
 pub place_inside : (slots : List Slot) (key row : ℕ) → IsPlace slots key row → row < length slots
-place_inside slots key row place = let some : 0 < length slots = omega (arith, place.inside) in subst (λ (z : ℕ). z < length slots) (sym place.here) (mod-lt (key % length slots + place.tried) some)
+place_inside slots key row place = let some : 0 < length slots = omega (arith, place.inside) in subst (λ (z : ℕ). z < length slots) (sym place.here) (mod-lt (scattered key % length slots + place.tried) some)
 
 -- a slot that was read is the one at the row
 pub slot_is : (slots : List Slot) (row : ℕ) (slot : Slot) → row < length slots → slot ≡ get_or slots row slot → slot ≡ slot_at slots row

@@ -1,14 +1,18 @@
 -- The rows of a plain board.
-use Rattle.std.specs.Prelude.{◌≡◌, ◌≢◌, ℕ, ◌+◌, ◌%◌, ◌<◌, ℤ, pos, cond, Option, None, Some, IsSome, List, length, slice_index_or}
+use Rattle.std.specs.Prelude.{◌≡◌, ◌≢◌, ℕ, ◌+◌, ◌*◌, ◌/◌, ◌%◌, ◌<◌, ℤ, pos, cond, Option, None, Some, IsSome, List, length, slice_index_or}
 use Rattle.sim_game.specs.declared.Side.{Side}
 use Rattle.sim_game.specs.declared.Side.TheVariants.{One, Two}
 use Rattle.sim_game.specs.Sides.{better}
 use Rattle.plan_book.specs.Books.{same_side}
 use Rattle.bounds_board.specs.declared.slots.Slot.{Slot}
 
+-- keys that differ in few fields, scattered over all numbers: the middle of a sum of products of both halves
+abbrev pub scattered : ℕ → ℕ
+scattered key = (key / 4294967296 * 1640531527 + key % 4294967296 * 2135587861) / 65536
+
 -- the row that a claim of the key tries after so many others
 abbrev pub row_after : ℕ → ℕ → ℕ → ℕ
-row_after rows key tried = (key % rows + tried) % rows
+row_after rows key tried = (scattered key % rows + tried) % rows
 
 abbrev pub free_slot : Slot
 free_slot = record { key = None; lower = pos 0; upper = pos 0 }

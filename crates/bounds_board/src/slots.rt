@@ -1,6 +1,6 @@
 //! The rows of a plain board.
 ghost use Rattle.std.specs.Prelude.{◌≡◌, ℕ, ◌≤◌, ◌<◌, ◌^◌, length, Some, IfSome, IfNone, IfOk, replicate};
-ghost use Rattle.bounds_board.specs.Slots.{IsOther, IsPlace, IsMet, key_in};
+ghost use Rattle.bounds_board.specs.Slots.{scattered, IsOther, IsPlace, IsMet, key_in};
 
 use sim_game::Side;
 
@@ -12,6 +12,14 @@ pub struct Slot {
     pub upper: i64,
 }
 
+/// Where the rows of a key begin, not yet brought into their range. Keys are packed fields, which differ in few bits; this
+/// scatters them, so that rows are found with few tries (multiplicative hashing).
+fn scattered(key: u64) -> u64
+    ensures { result ≡ scattered key }
+{
+    (key / 4_294_967_296 * 1_640_531_527 + key % 4_294_967_296 * 2_135_587_861) / 65_536
+}
+
 /// The first row from the key's home that is free or has the key.
 pub(crate) fn find_place(slots: &[Slot], key: u64) -> Option<u32>
     requires rows_low { 1 ≤ length slots.now }
@@ -20,7 +28,7 @@ pub(crate) fn find_place(slots: &[Slot], key: u64) -> Option<u32>
     ensures none { IfNone result ((row : ℕ) → row < length slots.now → IsOther slots.now key row) }
 {
     let rows = slots.len() as u64;
-    let home = key % rows;
+    let home = scattered(key) % rows;
     for tried in 0..rows {
         let row = (home + tried) % rows;
         match slots[row as usize].key {

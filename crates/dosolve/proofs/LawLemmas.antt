@@ -138,8 +138,7 @@ built bytes task is =
 -- ---- what solve writes as a report is accepted
 pub reported_accepted : (bytes text : List ℕ) (status : ℕ) → IsSolved bytes status text → ¬ (status ≡ 2) → (r : Report) × (text ≡ report_text r) × IsChecked text 0 (accepted_text r)
 reported_accepted bytes _ _ (IsSolved.refused e is) not = absurd (not refl)
-reported_accepted bytes _ _ (IsSolved.not_built task is unbuilt) not = absurd (not refl)
-reported_accepted bytes _ _ (IsSolved.reported task r is can solves again) not =
+reported_accepted bytes _ _ (IsSolved.reported task r is solves again) not =
     let P : (S : Type 0) → GameModel S → Type 0 = λ S m. IsSolution m task.text task.ask r in
     let position : r.position ≡ task.text = of_one_game task.text P P (r.position ≡ task.text) (λ S m game p q. p.of_ask.position) solves solves in
     let in_range : IsInRange r = of_one_game task.text P P (IsInRange r) (λ S m game p q. p.in_range) solves solves in

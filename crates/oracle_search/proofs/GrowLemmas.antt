@@ -150,13 +150,13 @@ apart_more keys key apart not i j l h same =
     (cases_lt j (length keys))
 
 module _ {S G N : Type 0} (m : GameModel S) (game : IsGame m) (s : S) (r : Reachable m s) (goes_on : 1 ≤ m.rank s) where
-  finished_now : (total limit : ℕ) (v : BoardView G N) → m.rank s < limit → IsClose m total v s → IsFinished m total v limit (m.key s)
-  finished_now total limit v below close = record { state = s; reachable = r; goes_on = goes_on; below = below; is_key = refl; close = close }
+  finished_now : (total limit : ℕ) (v : BoardView G N) (row : ℕ) → v.key_at row ≡ Some (m.key s) → m.rank s < limit → IsClose m total v s → IsFinished m total v limit (m.key s)
+  finished_now total limit v row held below close = record { state = s; reachable = r; goes_on = goes_on; below = below; is_key = refl; row = row; held = held; close = close }
 
   -- a search that finished its state, whose key was added
-  pub added_worked : (u v : WorkView G N) (new : FinishedView) → IsWorked m (m.rank s) u v → new ≡ record v.settled { keys = v.settled.keys ++ m.key s ∷ [] }
+  pub added_worked : (u v : WorkView G N) (new : FinishedView) (row : ℕ) → v.board.key_at row ≡ Some (m.key s) → IsWorked m (m.rank s) u v → new ≡ record v.settled { keys = v.settled.keys ++ m.key s ∷ [] }
       → (Contains v.settled.keys (m.key s) → ⊥) → IsClose m v.board.total v.board s → IsWorked m (m.rank s + 1) u (record v { settled = new })
-  added_worked u v new worked is not close =
+  added_worked u v new row held worked is not close =
       let key = m.key s in
       let total = v.board.total in
       let keys : new.keys ≡ v.settled.keys ++ key ∷ [] = ap (λ (f : FinishedView). f.keys) is in
@@ -164,7 +164,7 @@ module _ {S G N : Type 0} (m : GameModel S) (game : IsGame m) (s : S) (r : Reach
       let more : IsExtended m total v.board (m.rank s + 1) v.settled new = record {
         more = key ∷ [];
         joins = keys;
-        each = All-push (IsFinished m total v.board (m.rank s + 1)) [] key (All-nil (IsFinished m total v.board (m.rank s + 1))) (finished_now total (m.rank s + 1) v.board (omega arith) close);
+        each = All-push (IsFinished m total v.board (m.rank s + 1)) [] key (All-nil (IsFinished m total v.board (m.rank s + 1))) (finished_now total (m.rank s + 1) v.board row held (omega arith) close);
         full = λ e. ap (λ (f : FinishedView). f.was_full) is ∙ e;
       } in
       record {
@@ -173,7 +173,7 @@ module _ {S G N : Type 0} (m : GameModel S) (game : IsGame m) (s : S) (r : Reach
         visits = worked.visits;
         settled = extended_after m total (m.rank s) (m.rank s + 1) (m.rank s + 1) v.board v.board u.settled v.settled new (later_refl v.board) (omega arith) (omega arith) worked.settled more;
         finished = subst (λ (l : List ℕ). AreFinished m total v.board l) (sym keys) (record {
-          each = All-push (IsFinished m total v.board 32) v.settled.keys key worked.finished.each (finished_now total 32 v.board (omega arith) close);
+          each = All-push (IsFinished m total v.board 32) v.settled.keys key worked.finished.each (finished_now total 32 v.board row held (omega arith) close);
           apart = apart_more v.settled.keys key worked.finished.apart not;
         });
         cause = λ e. worked.cause (sym (ap (λ (f : FinishedView). f.was_full) is) ∙ e);

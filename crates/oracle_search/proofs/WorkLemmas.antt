@@ -43,6 +43,8 @@ module _ {S G N : Type 0} (m : GameModel S) where
     goes_on = f.goes_on;
     below = f.below;
     is_key = f.is_key;
+    row = f.row;
+    held = later.keys f.row key f.held;
     close = λ stage is. within_later v w (m.key f.state) (pos (rank_gap m stage (m.rank f.state))) later (f.close stage is);
   }
 
@@ -54,7 +56,7 @@ module _ {S G N : Type 0} (m : GameModel S) where
 
   finished_wider : (total a b key : ℕ) (v : BoardView G N) → a ≤ b → IsFinished m total v a key → IsFinished m total v b key
   finished_wider total a b key v wider f =
-      let below = f.below in record { state = f.state; reachable = f.reachable; goes_on = f.goes_on; below = omega arith; is_key = f.is_key; close = f.close }
+      let below = f.below in record { state = f.state; reachable = f.reachable; goes_on = f.goes_on; below = omega arith; is_key = f.is_key; row = f.row; held = f.held; close = f.close }
 
   pub pure_later : (s : S) (v w : BoardView G N) → IsLater v w → IsPureTight m s v → IsPureTight m s w
   pure_later s v w later pure side = looser_trans side (serial_bound m side s) (v.seen side (m.key s)) (w.seen side (m.key s)) (pure side) (later.seen side (m.key s))

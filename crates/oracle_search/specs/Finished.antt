@@ -1,5 +1,5 @@
 -- The states that a worker has finished, and when a state counts as finished.
-use Rattle.std.specs.Prelude.{◌≡◌, ◌≢◌, ℕ, ◌+◌, ◌*◌, ◌<◌, ◌≤◌, ℤ, pos, ◌+ℤ◌, ◌≤ℤ◌, ◌<ℤ◌, Bool, true, cond, List, ◌++◌, length, slice_index, All}
+use Rattle.std.specs.Prelude.{◌≡◌, ◌≢◌, ℕ, ◌+◌, ◌*◌, ◌<◌, ◌≤◌, ℤ, pos, ◌+ℤ◌, ◌≤ℤ◌, ◌<ℤ◌, Bool, true, cond, Some, List, ◌++◌, length, slice_index, All}
 use Rattle.sim_game.specs.declared.Side.TheVariants.{One, Two}
 use Rattle.sim_game.specs.Model.{GameModel, Reachable}
 use Rattle.sim_game.specs.Resolution.{IsStageGap}
@@ -26,13 +26,15 @@ rank_gap m stage rank = rank * (stage + 1 + cond m.chance_free 0 1)
 abbrev pub IsClose : {S G N : Type 0} → GameModel S → ℕ → BoardView G N → S → Type 0
 IsClose m total v s = (stage : ℕ) → IsStageGap m total stage → IsWithin v (m.key s) (pos (rank_gap m stage (m.rank s)))
 
--- the key is that of a reachable state that is no end, of a rank below the limit, whose bounds are as close as its rank allows
+-- the key is that of a reachable state that is no end, of a rank below the limit, which has a row, and whose bounds are as close as its rank allows
 pub record IsFinished {S G N : Type 0} (m : GameModel S) (total : ℕ) (v : BoardView G N) (limit key : ℕ) : Type 0 where
   pub state : S
   pub reachable : Reachable m state
   pub goes_on : 1 ≤ m.rank state
   pub below : m.rank state < limit
   pub is_key : m.key state ≡ key
+  pub row : ℕ
+  pub held : v.key_at row ≡ Some key
   pub close : IsClose m total v state
 
 -- no key stands twice

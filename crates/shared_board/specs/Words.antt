@@ -1,11 +1,14 @@
 -- The words of a board. Word 0 is always 0. A row has three words: its key plus 1, or 0 while it is free, its lower bound and its upper bound, each plus 4000000000.
-use Rattle.std.specs.Prelude.{◌≡◌, ℕ, ◌+◌, ◌-◌, ◌*◌, ◌<◌, ◌≤◌, suc, min, max, ℤ, pos, negsuc, ◌-ℤ◌, List, length, slice_index}
+use Rattle.std.specs.Prelude.{◌≡◌, ℕ, ◌+◌, ◌-◌, ◌*◌, ◌%◌, ◌<◌, ◌≤◌, suc, min, max, ℤ, pos, negsuc, ◌-ℤ◌, List, length, slice_index}
 use Rattle.sim_game.specs.declared.Side.{Side}
 use Rattle.sim_game.specs.declared.Side.TheVariants.{One, Two}
 use Rattle.sim_game.specs.Model.{GameModel, Reachable}
 use Rattle.sim_game.specs.Sides.{opening_bound}
 use Rattle.plan_book.specs.Backed.{IsBacked}
-pub use Rattle.bounds_board.specs.Slots.{row_after}
+
+-- the row that a claim of the key tries after so many others, from the key's home on
+abbrev pub row_after : ℕ → ℕ → ℕ → ℕ
+row_after rows key tried = (key % rows + tried) % rows
 
 abbrev pub key_word : ℕ → ℕ
 key_word i = 3 * i + 1

@@ -117,7 +117,9 @@ children::search_child-returns-in-Ok-add-clause-worked g t c =
     let rank = c.rank.ensures in let some = c.if-rank-eq0.false in let goes_on : 1 ≤ m.rank c.args.s = omega arith in
     let is : c.add.new.self ≡ record c.search.new.settled { keys = c.search.new.settled.keys ++ m.key c.args.s ∷ [] } = subst (λ (key : ℕ). c.add.new.self ≡ record c.search.new.settled { keys = c.search.new.settled.keys ++ key ∷ [] }) c.key-key.ensures c.in-Ok-add.ensures.ok in
     let stop : stop_of c.in-Ok-search.end ≡ None = sym c.stop.ensures ∙ c.in-None.is in
-    added_worked m (g.met.G.Game.lawful c.args.g) c.args.s c.requires.reachable goes_on u x c.add.new.self worked is (λ has. not_again m (g.met.G.Game.lawful c.args.g) c.args.s c.requires.reachable (g.B.Bounds.view c.search.new.board).total (g.B.Bounds.view c.search.new.board) c.args.settled.now c.search.new.settled c.search.ensures.worked.settled (subst (λ (key : ℕ). Contains c.args.settled.now.keys key → ⊥) c.key-key.ensures c.if-has.ensures) has)
+    let claimed : (g.B.Bounds.view c.claim.new.self).key_at c.in-Ok.row ≡ Some (m.key c.args.s) = subst (λ (key : ℕ). (g.B.Bounds.view c.claim.new.self).key_at c.in-Ok.row ≡ Some key) c.key-key.ensures c.in-Ok.ensures.ok in
+    let held : x.board.key_at c.in-Ok.row ≡ Some (m.key c.args.s) = c.search.ensures.worked.board.later.keys c.in-Ok.row (m.key c.args.s) (c.gap_at.ensures.later.keys c.in-Ok.row (m.key c.args.s) claimed) in
+    added_worked m (g.met.G.Game.lawful c.args.g) c.args.s c.requires.reachable goes_on u x c.add.new.self c.in-Ok.row held worked is (λ has. not_again m (g.met.G.Game.lawful c.args.g) c.args.s c.requires.reachable (g.B.Bounds.view c.search.new.board).total (g.B.Bounds.view c.search.new.board) c.args.settled.now c.search.new.settled c.search.ensures.worked.settled (subst (λ (key : ℕ). Contains c.args.settled.now.keys key → ⊥) c.key-key.ensures c.if-has.ensures) has)
     (ended_close m c.args.s x c.in-Ok-search.end goes_on stop c.in-Ok-search.ensures.ends)
 
 pub children::search_child-returns-in-Ok-add-clause-done : goal.children::search_child-returns-in-Ok-add-clause-done

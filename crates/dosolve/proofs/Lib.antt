@@ -1,3 +1,4 @@
 pub mod BoundedLemmas
 pub mod RunLemmas
 pub mod CheckLemmas
+pub mod SampleLemmas

@@ -5,6 +5,7 @@ mod bounds;
 mod check;
 mod reports;
 mod run;
+mod sample;
 mod texts;
 mod words;
 

@@ -25,11 +25,12 @@ sample_prizes n = rotated_left (n % 5) sample_cards
 abbrev pub sample_position : ℕ → PositionText
 sample_position n = Goofspiel sample_cards sample_cards (sample_prizes n) (pos 0) Margin
 
--- turns, visits and rows enough for each sample
+-- what is asked for each sample
 abbrev pub sample_ask : Ask
 sample_ask = record { gap = pos 0; weight = 8192; turns = 262144; visits = 40000; rows = 65536; workers = 1 }
 
 -- ---- what is found
+-- both bounds and the gap between them
 abbrev pub bounds_words : Report → List ℕ
 bounds_words r = codes "lower " ++ (signed_decimal r.lower ++ (codes " upper " ++ (signed_decimal r.upper ++ (codes " gap " ++ signed_decimal (gap_of r)))))
 

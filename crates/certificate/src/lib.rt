@@ -15,6 +15,7 @@ mod writing;
 
 pub use error::TextError;
 pub use goofspiel::Pay;
+pub use numbers::natural;
 pub use reading::{read, reading_undoes_writing};
 pub use report::{Ask, Outcome, PositionText, Report};
 pub use text::Text;

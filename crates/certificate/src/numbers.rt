@@ -37,9 +37,9 @@ fn number(text: &[u8]) -> Option<u64>
     digits(text)
 }
 
-/// The number from `low` to `high` that is written so.
+/// The number from `low` to `high` that the decimal digits spell, without a zero before others.
 #[tactic(auto, unfolding(crate::specs::Numbers::natural_in))]
-pub(crate) fn natural(text: &[u8], low: u64, high: u64) -> Option<u64>
+pub fn natural(text: &[u8], low: u64, high: u64) -> Option<u64>
     ensures exact { result ≡ natural_in low high text.now }
     ensures low { IfSome result (λ n. low ≤ n) }
     ensures high { IfSome result (λ n. n ≤ high) }

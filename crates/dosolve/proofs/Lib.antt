@@ -3,3 +3,4 @@ pub mod RunLemmas
 pub mod CheckLemmas
 pub mod LawLemmas
 pub mod LengthLemmas
+pub mod SampleLemmas

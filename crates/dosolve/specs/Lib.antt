@@ -4,4 +4,5 @@ pub mod Games
 pub mod Reports
 pub mod Checks
 pub mod Bounded
+pub mod Samples
 pub mod Runs

@@ -13,11 +13,14 @@ use Rattle.position.specs.Taken.{TakesAtMost, AppendsFront}
 use Rattle.lazy_workers.specs.Solutions.{IsSolution}
 use Rattle.sim_game.specs.declared.NoMemory.{NoMemory}
 use Rattle.dosolve.specs.declared.run.Answer.{Answer}
+use Rattle.dosolve.specs.declared.words.ReadingCommand.{ReadingCommand}
+use Rattle.dosolve.specs.declared.words.ReadingCommand.TheVariants.{Solve, Check, Bounds}
 use Rattle.dosolve.specs.declared.words.Command.{Command}
-use Rattle.dosolve.specs.declared.words.Command.TheVariants.{Solve, Check, Bounds}
+use Rattle.dosolve.specs.declared.words.Command.TheVariants.{Reading, Sample}
 use Rattle.dosolve.specs.Games.{OfGame}
 use Rattle.dosolve.specs.Checks.{most_report, IsChecked}
 use Rattle.dosolve.specs.Bounded.{IsBounded}
+use Rattle.dosolve.specs.Samples.{IsSampleReport, sample_line}
 use Rattle.dosolve.specs.Texts.{usage_text, input_text}
 
 -- ---- answers
@@ -33,16 +36,25 @@ pub data IsSolved (bytes : List ℕ) : ℕ → List ℕ → Type 0 where
   reported : (task : TaskText) (r : Report) → position_of bytes ≡ Ok task → OfGame task.text (λ S m. IsSolution m task.text task.ask r) → read_report (report_text r) ≡ Ok r
       → IsSolved bytes (status_of r.outcome) (report_text r)
 
--- to the words that are no command, or to the bytes that a command is given
+-- the status and the text that sample answers to a number
+pub data IsSampled (number : ℕ) : ℕ → List ℕ → Type 0 where
+  reported : (r : Report) → IsSampleReport number r → IsSampled number (status_of r.outcome) (sample_line number r)
+
+-- to the bytes that a command is given
+abbrev pub IsAnswerTo : ReadingCommand → List ℕ → ℕ → List ℕ → Type 0
+IsAnswerTo Solve bytes status text = IsSolved bytes status text
+IsAnswerTo Check bytes status text = IsChecked bytes status text
+IsAnswerTo Bounds bytes status text = IsBounded bytes status text
+
+-- to the words that are no command, to the number of a sample, or to the bytes that a command is given
 abbrev pub IsAnswer : Option Command → List ℕ → ℕ → List ℕ → Type 0
 IsAnswer None bytes status text = (status ≡ 1) × (text ≡ usage_text)
-IsAnswer (Some Solve) bytes status text = IsSolved bytes status text
-IsAnswer (Some Check) bytes status text = IsChecked bytes status text
-IsAnswer (Some Bounds) bytes status text = IsBounded bytes status text
+IsAnswer (Some (Sample number)) bytes status text = IsSampled number status text
+IsAnswer (Some (Reading command)) bytes status text = IsAnswerTo command bytes status text
 
 -- ---- what is taken
 -- how many bytes a command reads
-abbrev pub limit_of : Command → ℕ
+abbrev pub limit_of : ReadingCommand → ℕ
 limit_of Solve = 1048576
 limit_of Check = most_report
 limit_of Bounds = 1048576
@@ -52,14 +64,16 @@ pub record IsInput (limit : ℕ) (old new : Option (List ℕ)) (bytes : List ℕ
   pub taken : Consumes old new bytes
   pub whole : (length bytes ≤ limit × IsAtEnd new) ⊎ (length bytes ≡ limit + 1)
 
--- words that are no command leave the source as it was
+-- words that are no command, and sample, leave the source as it was
 abbrev pub IsTaken : Option Command → Option (List ℕ) → Option (List ℕ) → List ℕ → Type 0
 IsTaken None old new bytes = new ≡ old
-IsTaken (Some command) old new bytes = IsInput (limit_of command) old new bytes
+IsTaken (Some (Sample number)) old new bytes = new ≡ old
+IsTaken (Some (Reading command)) old new bytes = IsInput (limit_of command) old new bytes
 
 abbrev pub IsTakenInPart : Option Command → Option (List ℕ) → Option (List ℕ) → Type 0
 IsTakenInPart None old new = new ≡ old
-IsTakenInPart (Some command) old new = TakesAtMost old new (limit_of command + 1)
+IsTakenInPart (Some (Sample number)) old new = new ≡ old
+IsTakenInPart (Some (Reading command)) old new = TakesAtMost old new (limit_of command + 1)
 
 -- ---- runs
 -- the source and the sink, before and after

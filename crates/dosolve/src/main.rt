@@ -6,6 +6,7 @@ mod check;
 mod laws;
 mod reports;
 mod run;
+mod sample;
 mod texts;
 mod words;
 

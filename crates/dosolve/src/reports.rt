@@ -41,7 +41,7 @@ pub(crate) fn accepted_text(alloc: Global, report: &Report) -> Result<Vec<u8>, N
     Ok(text.into_bytes())
 }
 
-fn outcome(text: &mut Text, outcome: Outcome) -> Result<(), NoMemory>
+pub(crate) fn outcome(text: &mut Text, outcome: Outcome) -> Result<(), NoMemory>
     ensures { OnOk result (Adds text.old text.new (outcome_word outcome)) }
 {
     match outcome {

@@ -7,13 +7,14 @@ ghost use Rattle.certificate.specs.Reading.{read_report};
 ghost use Rattle.certificate.specs.Ranges.{IsInRange};
 ghost use Rattle.dosolve.specs.Words.{command_of};
 ghost use Rattle.dosolve.specs.Texts.{usage_text, input_text};
-ghost use Rattle.dosolve.specs.Runs.{status_of, IsSolved, IsAnswer, limit_of, IsRun, devices, IsWritten};
+ghost use Rattle.dosolve.specs.Runs.{status_of, IsSolved, IsAnswerTo, limit_of, IsRun, devices, IsWritten};
 
 use crate::bounds::bounded;
 use crate::check::{checked, faulty};
 use crate::reports::ReportFault;
+use crate::sample::sampled;
 use crate::texts::input_text;
-use crate::words::{Command, command_of};
+use crate::words::{Command, ReadingCommand, command_of};
 use certificate::{Outcome, write};
 use lazy_workers::{Solved, solve};
 use oracle_search::Gate;
@@ -48,7 +49,8 @@ pub(crate) fn run<R: Threads + Sync, S: Source, K: Sink, T: Gate + Sync>(
 {
     match command_of(words) {
         None => respond(sink, usage(alloc)),
-        Some(command) => match read_all(alloc, source, limit_of(command)) {
+        Some(Command::Sample(number)) => respond(sink, sampled(rt, alloc, number, gate)),
+        Some(Command::Reading(command)) => match read_all(alloc, source, limit_of(command)) {
             Ok(bytes) => respond(sink, answer_to(rt, alloc, command, &bytes, gate)),
             Err(ReadError::TooLong) => respond(sink, too_long(alloc, command)),
             Err(ReadError::Failed) => 6,
@@ -58,13 +60,13 @@ pub(crate) fn run<R: Threads + Sync, S: Source, K: Sink, T: Gate + Sync>(
 }
 
 /// The most bytes that a command reads.
-fn limit_of(command: Command) -> u64
+fn limit_of(command: ReadingCommand) -> u64
     ensures { result ≡ limit_of command }
 {
     match command {
-        Command::Solve => 1_048_576,
-        Command::Check => 1_073_741_824,
-        Command::Bounds => 1_048_576,
+        ReadingCommand::Solve => 1_048_576,
+        ReadingCommand::Check => 1_073_741_824,
+        ReadingCommand::Bounds => 1_048_576,
     }
 }
 
@@ -72,29 +74,29 @@ fn limit_of(command: Command) -> u64
 fn answer_to<R: Threads + Sync, T: Gate + Sync>(
     rt: &R,
     alloc: Global,
-    command: Command,
+    command: ReadingCommand,
     bytes: &[u8],
     gate: &T,
 ) -> Result<Answer, NoMemory>
     requires { length bytes.now ≤ limit_of command }
-    ensures { IfOk result (λ a. IsAnswer (Some command) bytes.now a.status a.text) }
+    ensures { IfOk result (λ a. IsAnswerTo command bytes.now a.status a.text) }
 {
     match command {
-        Command::Solve => solved(rt, alloc, bytes, gate),
-        Command::Check => checked(alloc, bytes),
-        Command::Bounds => bounded(alloc, bytes),
+        ReadingCommand::Solve => solved(rt, alloc, bytes, gate),
+        ReadingCommand::Check => checked(alloc, bytes),
+        ReadingCommand::Bounds => bounded(alloc, bytes),
     }
 }
 
 /// The answer to more bytes than the command reads.
-fn too_long(alloc: Global, command: Command) -> Result<Answer, NoMemory>
+fn too_long(alloc: Global, command: ReadingCommand) -> Result<Answer, NoMemory>
     ensures { IfOk result (λ a. (bytes : List ℕ) → length bytes ≡ limit_of command + 1
-        → IsAnswer (Some command) bytes a.status a.text) }
+        → IsAnswerTo command bytes a.status a.text) }
 {
     match command {
-        Command::Solve => refused(alloc, InputError::TooLong),
-        Command::Check => faulty(alloc, ReportFault::TooLong),
-        Command::Bounds => refused(alloc, InputError::TooLong),
+        ReadingCommand::Solve => refused(alloc, InputError::TooLong),
+        ReadingCommand::Check => faulty(alloc, ReportFault::TooLong),
+        ReadingCommand::Bounds => refused(alloc, InputError::TooLong),
     }
 }
 
@@ -177,7 +179,7 @@ fn reported(alloc: Global, found: Result<Solved, NoMemory>) -> Result<Answer, No
     }
 }
 
-fn status_of(outcome: Outcome) -> u8
+pub(crate) fn status_of(outcome: Outcome) -> u8
     ensures { result ≡ status_of outcome }
 {
     match outcome {

@@ -8,7 +8,7 @@ fi
 here=$(dirname "$0")
 report=$(mktemp) || exit 2
 trap 'rm -f "$report"' EXIT
-python3 "$here/make_report.py" "$1" 8 1,2,4,8,16,32,5,3 > "$report" || exit 1
+python3 "$here/make_report.py" "$1" 8 100,50,25,12,6,3,2,1 > "$report" || exit 1
 echo "rows: $(grep -c '^[0-9]' "$report"), bytes: $(stat -c %s "$report")"
 for i in 1 2 3; do
     for program in "$@"; do

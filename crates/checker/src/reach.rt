@@ -45,13 +45,13 @@ fn gather<G: Game>(
     ensures states { IfOk result (λ _. AreStates (G.model g) sheet.now (get nat_cmp found.new)) }
 {
     let key = g.key(s);
+    if found.contains_key(&key) {
+        return Ok(());
+    }
     let rows = sheet.rows.as_slice();
     let Some(place) = place_of(rows, key) else {
         return Ok(());
     };
-    if found.contains_key(&key) {
-        return Ok(());
-    }
     found.insert(key, s)?;
     let below = children(alloc, g, sheet.side, rows[place].weights.as_slice(), s)?;
     for child in &below {

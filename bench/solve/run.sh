@@ -1,5 +1,5 @@
 #!/usr/bin/env bash
-# run.sh PROGRAM [OTHER]: times whole games, serial searches alone, and several workers. Where another program with the
+# run.sh PROGRAM [OTHER]: times whole games, and several workers. Where another program with the
 # same commands is given, each case runs with both, one after the other, and the answers are compared.
 set -u
 if [ $# -lt 1 ]; then
@@ -42,10 +42,6 @@ one() { # label, command, position, programs
 
 echo "| case | program | wall s | user s | MB | turns | gap | |"
 echo "|---|---|---|---|---|---|---|---|"
-for i in 1 2 3; do
-    one "serial searches, Goofspiel 6 cards" bounds "$(goofspiel 6)$(ask 0 $huge 1048576 1)" "$@"
-    one "serial searches, Tron 5 by 5" bounds "$(tron 5 5)$(ask 0 $huge 1048576 1)" "$@"
-done
 one "Oshi-Zumo 8 fields, 31 coins, no turns" solve "$(oshi_zumo 8 31)$(ask 0 1000000 1048576 1)" "$@"
 one "Goofspiel 5 cards" solve "$(goofspiel 5)$(ask $huge $huge 65536 1)" "$@"
 one "Goofspiel 6 cards" solve "$(goofspiel 6)$(ask $huge $huge 65536 1)" "$@"

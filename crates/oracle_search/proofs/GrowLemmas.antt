@@ -7,6 +7,7 @@ use Rattle.std.proofs.lemmas.List.Elements.{All-contains, All-from_get_or, All-n
 use Rattle.sim_game.specs.declared.Side.TheVariants.{One, Two}
 use Rattle.sim_game.specs.Model.{GameModel, IsGame, IsTurn, Reachable}
 use Rattle.sim_game.specs.Resolution.{IsStageGap}
+use Rattle.sim_game.proofs.ReachLemmas.{reachable_turn}
 use Rattle.plan_book.specs.Books.{Grows}
 use Rattle.plan_book.specs.Entries.{IsLawfulEntry}
 use Rattle.matrix_game.specs.Budget.{Budget, left_of, after_turn}
@@ -22,7 +23,7 @@ use Rattle.oracle_search.specs.declared.ends.SearchEnd.TheVariants.{Reached, Set
 use Rattle.oracle_search.specs.declared.ends.Stop.{Stop}
 use Rattle.oracle_search.specs.declared.ends.Stop.TheVariants as stops
 use Rattle.oracle_search.specs.Searches.{WorkView, IsBetter, IsWorked, HasVisited, HasTurned, TakesTurns, HasTaken, Ends, open_states, IsStop, stop_of, IsStoppedAs, IsDone, AreDone}
-use Rattle.serial_ab.proofs.KeptLemmas.{grows_none}
+use Rattle.serial_ab.proofs.KeptLemmas.{grows_none, grows_after}
 use Rattle.oracle_search.proofs.BetterLemmas.{better_quiet}
 use Rattle.std.proofs.Math.Nat.{mul-le-mul_right}
 use Rattle.oracle_search.proofs.WorkLemmas.{visited_none, turned_none, worked_by, worked_none, worked_after, within_later, extended_after}
@@ -62,6 +63,13 @@ contained P xs each x has = All-contains P xs x (All-from_get_or P xs 0 each) ha
 
 one_rank : (r k : ℕ) → 1 ≤ r → (r - 1) * k + k ≡ r * k
 one_rank r k some = let is : r ≡ (r - 1) + 1 = omega arith in let more : ((r - 1) + 1) * k ≡ (r - 1) * k + k = omega arith in sym (ap (λ (n : ℕ). n * k) is ∙ more)
+
+module _ {S : Type 0} (m : GameModel S) (game : IsGame m) (s : S) (r : Reachable m s) where
+  -- a state after a move of each side and a draw
+  pub drawn_below : (one two draw : ℕ) (child : S) → one < m.moves One s → two < m.moves Two s → draw < m.draws s one two → child ≡ m.drawn s one two draw → Reachable m child × (m.rank child < m.rank s)
+  drawn_below one two draw child one_below two_below draw_below is =
+      let turn : IsTurn m s (record { one = one; two = two; draw = draw }) = record { one_below = one_below; two_below = two_below; draw_below = draw_below } in
+      (subst (Reachable m) (sym is) (reachable_turn m s (record { one = one; two = two; draw = draw }) r turn), subst (λ (t : S). m.rank t < m.rank s) (sym is) (game.rank_falls s (record { one = one; two = two; draw = draw }) r turn))
 
 module _ {G N : Type 0} where
   pub taken_none : (most : ℕ) (v : WorkView G N) → HasTaken 0 most v v
@@ -188,6 +196,15 @@ module _ {S G N : Type 0} (m : GameModel S) (game : IsGame m) (s : S) (r : Reach
       (λ (b : (left_of v.turns ≡ 0) × TakesTurns (m.rank s) u v). let b1 = b.1 in inr (b.0, omega arith))
       (takes (sym (ap (λ (f : FinishedView). f.was_full) is) ∙ not))
 
+pub step_turned : (old new : Budget) → (left_of old ≡ 0 → new ≡ old) → (new ≡ old) ⊎ (new ≡ after_turn old) → HasTurned old new
+step_turned old new none one = ⊎_elim
+    (λ (a : new ≡ old). rw a (turned_none old))
+    (λ (b : new ≡ after_turn old).
+    let limit : new.limit ≡ old.limit = ap (λ (t : Budget). t.limit) b in
+    let spent : new.spent ≡ old.spent + 1 = ap (λ (t : Budget). t.spent) b in
+    record { limit = limit; rises = omega arith; none = λ e. ap (λ (t : Budget). t.spent) (none e) })
+    one
+
 -- ---- the parts of a search that finish no state
 module _ {S G N : Type 0} (m : GameModel S) (limit : ℕ) (v : WorkView G N) (finished : AreFinished m v.board.total v.board v.settled.keys) where
   pub worked_step : (board : BoardView G N) (turns : Budget) → IsLater v.board board → Grows (IsLawfulEntry m v.board.total) v.board.entries board.entries → HasTurned v.turns turns
@@ -200,6 +217,13 @@ module _ {S G N : Type 0} (m : GameModel S) (limit : ℕ) (v : WorkView G N) (fi
   pub worked_twice : (x y : BoardView G N) → IsLater v.board x → x.entries ≡ v.board.entries → IsLater x y → y.entries ≡ x.entries → IsWorked m limit v (record v { board = y })
   worked_twice x y later same next next_same = worked_quiet y (later_trans v.board x y later next) (next_same ∙ same)
 
+  -- a turn, and a reading after it
+  pub worked_turn : (x : BoardView G N) (turns : Budget) (y : BoardView G N) → IsLater v.board x → Grows (IsLawfulEntry m v.board.total) v.board.entries x.entries → (left_of v.turns ≡ 0 → turns ≡ v.turns) → (turns ≡ v.turns) ⊎ (turns ≡ after_turn v.turns)
+      → IsLater x y → y.entries ≡ x.entries → IsWorked m limit v (record v { board = y; turns = turns })
+  worked_turn x turns y later posted none one next same =
+      let more : Grows (IsLawfulEntry m v.board.total) x.entries y.entries = grows_none (IsLawfulEntry m v.board.total) x.entries y.entries same in
+      worked_step y turns (later_trans v.board x y later next) (grows_after (IsLawfulEntry m v.board.total) v.board.entries x.entries y.entries posted more) (step_turned v.turns turns none one)
+
   -- a claim that was full
   pub worked_full : (board : BoardView G N) (settled : FinishedView) → IsLater v.board board → board.entries ≡ v.board.entries → settled ≡ record v.settled { was_full = true } → WasFull m board
       → IsWorked m limit v (record v { board = board; settled = settled })
@@ -211,15 +235,6 @@ pub bounded_worked : {S G N : Type 0} (m : GameModel S) (limit : ℕ) (u b d : W
 bounded_worked m limit u b d p better turns visited settled = worked_after m limit limit limit u b d (omega arith) (omega arith) p
     (worked_by m limit b d better (subst (λ (t : Budget). HasTurned b.turns t) (sym turns) (turned_none b.turns)) visited (ap (λ (f : FinishedView). f.keys) settled) (λ e. ap (λ (f : FinishedView). f.was_full) settled ∙ e) p.finished
     (λ e. inl (sym (ap (λ (f : FinishedView). f.was_full) settled) ∙ e)))
-
-pub step_turned : (old new : Budget) → (left_of old ≡ 0 → new ≡ old) → (new ≡ old) ⊎ (new ≡ after_turn old) → HasTurned old new
-step_turned old new none one = ⊎_elim
-    (λ (a : new ≡ old). rw a (turned_none old))
-    (λ (b : new ≡ after_turn old).
-    let limit : new.limit ≡ old.limit = ap (λ (t : Budget). t.limit) b in
-    let spent : new.spent ≡ old.spent + 1 = ap (λ (t : Budget). t.spent) b in
-    record { limit = limit; rises = omega arith; none = λ e. ap (λ (t : Budget). t.spent) (none e) })
-    one
 
 -- ---- how the search of one of the states ended
 module _ {S G N : Type 0} (m : GameModel S) (s : S) where
@@ -277,6 +292,11 @@ module _ {S G N : Type 0} (m : GameModel S) (s : S) (goes_on : 1 ≤ m.rank s) w
       (taken not))
       (λ (a : (left_of v.turns ≡ 0) × TakesTurns (m.rank s) u v). let a1 = a.1 in let same = worked.turns.none a.0 in inl (omega arith))
       (g.turns (not_before v.settled.was_full w.settled.was_full worked.settled.full not))
+
+  -- what follows the states after held moves
+  pub growing_worked : (u v w y : WorkView G N) (held : HeldMoves) → IsGrowing m s u v held → IsWorked m (m.rank s) v w → IsWorked m (m.rank s) w y → IsWorked m (m.rank s) u y
+  growing_worked u v w y held g below after =
+      worked_after m (m.rank s) (m.rank s) (m.rank s) u v y (omega arith) (omega arith) g.worked (worked_after m (m.rank s) (m.rank s) (m.rank s) v w y (omega arith) (omega arith) below after)
 
   -- the states after held moves, all done
   pub growing_passed : (u v w : WorkView G N) (held : HeldMoves) → IsGrowing m s u v held → IsWorked m (m.rank s) v w → HasTaken 0 (m.rank s - 1) v w → IsGrowing m s u w held

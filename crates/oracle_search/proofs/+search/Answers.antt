@@ -3,8 +3,7 @@ use Rattle.std.proofs.lemmas.Int.{ints, to_z-of_z}
 use Rattle.std.proofs.lemmas.Result.{IfOk-weaker}
 use Rattle.std.proofs.lemmas.List.Elements.{All-get_or, All-contains}
 use Rattle.sim_game.specs.declared.Side.TheVariants.{One, Two}
-use Rattle.sim_game.specs.Model.{IsTurn, Reachable}
-use Rattle.sim_game.proofs.ReachLemmas.{reachable_turn}
+use Rattle.sim_game.specs.Model.{Reachable}
 use Rattle.matrix_game.specs.Budget.{Budget, left_of}
 use Rattle.bounds_board.specs.Views.{WasFull}
 use Rattle.bounds_board.proofs.FullLemmas.{full_later}
@@ -18,7 +17,7 @@ use Rattle.oracle_search.specs.Finished.{FinishedView, AreFinished, IsBeyond, Is
 use Rattle.oracle_search.specs.Searches.{IsWorked, HasTurned, HasTaken, at_work, IsStop, stop_of, open_after, IsStoppedAs, IsDone, AreDone, IsPureTight}
 use Rattle.oracle_search.proofs.BetterLemmas.{gap_closed, serial_closed}
 use Rattle.oracle_search.proofs.WorkLemmas.{worked_none, worked_after, pure_later, pure_within, within_not_beyond}
-use Rattle.oracle_search.proofs.GrowLemmas.{IsGrowing, taken_none, taken_by, done_later, are_done_later, done_within, passed_none, passed_after, stopped_worked, stopped_taken, each_more, contained, done_finished, not_again, added_worked, added_taken, worked_step, worked_quiet, worked_twice, worked_full, bounded_worked, step_turned, ended_close, ended_one, ended_stop, ended_open, stop_kept, after_rows, after_cols, growing_none, growing_taken, growing_passed, growing_turn, growing_more, stopped_ends, stopped_open, close_after}
+use Rattle.oracle_search.proofs.GrowLemmas.{IsGrowing, taken_none, taken_by, done_later, are_done_later, done_within, passed_none, passed_after, stopped_worked, stopped_taken, each_more, contained, done_finished, not_again, added_worked, added_taken, worked_step, worked_turn, drawn_below, growing_worked, worked_quiet, worked_twice, worked_full, bounded_worked, step_turned, ended_close, ended_one, ended_stop, ended_open, stop_kept, after_rows, after_cols, growing_none, growing_taken, growing_passed, growing_turn, growing_more, stopped_ends, stopped_open, close_after}
 use Rattle.oracle_search.proofs.+search.Goals as goal
 
 pub children::search_child-returns-then-rank-eq0-clause-worked : goal.children::search_child-returns-then-rank-eq0-clause-worked
@@ -117,8 +116,7 @@ children::search_child-returns-in-Ok-add-clause-worked g t c =
     let rank = c.rank.ensures in let some = c.if-rank-eq0.false in let goes_on : 1 ≤ m.rank c.args.s = omega arith in
     let is : c.add.new.self ≡ record c.search.new.settled { keys = c.search.new.settled.keys ++ m.key c.args.s ∷ [] } = subst (λ (key : ℕ). c.add.new.self ≡ record c.search.new.settled { keys = c.search.new.settled.keys ++ key ∷ [] }) c.key-key.ensures c.in-Ok-add.ensures.ok in
     let stop : stop_of c.in-Ok-search.end ≡ None = sym c.stop.ensures ∙ c.in-None.is in
-    let claimed : (g.B.Bounds.view c.claim.new.self).key_at c.in-Ok.row ≡ Some (m.key c.args.s) = subst (λ (key : ℕ). (g.B.Bounds.view c.claim.new.self).key_at c.in-Ok.row ≡ Some key) c.key-key.ensures c.in-Ok.ensures.ok in
-    let held : x.board.key_at c.in-Ok.row ≡ Some (m.key c.args.s) = c.search.ensures.worked.board.later.keys c.in-Ok.row (m.key c.args.s) (c.gap_at.ensures.later.keys c.in-Ok.row (m.key c.args.s) claimed) in
+    let held = c.search.ensures.worked.board.later.keys c.in-Ok.row (m.key c.args.s) (c.gap_at.ensures.later.keys c.in-Ok.row (m.key c.args.s) (subst (λ (key : ℕ). (g.B.Bounds.view c.claim.new.self).key_at c.in-Ok.row ≡ Some key) c.key-key.ensures c.in-Ok.ensures.ok)) in
     added_worked m (g.met.G.Game.lawful c.args.g) c.args.s c.requires.reachable goes_on u x c.add.new.self c.in-Ok.row held worked is (λ has. not_again m (g.met.G.Game.lawful c.args.g) c.args.s c.requires.reachable (g.B.Bounds.view c.search.new.board).total (g.B.Bounds.view c.search.new.board) c.args.settled.now c.search.new.settled c.search.ensures.worked.settled (subst (λ (key : ℕ). Contains c.args.settled.now.keys key → ⊥) c.key-key.ensures c.if-has.ensures) has)
     (ended_close m c.args.s x c.in-Ok-search.end goes_on stop c.in-Ok-search.ensures.ends)
 
@@ -196,9 +194,8 @@ children::search_draws-drawn-child-requires-clause-draw g t c =
 pub children::search_draws-search_child-requires : goal.children::search_draws-search_child-requires
 children::search_draws-search_child-requires g t c =
     let m = g.G.Game.model c.args.g in
-    let child : c.drawn-child.result ≡ m.drawn c.args.s c.args.one c.args.two c.loop-draw.draw = c.drawn-child.ensures in let count = c.draws-draw-end.ensures in let inside = c.loop-draw-test.true in let turn : IsTurn m c.args.s (record { one = c.args.one; two = c.args.two; draw = c.loop-draw.draw }) = record { one_below = c.requires.one; two_below = c.requires.two; draw_below = omega arith } in
-    let lower : m.rank c.drawn-child.result < m.rank c.args.s = subst (λ (t : g.row.G-State.Denot). m.rank t < m.rank c.args.s) (sym child) ((g.met.G.Game.lawful c.args.g).rank_falls c.args.s (record { one = c.args.one; two = c.args.two; draw = c.loop-draw.draw }) c.requires.reachable turn) in
-    let reach : Reachable m c.drawn-child.result = subst (Reachable m) (sym child) (reachable_turn m c.args.s (record { one = c.args.one; two = c.args.two; draw = c.loop-draw.draw }) c.requires.reachable turn) in
+    let count = c.draws-draw-end.ensures in let inside = c.loop-draw-test.true in let below = drawn_below m (g.met.G.Game.lawful c.args.g) c.args.s c.requires.reachable c.args.one c.args.two c.loop-draw.draw c.drawn-child.result c.requires.one c.requires.two (omega arith) c.drawn-child.ensures in let lower = below.1 in
+    let reach : Reachable m c.drawn-child.result = below.0 in
     let game : (g.B.Bounds.view c.loop-draw.board).game ≡ c.args.g = c.loop-draw.invariant.worked.board.later.game ∙ c.requires.game in
     let finished : AreFinished m (g.B.Bounds.view c.loop-draw.board).total (g.B.Bounds.view c.loop-draw.board) c.loop-draw.settled.keys = c.loop-draw.invariant.worked.finished in
     search rules
@@ -209,8 +206,7 @@ children::search_draws-returns-in-Ok-Some-clause-worked g t c =
     let u = at_work (g.B.Bounds.view c.args.board.now) c.args.turns.now c.args.visits.now c.args.settled.now in
     let v = at_work (g.B.Bounds.view c.loop-draw.board) c.loop-draw.turns c.loop-draw.visits c.loop-draw.settled in
     let w = at_work (g.B.Bounds.view c.search_child.new.board) c.search_child.new.turns c.search_child.new.visits c.search_child.new.settled in
-    let child : c.drawn-child.result ≡ m.drawn c.args.s c.args.one c.args.two c.loop-draw.draw = c.drawn-child.ensures in let count = c.draws-draw-end.ensures in let inside = c.loop-draw-test.true in let turn : IsTurn m c.args.s (record { one = c.args.one; two = c.args.two; draw = c.loop-draw.draw }) = record { one_below = c.requires.one; two_below = c.requires.two; draw_below = omega arith } in
-    let lower : m.rank c.drawn-child.result < m.rank c.args.s = subst (λ (t : g.row.G-State.Denot). m.rank t < m.rank c.args.s) (sym child) ((g.met.G.Game.lawful c.args.g).rank_falls c.args.s (record { one = c.args.one; two = c.args.two; draw = c.loop-draw.draw }) c.requires.reachable turn) in
+    let count = c.draws-draw-end.ensures in let inside = c.loop-draw-test.true in let below = drawn_below m (g.met.G.Game.lawful c.args.g) c.args.s c.requires.reachable c.args.one c.args.two c.loop-draw.draw c.drawn-child.result c.requires.one c.requires.two (omega arith) c.drawn-child.ensures in let lower = below.1 in
     stopped_worked m (m.rank c.args.s) (m.rank c.drawn-child.result + 1) u v w ((d : ℕ) → d < c.loop-draw.draw → IsDone m (g.B.Bounds.view c.loop-draw.board) (m.drawn c.args.s c.args.one c.args.two d)) (omega arith) c.loop-draw.invariant c.search_child.ensures.worked
 
 pub children::search_draws-returns-in-Ok-Some-clause-turns : goal.children::search_draws-returns-in-Ok-Some-clause-turns
@@ -219,8 +215,7 @@ children::search_draws-returns-in-Ok-Some-clause-turns g t c =
     let u = at_work (g.B.Bounds.view c.args.board.now) c.args.turns.now c.args.visits.now c.args.settled.now in
     let v = at_work (g.B.Bounds.view c.loop-draw.board) c.loop-draw.turns c.loop-draw.visits c.loop-draw.settled in
     let w = at_work (g.B.Bounds.view c.search_child.new.board) c.search_child.new.turns c.search_child.new.visits c.search_child.new.settled in
-    let child : c.drawn-child.result ≡ m.drawn c.args.s c.args.one c.args.two c.loop-draw.draw = c.drawn-child.ensures in let count = c.draws-draw-end.ensures in let inside = c.loop-draw-test.true in let turn : IsTurn m c.args.s (record { one = c.args.one; two = c.args.two; draw = c.loop-draw.draw }) = record { one_below = c.requires.one; two_below = c.requires.two; draw_below = omega arith } in
-    let lower : m.rank c.drawn-child.result < m.rank c.args.s = subst (λ (t : g.row.G-State.Denot). m.rank t < m.rank c.args.s) (sym child) ((g.met.G.Game.lawful c.args.g).rank_falls c.args.s (record { one = c.args.one; two = c.args.two; draw = c.loop-draw.draw }) c.requires.reachable turn) in
+    let count = c.draws-draw-end.ensures in let inside = c.loop-draw-test.true in let below = drawn_below m (g.met.G.Game.lawful c.args.g) c.args.s c.requires.reachable c.args.one c.args.two c.loop-draw.draw c.drawn-child.result c.requires.one c.requires.two (omega arith) c.drawn-child.ensures in let lower = below.1 in
     let taken : HasTaken ((m.rank c.drawn-child.result + 1) - 1) ((m.rank c.drawn-child.result + 1) - 1) v w = let same : m.rank c.drawn-child.result ≡ (m.rank c.drawn-child.result + 1) - 1 = omega arith in subst (λ (n : ℕ). HasTaken n n v w) same (subst (λ (o : Option Stop). HasTaken (open_after (m.rank c.drawn-child.result) o) (m.rank c.drawn-child.result) v w) c.in-Ok-Some.field-0-is c.in-Ok-Some.ensures.turns) in
     stopped_taken m (m.rank c.args.s) (m.rank c.drawn-child.result + 1) u v w ((d : ℕ) → d < c.loop-draw.draw → IsDone m (g.B.Bounds.view c.loop-draw.board) (m.drawn c.args.s c.args.one c.args.two d)) (omega arith) c.loop-draw.invariant c.search_child.ensures.worked taken
 
@@ -237,8 +232,7 @@ children::search_draws-returns-in-Err-clause-worked g t c =
     let u = at_work (g.B.Bounds.view c.args.board.now) c.args.turns.now c.args.visits.now c.args.settled.now in
     let v = at_work (g.B.Bounds.view c.loop-draw.board) c.loop-draw.turns c.loop-draw.visits c.loop-draw.settled in
     let w = at_work (g.B.Bounds.view c.search_child.new.board) c.search_child.new.turns c.search_child.new.visits c.search_child.new.settled in
-    let child : c.drawn-child.result ≡ m.drawn c.args.s c.args.one c.args.two c.loop-draw.draw = c.drawn-child.ensures in let count = c.draws-draw-end.ensures in let inside = c.loop-draw-test.true in let turn : IsTurn m c.args.s (record { one = c.args.one; two = c.args.two; draw = c.loop-draw.draw }) = record { one_below = c.requires.one; two_below = c.requires.two; draw_below = omega arith } in
-    let lower : m.rank c.drawn-child.result < m.rank c.args.s = subst (λ (t : g.row.G-State.Denot). m.rank t < m.rank c.args.s) (sym child) ((g.met.G.Game.lawful c.args.g).rank_falls c.args.s (record { one = c.args.one; two = c.args.two; draw = c.loop-draw.draw }) c.requires.reachable turn) in
+    let count = c.draws-draw-end.ensures in let inside = c.loop-draw-test.true in let below = drawn_below m (g.met.G.Game.lawful c.args.g) c.args.s c.requires.reachable c.args.one c.args.two c.loop-draw.draw c.drawn-child.result c.requires.one c.requires.two (omega arith) c.drawn-child.ensures in let lower = below.1 in
     stopped_worked m (m.rank c.args.s) (m.rank c.drawn-child.result + 1) u v w ((d : ℕ) → d < c.loop-draw.draw → IsDone m (g.B.Bounds.view c.loop-draw.board) (m.drawn c.args.s c.args.one c.args.two d)) (omega arith) c.loop-draw.invariant c.search_child.ensures.worked
 
 pub children::search_draws-loop-draw-preserved : goal.children::search_draws-loop-draw-preserved
@@ -247,26 +241,17 @@ children::search_draws-loop-draw-preserved g t c =
     let u = at_work (g.B.Bounds.view c.args.board.now) c.args.turns.now c.args.visits.now c.args.settled.now in
     let v = at_work (g.B.Bounds.view c.loop-draw.board) c.loop-draw.turns c.loop-draw.visits c.loop-draw.settled in
     let w = at_work (g.B.Bounds.view c.search_child.new.board) c.search_child.new.turns c.search_child.new.visits c.search_child.new.settled in
-    let child : c.drawn-child.result ≡ m.drawn c.args.s c.args.one c.args.two c.loop-draw.draw = c.drawn-child.ensures in let count = c.draws-draw-end.ensures in let inside = c.loop-draw-test.true in let turn : IsTurn m c.args.s (record { one = c.args.one; two = c.args.two; draw = c.loop-draw.draw }) = record { one_below = c.requires.one; two_below = c.requires.two; draw_below = omega arith } in
-    let lower : m.rank c.drawn-child.result < m.rank c.args.s = subst (λ (t : g.row.G-State.Denot). m.rank t < m.rank c.args.s) (sym child) ((g.met.G.Game.lawful c.args.g).rank_falls c.args.s (record { one = c.args.one; two = c.args.two; draw = c.loop-draw.draw }) c.requires.reachable turn) in
+    let count = c.draws-draw-end.ensures in let inside = c.loop-draw-test.true in let below = drawn_below m (g.met.G.Game.lawful c.args.g) c.args.s c.requires.reachable c.args.one c.args.two c.loop-draw.draw c.drawn-child.result c.requires.one c.requires.two (omega arith) c.drawn-child.ensures in let lower = below.1 in
     let taken : HasTaken 0 ((m.rank c.drawn-child.result + 1) - 1) v w = let same : m.rank c.drawn-child.result ≡ (m.rank c.drawn-child.result + 1) - 1 = omega arith in subst (λ (n : ℕ). HasTaken 0 n v w) same (subst (λ (o : Option Stop). HasTaken (open_after (m.rank c.drawn-child.result) o) (m.rank c.drawn-child.result) v w) c.in-Ok-None.field-0-is c.in-Ok-None.ensures.turns) in
-    let done : IsDone m w.board (m.drawn c.args.s c.args.one c.args.two c.loop-draw.draw) = subst (IsDone m w.board) child (c.search_child.ensures.done (c.in-Ok-None.is ∙ ap Ok c.in-Ok-None.field-0-is)) in
+    let done : IsDone m w.board (m.drawn c.args.s c.args.one c.args.two c.loop-draw.draw) = subst (IsDone m w.board) c.drawn-child.ensures (c.search_child.ensures.done (c.in-Ok-None.is ∙ ap Ok c.in-Ok-None.field-0-is)) in
     passed_after m (m.rank c.args.s) (m.rank c.drawn-child.result + 1) u v w ((d : ℕ) → d < c.loop-draw.draw → IsDone m (g.B.Bounds.view c.loop-draw.board) (m.drawn c.args.s c.args.one c.args.two d)) ((d : ℕ) → d < c.loop-draw.draw + 1 → IsDone m (g.B.Bounds.view c.search_child.new.board) (m.drawn c.args.s c.args.one c.args.two d)) (omega arith) c.loop-draw.invariant c.search_child.ensures.worked taken
     (λ later known. each_more (λ (d : ℕ). IsDone m w.board (m.drawn c.args.s c.args.one c.args.two d)) c.loop-draw.draw (λ d l. done_later m (m.drawn c.args.s c.args.one c.args.two d) v.board w.board later (known d l)) done)
-
-pub children::search_draws-returns-clause-worked : goal.children::search_draws-returns-clause-worked
-children::search_draws-returns-clause-worked g t c =
-    c.loop-draw.invariant.worked
 
 pub children::search_draws-returns-clause-done : goal.children::search_draws-returns-clause-done
 children::search_draws-returns-clause-done g t c =
     let m = g.G.Game.model c.args.g in
     let count = c.draws-draw-end.ensures in let inside = c.loop-draw-test.false in
     λ _ draw l. c.loop-draw.invariant.done draw (omega arith)
-
-pub children::search_draws-returns-clause-turns : goal.children::search_draws-returns-clause-turns
-children::search_draws-returns-clause-turns g t c =
-    c.loop-draw.invariant.turns
 
 pub children::search_row_children-returns-in-Ok-Some-clause-worked : goal.children::search_row_children-returns-in-Ok-Some-clause-worked
 children::search_row_children-returns-in-Ok-Some-clause-worked g t c =
@@ -298,14 +283,6 @@ children::search_row_children-returns-in-Ok-Some-clause-stopped g t c =
     λ stop e.
     let same : c.in-Ok-Some.stop ≡ stop = cc in
     subst (λ (y : Stop). IsStop w y) same (c.search_draws.ensures.stopped c.in-Ok-Some.stop (c.in-Ok-Some.is ∙ ap Ok c.in-Ok-Some.field-0-is))
-
-pub children::search_row_children-returns-clause-worked : goal.children::search_row_children-returns-clause-worked
-children::search_row_children-returns-clause-worked g t c =
-    c.loop-two.invariant.worked
-
-pub children::search_row_children-returns-clause-turns : goal.children::search_row_children-returns-clause-turns
-children::search_row_children-returns-clause-turns g t c =
-    c.loop-two.invariant.turns
 
 pub children::search_row_children-loop-two-init : goal.children::search_row_children-loop-two-init
 children::search_row_children-loop-two-init g t c =
@@ -368,14 +345,6 @@ children::search_children-returns-in-Ok-Some-clause-stopped g t c =
     let same : c.in-Ok-Some.stop ≡ stop = cc in
     subst (λ (y : Stop). IsStop w y) same (c.search_row_children.ensures.stopped c.in-Ok-Some.stop (c.in-Ok-Some.is ∙ ap Ok c.in-Ok-Some.field-0-is))
 
-pub children::search_children-returns-clause-worked : goal.children::search_children-returns-clause-worked
-children::search_children-returns-clause-worked g t c =
-    c.loop-one.invariant.worked
-
-pub children::search_children-returns-clause-turns : goal.children::search_children-returns-clause-turns
-children::search_children-returns-clause-turns g t c =
-    c.loop-one.invariant.turns
-
 pub children::search_children-loop-one-init : goal.children::search_children-loop-one-init
 children::search_children-loop-one-init g t c =
     let m = g.G.Game.model c.args.g in
@@ -435,10 +404,6 @@ state::search-returns-in-Ok-clause-worked g t c =
     let v = at_work (g.B.Bounds.view c.claim.new.self) c.args.turns.now c.args.visits.now c.args.settled.now in
     let x = at_work (g.B.Bounds.view c.search_row.new.board) c.search_row.new.turns c.search_row.new.visits c.search_row.new.settled in
     worked_after m (m.rank c.args.s) (m.rank c.args.s) (m.rank c.args.s) u v x (omega arith) (omega arith) (worked_quiet m (m.rank c.args.s) u c.requires.finished (g.B.Bounds.view c.claim.new.self) c.claim.ensures.later c.claim.ensures.entries) c.search_row.ensures.worked
-
-pub state::search-returns-in-Ok-clause-turns : goal.state::search-returns-in-Ok-clause-turns
-state::search-returns-in-Ok-clause-turns g t c =
-    c.search_row.ensures.turns
 
 pub state::search-returns-in-Err-clause-worked : goal.state::search-returns-in-Err-clause-worked
 state::search-returns-in-Err-clause-worked g t c =
@@ -565,10 +530,6 @@ state::search_row-returns-else-is_within-clause-worked g t c =
     let x = at_work (g.B.Bounds.view c.grow.new.board) c.grow.new.turns c.grow.new.visits c.grow.new.settled in
     worked_after m (m.rank c.args.s) (m.rank c.args.s) (m.rank c.args.s) u d x (omega arith) (omega arith) both (worked_after m (m.rank c.args.s) (m.rank c.args.s) (m.rank c.args.s) d e x (omega arith) (omega arith) read c.grow.ensures.worked)
 
-pub state::search_row-returns-else-is_within-clause-turns : goal.state::search_row-returns-else-is_within-clause-turns
-state::search_row-returns-else-is_within-clause-turns g t c =
-    c.grow.ensures.turns
-
 pub state::search_row-returns-else-is_within-clause-pure : goal.state::search_row-returns-else-is_within-clause-pure
 state::search_row-returns-else-is_within-clause-pure g t c =
     let m = g.G.Game.model c.args.g in
@@ -620,31 +581,11 @@ growth::grow-search_children-requires g t c =
     let finished : AreFinished m (g.B.Bounds.view c.growth.board).total (g.B.Bounds.view c.growth.board) c.growth.settled.keys = c.growth.invariant.worked.finished in
     search rules
 
-pub growth::grow-stopped-requires-clause-game : goal.growth::grow-stopped-requires-clause-game
-growth::grow-stopped-requires-clause-game g t c =
-    c.search_children.ensures.worked.board.later.game ∙ c.growth.invariant.worked.board.later.game ∙ c.requires.game
-
 pub growth::grow-stopped-requires-clause-row : goal.growth::grow-stopped-requires-clause-row
 growth::grow-stopped-requires-clause-row g t c =
     let m = g.G.Game.model c.args.g in
     let key = m.key c.args.s in let row = c.search_children.ensures.worked.board.later.keys c.args.row key (c.growth.invariant.worked.board.later.keys c.args.row key c.requires.row) in
     row
-
-pub growth::grow-step-requires-clause-game : goal.growth::grow-step-requires-clause-game
-growth::grow-step-requires-clause-game g t c =
-    c.search_children.ensures.worked.board.later.game ∙ c.growth.invariant.worked.board.later.game ∙ c.requires.game
-
-pub growth::grow-step-requires-clause-rows : goal.growth::grow-step-requires-clause-rows
-growth::grow-step-requires-clause-rows g t c =
-    c.growth.invariant.rows
-
-pub growth::grow-step-requires-clause-cols : goal.growth::grow-step-requires-clause-cols
-growth::grow-step-requires-clause-cols g t c =
-    c.growth.invariant.cols
-
-pub growth::grow-is_within-requires-clause-game : goal.growth::grow-is_within-requires-clause-game
-growth::grow-is_within-requires-clause-game g t c =
-    c.step.ensures.later.game ∙ c.search_children.ensures.worked.board.later.game ∙ c.growth.invariant.worked.board.later.game ∙ c.requires.game
 
 pub growth::grow-is_within-requires-clause-row : goal.growth::grow-is_within-requires-clause-row
 growth::grow-is_within-requires-clause-row g t c =
@@ -652,19 +593,11 @@ growth::grow-is_within-requires-clause-row g t c =
     let key = m.key c.args.s in let row = c.search_children.ensures.worked.board.later.keys c.args.row key (c.growth.invariant.worked.board.later.keys c.args.row key c.requires.row) in
     c.step.ensures.later.keys c.args.row key row
 
-pub growth::grow-stopped-requires-in-Err-Spent-clause-game : goal.growth::grow-stopped-requires-in-Err-Spent-clause-game
-growth::grow-stopped-requires-in-Err-Spent-clause-game g t c =
-    c.step.ensures.later.game ∙ c.search_children.ensures.worked.board.later.game ∙ c.growth.invariant.worked.board.later.game ∙ c.requires.game
-
 pub growth::grow-stopped-requires-in-Err-Spent-clause-row : goal.growth::grow-stopped-requires-in-Err-Spent-clause-row
 growth::grow-stopped-requires-in-Err-Spent-clause-row g t c =
     let m = g.G.Game.model c.args.g in
     let key = m.key c.args.s in let row = c.search_children.ensures.worked.board.later.keys c.args.row key (c.growth.invariant.worked.board.later.keys c.args.row key c.requires.row) in
     c.step.ensures.later.keys c.args.row key row
-
-pub growth::grow-stopped-requires-in-Err-Full-clause-game : goal.growth::grow-stopped-requires-in-Err-Full-clause-game
-growth::grow-stopped-requires-in-Err-Full-clause-game g t c =
-    c.step.ensures.later.game ∙ c.search_children.ensures.worked.board.later.game ∙ c.growth.invariant.worked.board.later.game ∙ c.requires.game
 
 pub growth::grow-stopped-requires-in-Err-Full-clause-row : goal.growth::grow-stopped-requires-in-Err-Full-clause-row
 growth::grow-stopped-requires-in-Err-Full-clause-row g t c =
@@ -679,8 +612,8 @@ growth::grow-returns-in-Ok-Some-clause-worked g t c =
     let v = at_work (g.B.Bounds.view c.growth.board) c.growth.turns c.growth.visits c.growth.settled in
     let w = at_work (g.B.Bounds.view c.search_children.new.board) c.search_children.new.turns c.search_children.new.visits c.search_children.new.settled in
     let y = at_work (g.B.Bounds.view c.stopped.new.board) c.search_children.new.turns c.search_children.new.visits c.search_children.new.settled in
-    let both : IsWorked m (m.rank c.args.s) u w = worked_after m (m.rank c.args.s) (m.rank c.args.s) (m.rank c.args.s) u v w (omega arith) (omega arith) (c.growth.invariant.worked) (c.search_children.ensures.worked) in
-    worked_after m (m.rank c.args.s) (m.rank c.args.s) (m.rank c.args.s) u w y (omega arith) (omega arith) (both) (worked_quiet m (m.rank c.args.s) w c.search_children.ensures.worked.finished (g.B.Bounds.view c.stopped.new.board) c.stopped.ensures.later c.stopped.ensures.entries)
+    growing_worked m c.args.s c.requires.goes_on u v w y c.growth.held c.growth.invariant c.search_children.ensures.worked
+    (worked_quiet m (m.rank c.args.s) w c.search_children.ensures.worked.finished (g.B.Bounds.view c.stopped.new.board) c.stopped.ensures.later c.stopped.ensures.entries)
 
 pub growth::grow-returns-in-Ok-Some-clause-ends : goal.growth::grow-returns-in-Ok-Some-clause-ends
 growth::grow-returns-in-Ok-Some-clause-ends g t c =
@@ -715,12 +648,9 @@ growth::grow-returns-then-is_within-clause-worked g t c =
     let u = at_work (g.B.Bounds.view c.args.board.now) c.args.turns.now c.args.visits.now c.args.settled.now in
     let v = at_work (g.B.Bounds.view c.growth.board) c.growth.turns c.growth.visits c.growth.settled in
     let w = at_work (g.B.Bounds.view c.search_children.new.board) c.search_children.new.turns c.search_children.new.visits c.search_children.new.settled in
-    let x = at_work (g.B.Bounds.view c.step.new.board) c.step.new.turns c.search_children.new.visits c.search_children.new.settled in
     let y = at_work (g.B.Bounds.view c.is_within.new.board) c.step.new.turns c.search_children.new.visits c.search_children.new.settled in
-    let taken : HasTaken 0 ((m.rank c.args.s) - 1) v w = subst (λ (o : Option Stop). HasTaken (open_after ((m.rank c.args.s) - 1) o) ((m.rank c.args.s) - 1) v w) c.in-Ok-None.field-0-is c.in-Ok-None.ensures.turns in let passed : IsGrowing m c.args.s u w c.growth.held = growing_passed m c.args.s c.requires.goes_on u v w c.growth.held c.growth.invariant c.search_children.ensures.worked taken in
-    let turned : HasTurned w.turns x.turns = step_turned w.turns x.turns (λ none. c.step.ensures.no_turn (inl (c.step.ensures.spent.1 none))) c.step.ensures.one_turn in let stepped : IsWorked m (m.rank c.args.s) w x = worked_step m (m.rank c.args.s) w c.search_children.ensures.worked.finished (g.B.Bounds.view c.step.new.board) c.step.new.turns c.step.ensures.later c.step.ensures.posted turned in
-    let read : IsWorked m (m.rank c.args.s) w y = worked_after m (m.rank c.args.s) (m.rank c.args.s) (m.rank c.args.s) w x y (omega arith) (omega arith) (stepped) (worked_quiet m (m.rank c.args.s) x stepped.finished (g.B.Bounds.view c.is_within.new.board) c.is_within.ensures.later c.is_within.ensures.entries) in
-    worked_after m (m.rank c.args.s) (m.rank c.args.s) (m.rank c.args.s) u w y (omega arith) (omega arith) (passed.worked) (read)
+    growing_worked m c.args.s c.requires.goes_on u v w y c.growth.held c.growth.invariant c.search_children.ensures.worked
+    (worked_turn m (m.rank c.args.s) w c.search_children.ensures.worked.finished (g.B.Bounds.view c.step.new.board) c.step.new.turns (g.B.Bounds.view c.is_within.new.board) c.step.ensures.later c.step.ensures.posted (λ none. c.step.ensures.no_turn (inl (c.step.ensures.spent.1 none))) c.step.ensures.one_turn c.is_within.ensures.later c.is_within.ensures.entries)
 
 pub growth::grow-returns-then-is_within-clause-turns : goal.growth::grow-returns-then-is_within-clause-turns
 growth::grow-returns-then-is_within-clause-turns g t c =
@@ -739,12 +669,9 @@ growth::grow-returns-in-Done-clause-worked g t c =
     let u = at_work (g.B.Bounds.view c.args.board.now) c.args.turns.now c.args.visits.now c.args.settled.now in
     let v = at_work (g.B.Bounds.view c.growth.board) c.growth.turns c.growth.visits c.growth.settled in
     let w = at_work (g.B.Bounds.view c.search_children.new.board) c.search_children.new.turns c.search_children.new.visits c.search_children.new.settled in
-    let x = at_work (g.B.Bounds.view c.step.new.board) c.step.new.turns c.search_children.new.visits c.search_children.new.settled in
     let y = at_work (g.B.Bounds.view c.is_within.new.board) c.step.new.turns c.search_children.new.visits c.search_children.new.settled in
-    let taken : HasTaken 0 ((m.rank c.args.s) - 1) v w = subst (λ (o : Option Stop). HasTaken (open_after ((m.rank c.args.s) - 1) o) ((m.rank c.args.s) - 1) v w) c.in-Ok-None.field-0-is c.in-Ok-None.ensures.turns in let passed : IsGrowing m c.args.s u w c.growth.held = growing_passed m c.args.s c.requires.goes_on u v w c.growth.held c.growth.invariant c.search_children.ensures.worked taken in
-    let turned : HasTurned w.turns x.turns = step_turned w.turns x.turns (λ none. c.step.ensures.no_turn (inl (c.step.ensures.spent.1 none))) c.step.ensures.one_turn in let stepped : IsWorked m (m.rank c.args.s) w x = worked_step m (m.rank c.args.s) w c.search_children.ensures.worked.finished (g.B.Bounds.view c.step.new.board) c.step.new.turns c.step.ensures.later c.step.ensures.posted turned in
-    let read : IsWorked m (m.rank c.args.s) w y = worked_after m (m.rank c.args.s) (m.rank c.args.s) (m.rank c.args.s) w x y (omega arith) (omega arith) (stepped) (worked_quiet m (m.rank c.args.s) x stepped.finished (g.B.Bounds.view c.is_within.new.board) c.is_within.ensures.later c.is_within.ensures.entries) in
-    worked_after m (m.rank c.args.s) (m.rank c.args.s) (m.rank c.args.s) u w y (omega arith) (omega arith) (passed.worked) (read)
+    growing_worked m c.args.s c.requires.goes_on u v w y c.growth.held c.growth.invariant c.search_children.ensures.worked
+    (worked_turn m (m.rank c.args.s) w c.search_children.ensures.worked.finished (g.B.Bounds.view c.step.new.board) c.step.new.turns (g.B.Bounds.view c.is_within.new.board) c.step.ensures.later c.step.ensures.posted (λ none. c.step.ensures.no_turn (inl (c.step.ensures.spent.1 none))) c.step.ensures.one_turn c.is_within.ensures.later c.is_within.ensures.entries)
 
 pub growth::grow-returns-in-Done-clause-turns : goal.growth::grow-returns-in-Done-clause-turns
 growth::grow-returns-in-Done-clause-turns g t c =
@@ -769,11 +696,9 @@ growth::grow-growth-preserved g t c =
     let u = at_work (g.B.Bounds.view c.args.board.now) c.args.turns.now c.args.visits.now c.args.settled.now in
     let v = at_work (g.B.Bounds.view c.growth.board) c.growth.turns c.growth.visits c.growth.settled in
     let w = at_work (g.B.Bounds.view c.search_children.new.board) c.search_children.new.turns c.search_children.new.visits c.search_children.new.settled in
-    let x = at_work (g.B.Bounds.view c.step.new.board) c.step.new.turns c.search_children.new.visits c.search_children.new.settled in
     let y = at_work (g.B.Bounds.view c.is_within.new.board) c.step.new.turns c.search_children.new.visits c.search_children.new.settled in
     let taken : HasTaken 0 ((m.rank c.args.s) - 1) v w = subst (λ (o : Option Stop). HasTaken (open_after ((m.rank c.args.s) - 1) o) ((m.rank c.args.s) - 1) v w) c.in-Ok-None.field-0-is c.in-Ok-None.ensures.turns in let passed : IsGrowing m c.args.s u w c.growth.held = growing_passed m c.args.s c.requires.goes_on u v w c.growth.held c.growth.invariant c.search_children.ensures.worked taken in
-    let turned : HasTurned w.turns x.turns = step_turned w.turns x.turns (λ none. c.step.ensures.no_turn (inl (c.step.ensures.spent.1 none))) c.step.ensures.one_turn in let stepped : IsWorked m (m.rank c.args.s) w x = worked_step m (m.rank c.args.s) w c.search_children.ensures.worked.finished (g.B.Bounds.view c.step.new.board) c.step.new.turns c.step.ensures.later c.step.ensures.posted turned in
-    let read : IsWorked m (m.rank c.args.s) w y = worked_after m (m.rank c.args.s) (m.rank c.args.s) (m.rank c.args.s) w x y (omega arith) (omega arith) (stepped) (worked_quiet m (m.rank c.args.s) x stepped.finished (g.B.Bounds.view c.is_within.new.board) c.is_within.ensures.later c.is_within.ensures.entries) in
+    let read : IsWorked m (m.rank c.args.s) w y = (worked_turn m (m.rank c.args.s) w c.search_children.ensures.worked.finished (g.B.Bounds.view c.step.new.board) c.step.new.turns (g.B.Bounds.view c.is_within.new.board) c.step.ensures.later c.step.ensures.posted (λ none. c.step.ensures.no_turn (inl (c.step.ensures.spent.1 none))) c.step.ensures.one_turn c.is_within.ensures.later c.is_within.ensures.entries) in
     let some : left_of w.turns ≡ 0 → ⊥ = λ none. let wrong = c.step.ensures.spent.1 none in let is = c.in-Ok-step.is in absurd (cc) in
     let grown : HasGrown c.growth.held c.step.new.self (Grown c.in-Grown.row c.in-Grown.col) = subst (HasGrown c.growth.held c.step.new.self) c.in-Grown.is c.in-Ok-step.ensures.grown in
     growing_more m c.args.s c.requires.goes_on u w y c.growth.held c.step.new.self passed some read c.in-Ok-step.ensures.turn refl grown.0 grown.1
@@ -802,12 +727,9 @@ growth::grow-returns-in-Err-Spent-clause-worked g t c =
     let u = at_work (g.B.Bounds.view c.args.board.now) c.args.turns.now c.args.visits.now c.args.settled.now in
     let v = at_work (g.B.Bounds.view c.growth.board) c.growth.turns c.growth.visits c.growth.settled in
     let w = at_work (g.B.Bounds.view c.search_children.new.board) c.search_children.new.turns c.search_children.new.visits c.search_children.new.settled in
-    let x = at_work (g.B.Bounds.view c.step.new.board) c.step.new.turns c.search_children.new.visits c.search_children.new.settled in
     let y = at_work (g.B.Bounds.view c.stopped-in-Err-Spent.new.board) c.step.new.turns c.search_children.new.visits c.search_children.new.settled in
-    let taken : HasTaken 0 ((m.rank c.args.s) - 1) v w = subst (λ (o : Option Stop). HasTaken (open_after ((m.rank c.args.s) - 1) o) ((m.rank c.args.s) - 1) v w) c.in-Ok-None.field-0-is c.in-Ok-None.ensures.turns in let passed : IsGrowing m c.args.s u w c.growth.held = growing_passed m c.args.s c.requires.goes_on u v w c.growth.held c.growth.invariant c.search_children.ensures.worked taken in
-    let turned : HasTurned w.turns x.turns = step_turned w.turns x.turns (λ none. c.step.ensures.no_turn (inl (c.step.ensures.spent.1 none))) c.step.ensures.one_turn in let stepped : IsWorked m (m.rank c.args.s) w x = worked_step m (m.rank c.args.s) w c.search_children.ensures.worked.finished (g.B.Bounds.view c.step.new.board) c.step.new.turns c.step.ensures.later c.step.ensures.posted turned in
-    let read : IsWorked m (m.rank c.args.s) w y = worked_after m (m.rank c.args.s) (m.rank c.args.s) (m.rank c.args.s) w x y (omega arith) (omega arith) (stepped) (worked_quiet m (m.rank c.args.s) x stepped.finished (g.B.Bounds.view c.stopped-in-Err-Spent.new.board) c.stopped-in-Err-Spent.ensures.later c.stopped-in-Err-Spent.ensures.entries) in
-    worked_after m (m.rank c.args.s) (m.rank c.args.s) (m.rank c.args.s) u w y (omega arith) (omega arith) (passed.worked) (read)
+    growing_worked m c.args.s c.requires.goes_on u v w y c.growth.held c.growth.invariant c.search_children.ensures.worked
+    (worked_turn m (m.rank c.args.s) w c.search_children.ensures.worked.finished (g.B.Bounds.view c.step.new.board) c.step.new.turns (g.B.Bounds.view c.stopped-in-Err-Spent.new.board) c.step.ensures.later c.step.ensures.posted (λ none. c.step.ensures.no_turn (inl (c.step.ensures.spent.1 none))) c.step.ensures.one_turn c.stopped-in-Err-Spent.ensures.later c.stopped-in-Err-Spent.ensures.entries)
 
 pub growth::grow-returns-in-Err-Spent-clause-ends : goal.growth::grow-returns-in-Err-Spent-clause-ends
 growth::grow-returns-in-Err-Spent-clause-ends g t c =
@@ -823,11 +745,9 @@ growth::grow-returns-in-Err-Spent-clause-turns g t c =
     let u = at_work (g.B.Bounds.view c.args.board.now) c.args.turns.now c.args.visits.now c.args.settled.now in
     let v = at_work (g.B.Bounds.view c.growth.board) c.growth.turns c.growth.visits c.growth.settled in
     let w = at_work (g.B.Bounds.view c.search_children.new.board) c.search_children.new.turns c.search_children.new.visits c.search_children.new.settled in
-    let x = at_work (g.B.Bounds.view c.step.new.board) c.step.new.turns c.search_children.new.visits c.search_children.new.settled in
     let y = at_work (g.B.Bounds.view c.stopped-in-Err-Spent.new.board) c.step.new.turns c.search_children.new.visits c.search_children.new.settled in
     let taken : HasTaken 0 ((m.rank c.args.s) - 1) v w = subst (λ (o : Option Stop). HasTaken (open_after ((m.rank c.args.s) - 1) o) ((m.rank c.args.s) - 1) v w) c.in-Ok-None.field-0-is c.in-Ok-None.ensures.turns in let passed : IsGrowing m c.args.s u w c.growth.held = growing_passed m c.args.s c.requires.goes_on u v w c.growth.held c.growth.invariant c.search_children.ensures.worked taken in
-    let turned : HasTurned w.turns x.turns = step_turned w.turns x.turns (λ none. c.step.ensures.no_turn (inl (c.step.ensures.spent.1 none))) c.step.ensures.one_turn in let stepped : IsWorked m (m.rank c.args.s) w x = worked_step m (m.rank c.args.s) w c.search_children.ensures.worked.finished (g.B.Bounds.view c.step.new.board) c.step.new.turns c.step.ensures.later c.step.ensures.posted turned in
-    let read : IsWorked m (m.rank c.args.s) w y = worked_after m (m.rank c.args.s) (m.rank c.args.s) (m.rank c.args.s) w x y (omega arith) (omega arith) (stepped) (worked_quiet m (m.rank c.args.s) x stepped.finished (g.B.Bounds.view c.stopped-in-Err-Spent.new.board) c.stopped-in-Err-Spent.ensures.later c.stopped-in-Err-Spent.ensures.entries) in
+    let read : IsWorked m (m.rank c.args.s) w y = (worked_turn m (m.rank c.args.s) w c.search_children.ensures.worked.finished (g.B.Bounds.view c.step.new.board) c.step.new.turns (g.B.Bounds.view c.stopped-in-Err-Spent.new.board) c.step.ensures.later c.step.ensures.posted (λ none. c.step.ensures.no_turn (inl (c.step.ensures.spent.1 none))) c.step.ensures.one_turn c.stopped-in-Err-Spent.ensures.later c.stopped-in-Err-Spent.ensures.entries) in
     let err : c.step.result ≡ Err StepFault.Spent = c.in-Err-Spent.is ∙ ap Err c.in-Err-Spent.field-0-is in let same : c.step.new.turns ≡ c.search_children.new.turns = c.step.ensures.no_turn (inl err) in
     let why : left_of c.step.new.turns ≡ 0 = ap left_of same ∙ c.step.ensures.spent.0 err in let end : IsStoppedAs y.board (m.key c.args.s) c.args.target stops.Spent c.stopped-in-Err-Spent.result = search rules in
     let spent : y.turns.spent ≡ w.turns.spent = ap (λ (t : Budget). t.spent) same in
@@ -841,12 +761,12 @@ growth::grow-returns-in-Err-Full-clause-worked g t c =
     let w = at_work (g.B.Bounds.view c.search_children.new.board) c.search_children.new.turns c.search_children.new.visits c.search_children.new.settled in
     let x = at_work (g.B.Bounds.view c.step.new.board) c.step.new.turns c.search_children.new.visits c.search_children.new.settled in
     let y = at_work (g.B.Bounds.view c.stopped-in-Err-Full.new.board) c.step.new.turns c.search_children.new.visits c.note_full.new.self in
-    let taken : HasTaken 0 ((m.rank c.args.s) - 1) v w = subst (λ (o : Option Stop). HasTaken (open_after ((m.rank c.args.s) - 1) o) ((m.rank c.args.s) - 1) v w) c.in-Ok-None.field-0-is c.in-Ok-None.ensures.turns in let passed : IsGrowing m c.args.s u w c.growth.held = growing_passed m c.args.s c.requires.goes_on u v w c.growth.held c.growth.invariant c.search_children.ensures.worked taken in
     let turned : HasTurned w.turns x.turns = step_turned w.turns x.turns (λ none. c.step.ensures.no_turn (inl (c.step.ensures.spent.1 none))) c.step.ensures.one_turn in let stepped : IsWorked m (m.rank c.args.s) w x = worked_step m (m.rank c.args.s) w c.search_children.ensures.worked.finished (g.B.Bounds.view c.step.new.board) c.step.new.turns c.step.ensures.later c.step.ensures.posted turned in
     let err : c.step.result ≡ Err StepFault.Full = c.in-Err-Full.is ∙ ap Err c.in-Err-Full.field-0-is in
     let was : WasFull m (g.B.Bounds.view c.stopped-in-Err-Full.new.board) = full_later m (g.B.Bounds.view c.step.new.board) (g.B.Bounds.view c.stopped-in-Err-Full.new.board) c.stopped-in-Err-Full.ensures.later (c.step.ensures.full err) in
     let noted : IsWorked m (m.rank c.args.s) x y = worked_full m (m.rank c.args.s) x stepped.finished (g.B.Bounds.view c.stopped-in-Err-Full.new.board) c.note_full.new.self c.stopped-in-Err-Full.ensures.later c.stopped-in-Err-Full.ensures.entries c.note_full.ensures was in
-    worked_after m (m.rank c.args.s) (m.rank c.args.s) (m.rank c.args.s) u w y (omega arith) (omega arith) (passed.worked) (worked_after m (m.rank c.args.s) (m.rank c.args.s) (m.rank c.args.s) w x y (omega arith) (omega arith) (stepped) (noted))
+    growing_worked m c.args.s c.requires.goes_on u v w y c.growth.held c.growth.invariant c.search_children.ensures.worked
+    (worked_after m (m.rank c.args.s) (m.rank c.args.s) (m.rank c.args.s) w x y (omega arith) (omega arith) (stepped) (noted))
 
 pub growth::grow-returns-in-Err-Full-clause-ends : goal.growth::grow-returns-in-Err-Full-clause-ends
 growth::grow-returns-in-Err-Full-clause-ends g t c =
@@ -868,6 +788,5 @@ growth::grow-returns-in-Err-NoMemory-clause-worked g t c =
     let v = at_work (g.B.Bounds.view c.growth.board) c.growth.turns c.growth.visits c.growth.settled in
     let w = at_work (g.B.Bounds.view c.search_children.new.board) c.search_children.new.turns c.search_children.new.visits c.search_children.new.settled in
     let x = at_work (g.B.Bounds.view c.step.new.board) c.step.new.turns c.search_children.new.visits c.search_children.new.settled in
-    let taken : HasTaken 0 ((m.rank c.args.s) - 1) v w = subst (λ (o : Option Stop). HasTaken (open_after ((m.rank c.args.s) - 1) o) ((m.rank c.args.s) - 1) v w) c.in-Ok-None.field-0-is c.in-Ok-None.ensures.turns in let passed : IsGrowing m c.args.s u w c.growth.held = growing_passed m c.args.s c.requires.goes_on u v w c.growth.held c.growth.invariant c.search_children.ensures.worked taken in
     let turned : HasTurned w.turns x.turns = step_turned w.turns x.turns (λ none. c.step.ensures.no_turn (inl (c.step.ensures.spent.1 none))) c.step.ensures.one_turn in let stepped : IsWorked m (m.rank c.args.s) w x = worked_step m (m.rank c.args.s) w c.search_children.ensures.worked.finished (g.B.Bounds.view c.step.new.board) c.step.new.turns c.step.ensures.later c.step.ensures.posted turned in
-    worked_after m (m.rank c.args.s) (m.rank c.args.s) (m.rank c.args.s) u w x (omega arith) (omega arith) (passed.worked) (stepped)
+    growing_worked m c.args.s c.requires.goes_on u v w x c.growth.held c.growth.invariant c.search_children.ensures.worked stepped

@@ -1,4 +1,5 @@
 pub mod JoinLemmas
+pub mod KeptLemmas
 pub mod SolutionLemmas
 pub mod SummaryLemmas
 pub mod WorkerLemmas

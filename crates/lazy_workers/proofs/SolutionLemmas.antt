@@ -1,9 +1,9 @@
 -- That the report on the best entries is a solution.
-use Rattle.std.proofs.Common.{◌≡◌, ⊎_elim, ℕ, ◌+◌, ◌*◌, ◌≤◌, ℤ, pos, ◌-ℤ◌, ◌≤ℤ◌, ◌<ℤ◌, Bool, false, cond, List, length, All, w64, SFits, to_z, of_z, refl, sym, ap, subst, ◌∙◌, arith}
+use Rattle.std.proofs.Common.{◌≡◌, ⊎_elim, ℕ, ◌+◌, ◌*◌, ◌<◌, ◌≤◌, ℤ, pos, ◌-ℤ◌, ◌≤ℤ◌, ◌<ℤ◌, Bool, cond, List, length, All, w64, SFits, to_z, of_z, refl, sym, ap, subst, ◌∙◌, arith}
 use Rattle.std.specs.Int.RustNames.{unsigned_abs}
 use Rattle.std.proofs.lemmas.Int.{ints, to_z-of_z}
 use Rattle.std.proofs.lemmas.Bool.{cases_eq}
-use Rattle.std.proofs.lemmas.List.Elements.{All-weaker}
+use Rattle.std.proofs.lemmas.List.Elements.{All-map, All-weaker}
 use Rattle.sim_game.specs.declared.Side.{Side}
 use Rattle.sim_game.specs.declared.Side.TheVariants.{One, Two}
 use Rattle.sim_game.specs.Model.{GameModel, IsGame, IsEnd}
@@ -27,8 +27,11 @@ use Rattle.certificate.specs.declared.report.PositionText.{PositionText}
 use Rattle.certificate.specs.declared.report.Report.{Report}
 use Rattle.certificate.specs.Outcomes.{gap_of, Allows}
 use Rattle.certificate.specs.Ranges.{Within, Between, IsAskInRange, IsPositionInRange, IsSheetInRange, IsInRange}
+use Rattle.matrix_game.specs.Budget.{Budget}
+use Rattle.shared_board.specs.declared.close.Kept.{Kept}
+use Rattle.lazy_workers.specs.Keeping.{HasLimit, spent_of, AreOwed}
 use Rattle.lazy_workers.specs.Searched.{root_gap, HasKeysIn, IsFar, HasRoom, HasVisits, TooFewTurns, IsSearched}
-use Rattle.lazy_workers.specs.Solutions.{IsOutcomeFor, IsOfAsk, IsSolution}
+use Rattle.lazy_workers.specs.Solutions.{IsOutcomeFor, IsOfAsk, IsSolution, IsSolvedGame}
 use Rattle.lazy_workers.proofs.SummaryLemmas.{root_is, rows_few, sheet_in_range, abs_small, scaled_low, scaled_high}
 
 -- ---- numbers that a game has one of
@@ -68,9 +71,9 @@ module _ {S : Type 0} (m : GameModel S) (game : IsGame m) (weight : ℕ) (entrie
       let a = bound_small One one is_one total_one best_one in let b = bound_small Two two is_two total_two best_two in
       rw (to_z-of_z w64 lower lower_fits, to_z-of_z w64 upper upper_fits) (omega (arith, ints))
 
-module _ {S : Type 0} (m : GameModel S) (game : IsGame m) (ask : Ask) (asks : IsAskInRange ask) (text : PositionText) (place : IsPositionInRange text) (entries : List Entry) (spent : List ℕ) (was_full : Bool)
-    (searched : IsSearched m ask entries spent was_full) (r : Report) (of_ask : IsOfAsk text ask r) (resolution : (n : ℕ) × (r.resolution ≡ pos n) × IsResolution m ask.weight n) (most : r.resolution ≤ℤ pos 99999999999)
-    (lower : r.lower ≡ root_bound m r.one) (upper : r.upper ≡ root_bound m r.two) (counts : r.spent ≡ spent)
+module _ {S : Type 0} (m : GameModel S) (game : IsGame m) (ask : Ask) (asks : IsAskInRange ask) (text : PositionText) (place : IsPositionInRange text) (entries : List Entry) (kept : List Kept) (turns : List Budget) (was_full : Bool)
+    (searched : IsSearched m ask entries kept turns was_full) (r : Report) (of_ask : IsOfAsk text ask r) (resolution : (n : ℕ) × (r.resolution ≡ pos n) × IsResolution m ask.weight n) (most : r.resolution ≤ℤ pos 99999999999)
+    (lower : r.lower ≡ root_bound m r.one) (upper : r.upper ≡ root_bound m r.two) (counts : r.spent ≡ spent_of turns)
     (is_one : r.one.side ≡ One) (is_two : r.two.side ≡ Two) (total_one : r.one.total ≡ ask.weight) (total_two : r.two.total ≡ ask.weight)
     (lawful_one : IsLawful m r.one) (lawful_two : IsLawful m r.two) (best_one : IsBestSheet m One entries r.one.rows) (best_two : IsBestSheet m Two entries r.two.rows)
     (ends : IsOutcomeFor (gap_of r) r.asked r.resolution was_full r.outcome) where
@@ -95,26 +98,27 @@ module _ {S : Type 0} (m : GameModel S) (game : IsGame m) (ask : Ask) (asks : Is
     resolution = λ n is. let same = resolution_once m ask.weight n resolution.0 is resolution.2 in omega (arith, ints, gap_is, resolution.1, wide, same);
   }
 
-  all_spent : r.asked <ℤ gap_of r → r.resolution <ℤ gap_of r → was_full ≡ false → All (λ n. n ≡ ask.turns) spent × TooFewTurns m ask
-  all_spent asked wide not = searched.all_spent not (far asked wide)
+  -- what holds of each worker's turns holds of what it has spent
+  each_spent : (P : ℕ → Type 0) → All (λ t. P t.spent) turns → All P r.spent
+  each_spent P each = subst (All P) (sym counts) (All-map P (λ t. t.spent) turns each)
 
   allowed : (o : Outcome) → IsOutcomeFor (gap_of r) r.asked r.resolution was_full o → Allows r o
   allowed Closed e = e
   allowed Settled e = e
   allowed Spent e = (
     record { asked = e.0; resolution = e.1 },
-    subst (λ (ns : List ℕ). All (λ n. n ≡ r.turns) ns) (sym counts) (subst (λ (k : ℕ). All (λ n. n ≡ k) spent) (sym of_ask.turns) (all_spent e.0 e.1 e.2).0),
+    each_spent (λ n. n ≡ r.turns) (subst (λ (k : ℕ). All (λ t. t.spent ≡ k) turns) (sym of_ask.turns) (searched.all_spent e.2 (far e.0 e.1)).0),
   )
   allowed Full e = record { asked = e.0; resolution = e.1 }
 
-  full_by : (o : Outcome) → o ≡ Full → IsOutcomeFor (gap_of r) r.asked r.resolution was_full o → HasRoom m ask → ⊥
-  full_by Full is e has = searched.full e.2 has
-  full_by Closed is e has = absurd (cc)
-  full_by Settled is e has = absurd (cc)
-  full_by Spent is e has = absurd (cc)
+  full_by : (o : Outcome) → o ≡ Full → IsOutcomeFor (gap_of r) r.asked r.resolution was_full o → (length kept ≡ ask.rows) × (HasRoom m ask → ⊥)
+  full_by Full is e = searched.full e.2
+  full_by Closed is e = absurd (cc)
+  full_by Settled is e = absurd (cc)
+  full_by Spent is e = absurd (cc)
 
-  spent_by : (o : Outcome) → o ≡ Spent → IsOutcomeFor (gap_of r) r.asked r.resolution was_full o → TooFewTurns m ask
-  spent_by Spent is e = (all_spent e.0 e.1 e.2).1
+  spent_by : (o : Outcome) → o ≡ Spent → IsOutcomeFor (gap_of r) r.asked r.resolution was_full o → TooFewTurns m ask × (length kept < ask.rows → AreOwed m ask.turns r.resolution kept)
+  spent_by Spent is e = let why = searched.all_spent e.2 (far e.0 e.1) in (why.1, λ left. subst (λ (z : ℤ). AreOwed m ask.turns z kept) (sym resolution.1) (why.2 resolution.0 resolution.2 left))
   spent_by Closed is e = absurd (cc)
   spent_by Settled is e = absurd (cc)
   spent_by Full is e = absurd (cc)
@@ -144,12 +148,12 @@ module _ {S : Type 0} (m : GameModel S) (game : IsGame m) (ask : Ask) (asks : Is
     lower = subst (λ (z : ℤ). unsigned_abs z ≤ 4000000000) (sym lower_is) (root_small m game ask.weight entries searched.closed One);
     upper = subst (λ (z : ℤ). unsigned_abs z ≤ 4000000000) (sym upper_is) (root_small m game ask.weight entries searched.closed Two);
     workers = subst (Within 1 16) (sym of_ask.workers) asks.workers;
-    spent = subst (λ (ns : List ℕ). All (λ n. n ≤ 1099511627776) ns) (sym counts) (All-weaker (λ n. n ≤ ask.turns) (λ n. n ≤ 1099511627776) (λ n h. let most = asks.turns in omega arith) spent searched.within);
+    spent = each_spent (λ n. n ≤ 1099511627776) (All-weaker (HasLimit ask) (λ t. t.spent ≤ 1099511627776) (λ t h. omega (arith, h.spent, asks.turns)) turns searched.within);
     one = in_sheet One r.one is_one total_one best_one lawful_one;
     two = in_sheet Two r.two is_two total_two best_two lawful_two;
   }
 
-  pub solution : IsSolution m text ask r
+  solution : IsSolution m text ask r
   solution = record {
     of_ask = of_ask;
     in_range = in_range;
@@ -163,11 +167,19 @@ module _ {S : Type 0} (m : GameModel S) (game : IsGame m) (ask : Ask) (asks : Is
     upper_guaranteed = guaranteed Two r.two is_two lawful_two r.upper upper;
     one_few = few_rows m game ask.weight entries searched.closed One r.one is_one total_one best_one ask.rows searched.held;
     two_few = few_rows m game ask.weight entries searched.closed Two r.two is_two total_two best_two ask.rows searched.held;
-    full = λ is has. full_by r.outcome is ends has;
-    spent = λ is. spent_by r.outcome is ends;
+    full = λ is. (full_by r.outcome is ends).1;
+    spent = λ is. (spent_by r.outcome is ends).0;
     pure_lower = pure_low;
     pure_upper = pure_high;
     at_once = λ has many near.
         let low = pure_low has many in let high = pure_high has many in
-        (closed_by r.outcome (omega (arith, ints, of_ask.asked)) ends, subst (λ (ns : List ℕ). All (λ n. n ≡ 0) ns) (sym counts) (searched.at_once has many near));
+        (closed_by r.outcome (omega (arith, ints, of_ask.asked)) ends, each_spent (λ n. n ≡ 0) (searched.at_once has many near));
+  }
+
+  pub solved : IsSolvedGame m text ask (record { report = r; turns = turns; kept = kept })
+  solved = record {
+    solution = solution;
+    within = searched.within;
+    spent = counts;
+    left = record { rows = searched.rows; full = λ is. (full_by r.outcome is ends).0; spent = λ is. (spent_by r.outcome is ends).1 };
   }

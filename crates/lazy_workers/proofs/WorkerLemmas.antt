@@ -1,9 +1,8 @@
 -- What the search of one worker shows of the game.
-use Rattle.std.proofs.Common.{◌≡◌, ⊎_elim, ℕ, ◌<◌, ◌≤◌, pos, ◌-ℤ◌, ◌≤ℤ◌, Bool, true, false, None, List, [], length, get_or, slice_index, replicate, refl, sym, ap, subst, ◌∙◌, arith}
+use Rattle.std.proofs.Common.{◌≡◌, ◌⊎◌, ⊎_elim, inl, inr, ℕ, ◌+◌, ◌*◌, ◌<◌, ◌≤◌, pos, ◌-ℤ◌, ◌≤ℤ◌, Bool, true, false, None, Some, List, [], length, get_or, slice_index, All, refl, sym, ap, subst, ◌∙◌, arith}
 use Rattle.std.proofs.lemmas.Int.{ints}
 use Rattle.std.proofs.lemmas.Bool.{cases_lt}
-use Rattle.std.proofs.lemmas.List.Elements.{All-get_or, All-nil, All-replicate}
-use Rattle.std.proofs.lemmas.List.{length-replicate}
+use Rattle.std.proofs.lemmas.List.Elements.{All-get_or, All-nil, All-weaker}
 use Rattle.sim_game.specs.declared.Side.{Side}
 use Rattle.sim_game.specs.declared.Side.TheVariants.{One, Two}
 use Rattle.sim_game.specs.Model.{GameModel, IsGame, IsEnd, Reachable, HasAtMost}
@@ -24,7 +23,8 @@ use Rattle.oracle_search.specs.declared.ends.SearchEnd.TheVariants.{Reached, Set
 use Rattle.oracle_search.specs.Finished.{FinishedView, IsFinished, AreFinished, IsWithin, rank_gap}
 use Rattle.oracle_search.specs.Searches.{WorkView, IsWorked, Ends, TakesTurns, HasTaken, open_states, IsPureTight, HasVisits as Whole}
 use Rattle.certificate.specs.declared.report.Ask.{Ask}
-use Rattle.lazy_workers.specs.Workers.{HasFound}
+use Rattle.lazy_workers.specs.Workers.{Rows, KnowsEach, IsFinishedKey, AreOwedTo, IsSpent, HasFound}
+use Rattle.lazy_workers.specs.Keeping.{HasLimit}
 use Rattle.lazy_workers.specs.Searched.{root_gap, IsFar, HasRoom, HasVisits, IsPureClose, TooFewTurns, IsSearched}
 
 module _ {S : Type 0} (m : GameModel S) (game : IsGame m) where
@@ -47,24 +47,34 @@ module _ {S : Type 0} (m : GameModel S) (game : IsGame m) where
       (rows : last.board.rows ≡ ask.rows) (total : last.board.total ≡ ask.weight) (weight : 1 ≤ ask.weight) (goes_on : 1 ≤ m.rank m.root)
       (none : start.settled ≡ record { keys = []; was_full = false }) (turns : start.turns ≡ record { limit = ask.turns; spent = 0 })
       (worked : IsWorked m (m.rank m.root) start last) (ends : Ends m m.root ask.gap last end) (takes : HasTaken (open_states (m.rank m.root) end) (m.rank m.root) start last) where
-    -- a full board had no row for each state
-    pub not_full : last.settled.was_full ≡ true → HasRoom m ask → ⊥
-    not_full was has = ⊎_elim
+    has_row : Rows
+    has_row row key = last.board.key_at row ≡ Some key
+
+    -- a full board has a key in each row, and had no row for each state
+    full_board : last.settled.was_full ≡ true → KnowsEach ask.rows has_row × (HasRoom m ask → ⊥)
+    unfolding has_row
+    full_board was = ⊎_elim
         (λ (before : start.settled.was_full ≡ true). let no = ap (λ (f : FinishedView). f.was_full) none in let wrong : false ≡ true = sym no ∙ before in absurd (cc))
-        (λ (full : WasFull m last.board). let few = rows_too_few m last.board full.asked full.full ask.rows has in absurd (omega (arith, few, rows)))
+        (λ (full : WasFull m last.board). (
+          λ row l. let it = full.full.others row (omega (arith, rows)) in (it.0, it.1),
+          λ has. let few = rows_too_few m last.board full.asked full.full ask.rows has in absurd (omega (arith, few, rows)),
+        ))
         (worked.cause was)
 
     room : HasRoom m ask → last.settled.was_full ≡ false
     room has = by last.settled.was_full refl where
       by : (b : Bool) → last.settled.was_full ≡ b → last.settled.was_full ≡ false
-      by true e = absurd (not_full e has)
+      by true e = absurd ((full_board e).1 has)
       by false e = e
+
+    within : last.turns.spent ≤ last.turns.limit
+    within = worked.turns.within (rw turns (omega arith))
 
     keys_none : length start.settled.keys ≡ 0
     keys_none = ap (λ (f : FinishedView). length f.keys) none
 
     -- bounds further apart than was asked and than the resolution, and no full board
-    module _ (far : IsFar m ask (last.board.seen Two (m.key m.root) -ℤ last.board.seen One (m.key m.root))) (within : last.turns.spent ≤ last.turns.limit) where
+    module _ (far : IsFar m ask (last.board.seen Two (m.key m.root) -ℤ last.board.seen One (m.key m.root))) where
       not_reached : IsWithin last.board (m.key m.root) ask.gap → ⊥
       not_reached near = let asked = far.asked in absurd (omega (arith, ints))
 
@@ -73,25 +83,49 @@ module _ {S : Type 0} (m : GameModel S) (game : IsGame m) where
           let beyond = far.resolution (rank_gap m stage (m.rank m.root)) (record { gap = stage; is_gap = subst (λ (w : ℕ). IsStageGap m w stage) total is; sums = refl }) in
           absurd (omega (arith, ints))
 
-      spent_by : (e : SearchEnd) → (e ≡ Full → ⊥) → Ends m m.root ask.gap last e → HasTaken (open_states (m.rank m.root) e) (m.rank m.root) start last → (last.turns.spent ≡ ask.turns) × TooFewTurns m ask
+      spent_by : (e : SearchEnd) → (e ≡ Full → ⊥) → Ends m m.root ask.gap last e → HasTaken (open_states (m.rank m.root) e) (m.rank m.root) start last → (last.turns.spent ≡ ask.turns) × IsSpent m ask last.board.seen has_row
+      unfolding has_row
       spent_by Reached not ends takes = absurd (not_reached (ends goes_on))
       spent_by Settled not ends takes = let stage = stage_exists last.board.total (subst (λ (w : ℕ). 1 ≤ w) (sym total) weight) in absurd (not_settled stage.0 stage.1 (ends.2 stage.0 stage.1))
       spent_by Spent not ends takes =
           let limit : last.turns.limit ≡ ask.turns = worked.turns.limit ∙ ap (λ (t : Budget). t.limit) turns in
-          let none_spent : start.turns.spent ≡ 0 = ap (λ (t : Budget). t.spent) turns in
+          let inside = within in
           let none_left = ends.2 in
-          let all : last.turns.spent ≡ ask.turns = omega arith in (
-            all,
-            λ n has few.
+          let all : last.turns.spent ≡ ask.turns = omega arith in
+          (all, (too_few all takes, by all takes last.settled.was_full refl)) where
+            taken : last.turns.spent ≡ ask.turns → HasTaken (m.rank m.root) (m.rank m.root) start last → last.settled.was_full ≡ false → ask.turns ≤ 63 * (length last.settled.keys + m.rank m.root)
+            taken all takes quiet =
+                let none_spent : start.turns.spent ≡ 0 = ap (λ (t : Budget). t.spent) turns in
+                let none = keys_none in
+                let so : TakesTurns (m.rank m.root) start last = ⊎_elim (λ (a : TakesTurns (m.rank m.root) start last). a) (λ (b : (left_of last.turns ≡ 0) × TakesTurns (m.rank m.root) start last). b.1) (takes quiet) in
+                omega arith
+
+            too_few : last.turns.spent ≡ ask.turns → HasTaken (m.rank m.root) (m.rank m.root) start last → TooFewTurns m ask
+            too_few all takes n has few =
                 let wide : HasRoom m ask = record { few = λ count states reach apart. let less = has.few count states reach apart in omega arith } in
                 let keys = keys_few last.board.total last.board last.settled.keys worked.finished n has in
-                let none = keys_none in
-                let taken : TakesTurns (m.rank m.root) start last = ⊎_elim (λ (a : TakesTurns (m.rank m.root) start last). a) (λ (b : (left_of last.turns ≡ 0) × TakesTurns (m.rank m.root) start last). b.1) (takes (room wide)) in
-                omega arith,
-          )
+                let most = taken all takes (room wide) in
+                omega arith
+
+            finished : (key : ℕ) → IsFinished m last.board.total last.board 32 key → IsFinishedKey m ask last.board.seen has_row key
+            finished key f = record {
+              named = record { state = f.state; reachable = f.reachable; goes_on = f.goes_on; is_key = f.is_key };
+              row = f.row;
+              has_row = f.held;
+              close = λ stage is. subst (λ (k : ℕ). IsWithin last.board k (pos (rank_gap m stage (m.rank f.state)))) f.is_key (f.close stage (subst (λ (w : ℕ). IsStageGap m w stage) (sym total) is));
+            }
+
+            by : last.turns.spent ≡ ask.turns → HasTaken (m.rank m.root) (m.rank m.root) start last → (b : Bool) → last.settled.was_full ≡ b → KnowsEach ask.rows has_row ⊎ AreOwedTo m ask last.board.seen has_row
+            by all takes true e = inl (full_board e).0
+            by all takes false e = inr (record {
+              keys = last.settled.keys;
+              apart = worked.finished.apart;
+              each = All-weaker (IsFinished m last.board.total last.board 32) (IsFinishedKey m ask last.board.seen has_row) finished last.settled.keys worked.finished.each;
+              few = taken all takes e;
+            })
       spent_by Full not ends takes = absurd (not refl)
 
-      pub all_spent : (end ≡ Full → ⊥) → (last.turns.spent ≡ ask.turns) × TooFewTurns m ask
+      all_spent : (end ≡ Full → ⊥) → (last.turns.spent ≡ ask.turns) × IsSpent m ask last.board.seen has_row
       all_spent not = spent_by end not ends takes
 
     -- visits for the whole tree, and a row for each state
@@ -104,26 +138,28 @@ module _ {S : Type 0} (m : GameModel S) (game : IsGame m) where
         each One = omega (arith, has)
         each Two = omega (arith, has)
 
-      pub found : last.turns.spent ≤ last.turns.limit → HasFound m ask last.board.seen last.turns.spent end
-      found within = record {
-        within = omega (arith, within, worked.turns.limit, ap (λ (t : Budget). t.limit) turns);
-        full = λ e has. not_full (subst (Ends m m.root ask.gap last) e ends) has;
-        all_spent = λ not far. all_spent far within not;
+      pub found : HasFound m ask last.board.seen (λ row key. last.board.key_at row ≡ Some key) last.turns end
+      unfolding has_row
+      found = record {
+        within = let limit = worked.turns.limit ∙ ap (λ (t : Budget). t.limit) turns in record { limit = limit; spent = subst (λ (n : ℕ). last.turns.spent ≤ n) limit within };
+        full = λ e. full_board (subst (Ends m m.root ask.gap last) e ends);
+        all_spent = λ not far. all_spent far not;
         pure = λ has many side. pure (whole many) (room has) side;
         at_once = λ has many near. ap (λ (t : Budget). t.spent) (at_once (whole many) (room has) near).1 ∙ ap (λ (t : Budget). t.spent) turns;
       }
 
 -- an end as root needs no search
-pub nothing_searched : {S : Type 0} (m : GameModel S) → IsGame m → (ask : Ask) → IsEnd m m.root → pos 0 ≤ℤ ask.gap → IsSearched m ask [] (replicate ask.workers 0) false
-nothing_searched m game ask end low = record {
+pub nothing_searched : {S : Type 0} (m : GameModel S) → IsGame m → (ask : Ask) → IsEnd m m.root → pos 0 ≤ℤ ask.gap → (turns : List Budget) → length turns ≡ ask.workers → All (λ t. t ≡ record { limit = ask.turns; spent = 0 }) turns → IsSearched m ask [] [] turns false
+nothing_searched m game ask end low turns count fresh = record {
   closed = All-nil _;
   held = record { key_at = λ _. None; held = All-nil _ };
-  workers = length-replicate ask.workers 0;
-  within = All-replicate (λ n. n ≤ ask.turns) ask.workers 0 (omega arith);
-  full = λ e has. absurd (cc);
+  rows = record { none = λ _. refl; few = omega arith; distinct = tt; each = All-nil _ };
+  workers = count;
+  within = All-weaker (λ t. t ≡ record { limit = ask.turns; spent = 0 }) (HasLimit ask) (λ t e. rw e (record { limit = refl; spent = omega arith })) turns fresh;
+  full = λ e. absurd (cc);
   all_spent = λ e far. let asked = far.asked in let one = bound One in let two = bound Two in let gap : root_gap m [] ≡ pos 0 = omega (arith, ints) in absurd (omega (arith, ints));
   pure = λ has many side. rw (serial_end m game side m.root end, bound side) (looser_refl side (end_bound m m.root));
-  at_once = λ has many near. All-replicate (λ n. n ≡ 0) ask.workers 0 refl;
+  at_once = λ has many near. All-weaker (λ t. t ≡ record { limit = ask.turns; spent = 0 }) (λ t. t.spent ≡ 0) (λ t e. ap (λ (b : Budget). b.spent) e) turns fresh;
 } where
   bound : (side : Side) → book_bound m [] side m.root ≡ end_bound m m.root
   bound side = rw (is_same (m.rank m.root) 0 end) refl

@@ -8,7 +8,10 @@ use Rattle.sim_game.specs.Resolution.{IsResolution}
 use Rattle.plan_book.specs.declared.Entry.{Entry}
 use Rattle.plan_book.specs.Books.{IsClosed, book_bound}
 use Rattle.plan_book.specs.Serial.{serial_bound, tree_size}
+use Rattle.matrix_game.specs.Budget.{Budget}
+use Rattle.shared_board.specs.declared.close.Kept.{Kept}
 use Rattle.certificate.specs.declared.report.Ask.{Ask}
+use Rattle.lazy_workers.specs.Keeping.{HasLimit, AreOwed, AreRows}
 
 -- each entry's key is that of one of so many rows
 pub record HasKeysIn (rows : ℕ) (entries : List Entry) : Type 0 where
@@ -40,13 +43,15 @@ IsPureClose m ask = serial_bound m Two m.root ≤ℤ (serial_bound m One m.root 
 abbrev pub TooFewTurns : {S : Type 0} → GameModel S → Ask → Type 0
 TooFewTurns m ask = (n : ℕ) → HasAtMost m n → n ≤ ask.rows → ask.turns < 63 * (n + m.rank m.root + 1)
 
--- the entries of all workers, the turns that each has spent, and whether the search of one ended at a full board
-pub record IsSearched {S : Type 0} (m : GameModel S) (ask : Ask) (entries : List Entry) (spent : List ℕ) (was_full : Bool) : Type 0 where
+-- the entries of all workers, the rows of the closed board, the turns of each worker, and whether the search of one ended at a full board
+pub record IsSearched {S : Type 0} (m : GameModel S) (ask : Ask) (entries : List Entry) (kept : List Kept) (turns : List Budget) (was_full : Bool) : Type 0 where
   pub closed : IsClosed m ask.weight entries
   pub held : HasKeysIn ask.rows entries
-  pub workers : length spent ≡ ask.workers
-  pub within : All (λ n. n ≤ ask.turns) spent
-  pub full : was_full ≡ true → HasRoom m ask → ⊥
-  pub all_spent : was_full ≡ false → IsFar m ask (root_gap m entries) → All (λ n. n ≡ ask.turns) spent × TooFewTurns m ask
+  pub rows : AreRows m ask.rows kept
+  pub workers : length turns ≡ ask.workers
+  pub within : All (HasLimit ask) turns
+  pub full : was_full ≡ true → (length kept ≡ ask.rows) × (HasRoom m ask → ⊥)
+  pub all_spent : was_full ≡ false → IsFar m ask (root_gap m entries)
+      → All (λ t. t.spent ≡ ask.turns) turns × TooFewTurns m ask × ((n : ℕ) → IsResolution m ask.weight n → length kept < ask.rows → AreOwed m ask.turns (pos n) kept)
   pub pure : HasRoom m ask → HasVisits m ask → (side : Side) → IsNoTighter side (serial_bound m side m.root) (book_bound m entries side m.root)
-  pub at_once : HasRoom m ask → HasVisits m ask → IsPureClose m ask → All (λ n. n ≡ 0) spent
+  pub at_once : HasRoom m ask → HasVisits m ask → IsPureClose m ask → All (λ t. t.spent ≡ 0) turns

@@ -13,6 +13,8 @@ use Rattle.certificate.specs.declared.report.PositionText.{PositionText}
 use Rattle.certificate.specs.declared.report.Report.{Report}
 use Rattle.certificate.specs.Outcomes.{IsAllowed}
 use Rattle.certificate.specs.Ranges.{IsInRange}
+use Rattle.lazy_workers.specs.declared.summary.Solved.{Solved}
+use Rattle.lazy_workers.specs.Keeping.{HasLimit, spent_of, IsLeft}
 use Rattle.lazy_workers.specs.Searched.{HasRoom, HasVisits, IsPureClose, TooFewTurns}
 
 -- which outcome tells of a gap
@@ -51,3 +53,11 @@ pub record IsSolution {S : Type 0} (m : GameModel S) (text : PositionText) (ask 
   pub pure_lower : HasRoom m ask → HasVisits m ask → serial_bound m One m.root ≤ℤ r.lower
   pub pure_upper : HasRoom m ask → HasVisits m ask → r.upper ≤ℤ serial_bound m Two m.root
   pub at_once : HasRoom m ask → HasVisits m ask → IsPureClose m ask → (r.outcome ≡ Closed) × All (λ n. n ≡ 0) r.spent
+
+-- what is told of a game: a report that is a solution, the turns of each worker, and the rows of the closed board
+pub record IsSolvedGame {S : Type 0} (m : GameModel S) (text : PositionText) (ask : Ask) (x : Solved) : Type 0 where
+  pub solution : IsSolution m text ask x.report
+  pub within : All (HasLimit ask) x.turns
+  -- the report tells how many of its turns each worker has spent
+  pub spent : x.report.spent ≡ spent_of x.turns
+  pub left : IsLeft m ask x.report x.kept

@@ -3,7 +3,7 @@
 ghost use Rattle.std.specs.Prelude.{◌≡◌, ◌+◌, ◌≤◌, true, [], length, All, IfOk};
 ghost use Rattle.shared_board.specs.Values.{IsPassOf};
 ghost use Rattle.shared_board.specs.Passes.{seen_by};
-ghost use Rattle.lazy_workers.specs.Workers.{IsBoardFor, IsLead, IsJob, IsDone, AreJoined, KnowsEach};
+ghost use Rattle.lazy_workers.specs.Workers.{IsBoardFor, IsLead, IsJob, IsDone, AreJoined, rows_of};
 
 use certificate::Ask;
 use matrix_game::Turns;
@@ -24,8 +24,7 @@ pub(crate) struct Job<G> {
 #[derive(Drop)]
 pub(crate) struct Done<G> {
     pub pass: BarePass<G>,
-    /// The turns that it has spent.
-    pub spent: u64,
+    pub turns: Turns,
     pub end: SearchEnd,
 }
 
@@ -90,31 +89,30 @@ pub(crate) fn work<G: Game, T: Gate>(
     )?;
     Ok(Done {
         pass: desk.into_pass().into_bare(),
-        spent: turns.spent(),
+        turns,
         end,
     })
 }
 
-/// Joins the passes to the lead's, and adds the turns that each worker has spent. The result is whether some worker's
-/// search ended at a full board.
+/// Joins the passes to the lead's, and adds the turns of each worker. The result is whether some worker's search ended
+/// at a full board.
 pub(crate) fn join_all<G: Game>(
     g: G,
     board: &Board<G>,
     ask: &Ask,
     lead: &mut Pass<G>,
     mut found: Vec<Result<Done<G>, NoMemory>>,
-    spent: &mut Vec<u64>,
+    turns: &mut Vec<Turns>,
 ) -> Result<bool, NoMemory>
     requires board { IsBoardFor G.model g board.now ask.now }
     requires ours { IsPassOf board.now lead.old }
     requires lead { lead.old.view.lead ≡ true }
     requires found { All (λ r. IfOk r (IsDone G.model g board.now ask.now)) found.items }
-    requires none { spent.old.items ≡ [] }
+    requires none { turns.old.items ≡ [] }
     ensures ours { IfOk result (λ _. IsPassOf board.now lead.new) }
     ensures lead { IfOk result (λ _. IsLead lead.new.view lead.old.view.drawn (length lead.old.view.numbers + length found.items)) }
-    ensures count { IfOk result (λ _. length spent.new.items ≡ length found.items) }
-    ensures joined { IfOk result (AreJoined (G.model g) ask.now (seen_by (G.model g) lead.new.view) spent.new.items) }
-    ensures full { IfOk result (λ was_full. was_full ≡ true → KnowsEach board.now.rows lead.new.view) }
+    ensures count { IfOk result (λ _. length turns.new.items ≡ length found.items) }
+    ensures joined { IfOk result (AreJoined (G.model g) ask.now (seen_by (G.model g) lead.new.view) (rows_of lead.new.view) turns.new.items) }
 {
     let mut was_full = false;
     while let Some(done) = found.pop() {
@@ -123,13 +121,13 @@ pub(crate) fn join_all<G: Game>(
         };
         let Done {
             pass,
-            spent: turns,
+            turns: own,
             end,
         } = done;
         let Ok(()) = board.join(lead, Pass::from_bare(pass)) else {
             return Err(NoMemory);
         };
-        spent.push(turns)?;
+        turns.push(own)?;
         if end.is_full() {
             was_full = true;
         }

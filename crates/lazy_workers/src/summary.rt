@@ -2,19 +2,23 @@
 
 ghost use Rattle.std.specs.Prelude.{◌≡◌, IfOk};
 ghost use Rattle.certificate.specs.Ranges.{IsAskInRange, IsPositionInRange};
+ghost use Rattle.lazy_workers.specs.Keeping.{spent_of};
 ghost use Rattle.lazy_workers.specs.Searched.{IsSearched};
-ghost use Rattle.lazy_workers.specs.Solutions.{IsSolution, IsOutcomeFor};
+ghost use Rattle.lazy_workers.specs.Solutions.{IsOutcomeFor, IsSolvedGame};
 
 use certificate::{Ask, Outcome, PositionText, Report};
+use matrix_game::Turns;
 use plan_book::{Book, bound_of};
 use seq::Seq;
 use shared_board::Kept;
 use sim_game::{Game, NoMemory, Side, resolution};
+use std::alloc::Global;
 
-/// A report, and the bounds of the states that the board had rows for.
+/// A report, the turns of each worker, and the bounds of the states that the board had rows for, by row.
 #[derive(Drop)]
 pub struct Solved {
     pub report: Report,
+    pub turns: Seq<Turns>,
     pub kept: Seq<Kept>,
 }
 
@@ -23,14 +27,15 @@ pub struct Solved {
 pub(crate) struct Found {
     pub book: Book,
     pub kept: Seq<Kept>,
-    /// The turns that each worker has spent.
-    pub spent: Seq<u64>,
+    /// The turns of each worker.
+    pub turns: Seq<Turns>,
     /// Whether the search of some worker ended at a full board.
     pub was_full: bool,
 }
 
 /// The report on the best entries of the book.
 pub(crate) fn report_of<G: Game>(
+    alloc: Global,
     g: G,
     position: PositionText,
     ask: &Ask,
@@ -39,11 +44,12 @@ pub(crate) fn report_of<G: Game>(
     requires ask { IsAskInRange ask.now }
     requires position { IsPositionInRange position }
     requires total { found.book.total ≡ ask.now.weight }
-    requires searched { IsSearched (G.model g) ask.now found.book.entries found.spent found.was_full }
-    ensures { IfOk result (λ solved. IsSolution (G.model g) position ask.now solved.report) }
+    requires searched { IsSearched (G.model g) ask.now found.book.entries found.kept found.turns found.was_full }
+    ensures { IfOk result (IsSolvedGame (G.model g) position ask.now) }
 {
     let one = found.book.sheet(g, Side::One)?;
     let two = found.book.sheet(g, Side::Two)?;
+    let spent = spent_of(alloc, found.turns.as_slice())?;
     let lower = bound_of(g, &one, g.root());
     let upper = bound_of(g, &two, g.root());
     let resolution = resolution(g, ask.weight);
@@ -58,12 +64,24 @@ pub(crate) fn report_of<G: Game>(
             outcome,
             lower,
             upper,
-            spent: found.spent,
+            spent: Seq::from_vec(spent),
             one,
             two,
         },
+        turns: found.turns,
         kept: found.kept,
     })
+}
+
+/// How many turns each worker has spent.
+fn spent_of(alloc: Global, turns: &[Turns]) -> Result<Vec<u64>, NoMemory>
+    ensures { IfOk result (λ spent. spent.items ≡ spent_of turns.now) }
+{
+    let mut spent = Vec::with_capacity(alloc, turns.len())?;
+    for own in turns {
+        spent.push(own.spent())?;
+    }
+    Ok(spent)
 }
 
 fn outcome_for(gap: i64, asked: i64, resolution: i64, was_full: bool) -> Outcome

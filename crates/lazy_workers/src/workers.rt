@@ -1,18 +1,20 @@
 //! The search of a whole game.
 
-ghost use Rattle.std.specs.Prelude.{◌≡◌, ◌≤◌, IfOk};
+ghost use Rattle.std.specs.Prelude.{◌≡◌, ◌+◌, ◌≤◌, length, All, IfOk};
 ghost use Rattle.certificate.specs.Ranges.{IsAskInRange, IsPositionInRange};
+ghost use Rattle.shared_board.specs.Values.{IsPassOf};
 ghost use Rattle.lazy_workers.specs.Searched.{IsSearched};
-ghost use Rattle.lazy_workers.specs.Solutions.{IsSolution};
-ghost use Rattle.lazy_workers.specs.Workers.{IsBoardFor, IsJob, IsDone};
+ghost use Rattle.lazy_workers.specs.Solutions.{IsSolvedGame};
+ghost use Rattle.lazy_workers.specs.Workers.{IsBoardFor, IsLead, IsJob, IsDone};
 
 use crate::jobs::{Done, Job, join_all, split_all, work};
 use crate::summary::{Found, Solved, report_of};
 use certificate::{Ask, PositionText};
+use matrix_game::Turns;
 use oracle_search::Gate;
 use plan_book::Book;
 use seq::Seq;
-use shared_board::{Board, CloseError};
+use shared_board::{Board, CloseError, Pass};
 use sim_game::{Game, NoMemory};
 use std::alloc::Global;
 use std::thread;
@@ -32,14 +34,14 @@ where
     G::State: Send + Sync,
     requires ask { IsAskInRange ask.now }
     requires position { IsPositionInRange position }
-    ensures { IfOk result (λ solved. IsSolution (G.model g) position ask.now solved.report) }
+    ensures { IfOk result (IsSolvedGame (G.model g) position ask.now) }
 {
     let found = if g.rank(g.root()) == 0 {
         nothing(alloc, g, ask)?
     } else {
         search_all(rt, alloc, g, ask, gate)?
     };
-    report_of(g, position, ask, found)
+    report_of(alloc, g, position, ask, found)
 }
 
 /// What is found where the root is an end: it needs no search.
@@ -47,13 +49,16 @@ fn nothing<G: Game>(alloc: Global, g: G, ask: &Ask) -> Result<Found, NoMemory>
     requires ask { IsAskInRange ask.now }
     requires end { (G.model g).rank (G.model g).root ≡ 0 }
     ensures total { IfOk result (λ found. found.book.total ≡ ask.now.weight) }
-    ensures searched { IfOk result (λ found. IsSearched (G.model g) ask.now found.book.entries found.spent found.was_full) }
+    ensures searched { IfOk result (λ found. IsSearched (G.model g) ask.now found.book.entries found.kept found.turns found.was_full) }
 {
-    let spent = Vec::from_elem(alloc, 0, ask.workers as usize)?;
+    let mut turns = Vec::with_capacity(alloc, ask.workers as usize)?;
+    for _worker in 0..ask.workers {
+        turns.push(Turns::new(ask.turns))?;
+    }
     Ok(Found {
         book: Book::new(alloc, ask.weight),
         kept: Seq::from_vec(Vec::new(alloc)),
-        spent: Seq::from_vec(spent),
+        turns: Seq::from_vec(turns),
         was_full: false,
     })
 }
@@ -71,7 +76,7 @@ where
     requires ask { IsAskInRange ask.now }
     requires goes_on { 1 ≤ (G.model g).rank (G.model g).root }
     ensures total { IfOk result (λ found. found.book.total ≡ ask.now.weight) }
-    ensures searched { IfOk result (λ found. IsSearched (G.model g) ask.now found.book.entries found.spent found.was_full) }
+    ensures searched { IfOk result (λ found. IsSearched (G.model g) ask.now found.book.entries found.kept found.turns found.was_full) }
 {
     let (board, mut lead) = Board::create(alloc, g, ask.rows, ask.weight)?;
     let jobs = split_all(alloc, &board, &mut lead, ask.workers)?;
@@ -85,13 +90,33 @@ where
             ensures { IfOk result (IsDone G.model g shared.entry.now asked) }
         { work(alloc, g, shared, &asked, gate, job) },
     )?;
-    let mut spent = Vec::with_capacity(alloc, ask.workers as usize)?;
-    let was_full = join_all(g, &board, ask, &mut lead, done, &mut spent)?;
+    gather(alloc, g, board, ask, lead, done)
+}
+
+/// What the workers have found together: their passes are joined to the lead's, and the board is closed.
+fn gather<G: Game>(
+    alloc: Global,
+    g: G,
+    board: Board<G>,
+    ask: &Ask,
+    mut lead: Pass<G>,
+    found: Vec<Result<Done<G>, NoMemory>>,
+) -> Result<Found, NoMemory>
+    requires board { IsBoardFor G.model g board ask.now }
+    requires ours { IsPassOf board lead }
+    requires lead { IsLead lead.view (1 + ask.now.workers) 1 }
+    requires found { All (λ r. IfOk r (IsDone G.model g board ask.now)) found.items }
+    requires count { length found.items ≡ ask.now.workers }
+    ensures total { IfOk result (λ found. found.book.total ≡ ask.now.weight) }
+    ensures searched { IfOk result (λ found. IsSearched (G.model g) ask.now found.book.entries found.kept found.turns found.was_full) }
+{
+    let mut turns = Vec::with_capacity(alloc, ask.workers as usize)?;
+    let was_full = join_all(g, &board, ask, &mut lead, found, &mut turns)?;
     match board.close(lead) {
         Ok(closed) => Ok(Found {
             book: closed.book,
             kept: closed.kept,
-            spent: Seq::from_vec(spent),
+            turns: Seq::from_vec(turns),
             was_full,
         }),
         Err(CloseError::NoMemory { .. }) => Err(NoMemory),

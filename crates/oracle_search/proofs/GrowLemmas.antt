@@ -202,7 +202,11 @@ step_turned old new none one = ⊎_elim
     (λ (b : new ≡ after_turn old).
     let limit : new.limit ≡ old.limit = ap (λ (t : Budget). t.limit) b in
     let spent : new.spent ≡ old.spent + 1 = ap (λ (t : Budget). t.spent) b in
-    record { limit = limit; rises = omega arith; none = λ e. ap (λ (t : Budget). t.spent) (none e) })
+    let some : old.spent ≤ old.limit → old.spent + 1 ≤ old.limit = λ h. ⊎_elim
+    (λ (l : old.spent < old.limit). omega arith)
+    (λ (g : old.limit ≤ old.spent). let same = ap (λ (t : Budget). t.spent) (none (omega arith)) in absurd (omega arith))
+    (cases_lt old.spent old.limit) in
+    record { limit = limit; rises = omega arith; within = λ h. omega (arith, some h); none = λ e. ap (λ (t : Budget). t.spent) (none e) })
     one
 
 -- ---- the parts of a search that finish no state

@@ -21,12 +21,12 @@ pub visited_after : (u v w : VisitsView) → HasVisited u v → HasVisited v w �
 visited_after u v w p q = record { limit = q.limit ∙ p.limit; rises = λ side. omega (arith, p.rises side, q.rises side) }
 
 pub turned_none : (t : Budget) → HasTurned t t
-turned_none t = record { limit = refl; rises = omega arith; none = λ _. refl }
+turned_none t = record { limit = refl; rises = omega arith; within = λ h. h; none = λ _. refl }
 
 pub turned_after : (t u v : Budget) → HasTurned t u → HasTurned u v → HasTurned t v
 turned_after t u v p q =
     let left : left_of t ≡ 0 → left_of u ≡ 0 = λ e. let same = p.none e in let limit = p.limit in omega arith in
-    record { limit = q.limit ∙ p.limit; rises = omega (arith, p.rises, q.rises); none = λ e. q.none (left e) ∙ p.none e }
+    record { limit = q.limit ∙ p.limit; rises = omega (arith, p.rises, q.rises); within = λ h. q.within (p.within h); none = λ e. q.none (left e) ∙ p.none e }
 
 module _ {S G N : Type 0} (m : GameModel S) where
   -- ---- numbers only come closer

@@ -25,10 +25,11 @@ pub record HasVisited (old new : VisitsView) : Type 0 where
   pub limit : new.limit ≡ old.limit
   pub rises : (side : Side) → spent_on side old ≤ spent_on side new
 
--- turns were taken, with the same limit, and none where none was left
+-- turns were taken, with the same limit and within it, and none where none was left
 pub record HasTurned (old new : Budget) : Type 0 where
   pub limit : new.limit ≡ old.limit
   pub rises : old.spent ≤ new.spent
+  pub within : old.spent ≤ old.limit → new.spent ≤ new.limit
   pub none : left_of old ≡ 0 → new.spent ≡ old.spent
 
 -- what a worker works on

@@ -14,5 +14,5 @@ returns g c =
     let r = c.in_ok-solved.solved.report in
     let game = c.sample_game.result.setting in
     sampled_is c.args.number r c.told.result
-    (game, c.sample_game.result.valid, c.sample_game.ensures, subst (λ text. IsSolution (goofspiel_game game) text sample_ask r) c.in_ok-position.ensures c.in_ok-solved.ensures)
+    (game, c.sample_game.result.valid, c.sample_game.ensures, subst (λ text. IsSolution (goofspiel_game game) text sample_ask r) c.in_ok-position.ensures c.in_ok-solved.ensures.solution)
     c.told.ensures

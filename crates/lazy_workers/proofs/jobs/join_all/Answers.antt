@@ -1,4 +1,5 @@
-use Rattle.std.proofs.Common.{◌≡◌, ◌++◌, ◌∷◌, [], inl, inr, true, false, List, ℕ, length, sym, ap, subst, ◌∙◌}
+use Rattle.std.proofs.Common.{◌≡◌, ◌++◌, ◌∷◌, [], inl, inr, true, false, List, length, sym, ap, subst, ◌∙◌}
+use Rattle.matrix_game.specs.Budget.{Budget}
 use Rattle.shared_board.specs.Plays.{joined}
 use Rattle.shared_board.specs.Passes.{KnowsNoLess}
 use Rattle.shared_board.specs.Values.{PassValue, IsPassOf}
@@ -8,13 +9,13 @@ use Rattle.lazy_workers.proofs.jobs.join_all.Goals as goal
 pub loop-done-init : goal.loop-done-init
 loop-done-init g c =
     let b = c.args.board.now in let ask = c.args.ask.now in let first = c.args.lead.now in let found = c.args.found.items in
-    subst (λ (l : List ℕ). IsJoining g.G.Game.model c.args.g b ask first first (length found) found l false) (sym c.requires.none)
+    subst (λ (l : List Budget). IsJoining g.G.Game.model c.args.g b ask first first (length found) found l false) (sym c.requires.none)
     (joining_none g.G.Game.model c.args.g b ask first found c.requires.ours c.requires.lead c.requires.found)
 
 pub from_bare-requires : goal.from_bare-requires
 from_bare-requires g c =
     let is = c.in-Some.ensures.items ∙ ap (λ r. c.pop.new.self.items ++ r ∷ []) c.in-Ok.is in
-    (joining_next g.G.Game.model c.args.g c.args.board.now c.args.ask.now c.args.lead.now c.loop-done.lead (length c.args.found.items) c.loop-done.found.items c.pop.new.self.items c.in-Ok.done c.loop-done.spent.items c.loop-done.was_full is c.loop-done.invariant).1.pass.sound
+    (joining_next g.G.Game.model c.args.g c.args.board.now c.args.ask.now c.args.lead.now c.loop-done.lead (length c.args.found.items) c.loop-done.found.items c.pop.new.self.items c.in-Ok.done c.loop-done.turns.items c.loop-done.was_full is c.loop-done.invariant).1.pass.sound
 
 pub join-requires-clause-ours : goal.join-requires-clause-ours
 join-requires-clause-ours g c = c.loop-done.invariant.ours
@@ -23,14 +24,14 @@ pub join-requires-clause-theirs : goal.join-requires-clause-theirs
 join-requires-clause-theirs g c =
     let is = c.in-Some.ensures.items ∙ ap (λ r. c.pop.new.self.items ++ r ∷ []) c.in-Ok.is in
     subst (IsPassOf c.args.board.now) (sym c.from_bare.ensures)
-    (joining_next g.G.Game.model c.args.g c.args.board.now c.args.ask.now c.args.lead.now c.loop-done.lead (length c.args.found.items) c.loop-done.found.items c.pop.new.self.items c.in-Ok.done c.loop-done.spent.items c.loop-done.was_full is c.loop-done.invariant).1.pass.ours
+    (joining_next g.G.Game.model c.args.g c.args.board.now c.args.ask.now c.args.lead.now c.loop-done.lead (length c.args.found.items) c.loop-done.found.items c.pop.new.self.items c.in-Ok.done c.loop-done.turns.items c.loop-done.was_full is c.loop-done.invariant).1.pass.ours
 
 pub loop-done-preserved-then-is_full : goal.loop-done-preserved-then-is_full
 loop-done-preserved-then-is_full g c =
     let is = c.in-Some.ensures.items ∙ ap (λ r. c.pop.new.self.items ++ r ∷ []) c.in-Ok.is in
     let view = subst (λ (p : PassValue g.row.G.Denot). c.join.new.pass.view ≡ joined c.loop-done.lead.view p.view) c.from_bare.ensures c.in-Ok-join.ensures.view in
     let theirs = subst (λ (p : PassValue g.row.G.Denot). KnowsNoLess (g.G.Game.model c.args.board.now.game) p.view c.join.new.pass.view) c.from_bare.ensures c.in-Ok-join.ensures.theirs in
-    joining_more g.G.Game.model c.args.g c.args.board.now c.args.ask.now c.args.lead.now c.loop-done.lead c.join.new.pass (length c.args.found.items) c.loop-done.found.items c.pop.new.self.items c.in-Ok.done c.loop-done.spent.items c.push.new.self.items c.loop-done.was_full true
+    joining_more g.G.Game.model c.args.g c.args.board.now c.args.ask.now c.args.lead.now c.loop-done.lead c.join.new.pass (length c.args.found.items) c.loop-done.found.items c.pop.new.self.items c.in-Ok.done c.loop-done.turns.items c.push.new.self.items c.loop-done.was_full true
     c.requires.board.game is c.in_ok-push.ensures.items c.join.ensures.name c.join.ensures.total view c.in-Ok-join.ensures.mine theirs (λ _. inr c.if-is_full.ensures) (λ e. absurd (cc)) c.loop-done.invariant
 
 pub loop-done-preserved : goal.loop-done-preserved
@@ -38,14 +39,11 @@ loop-done-preserved g c =
     let is = c.in-Some.ensures.items ∙ ap (λ r. c.pop.new.self.items ++ r ∷ []) c.in-Ok.is in
     let view = subst (λ (p : PassValue g.row.G.Denot). c.join.new.pass.view ≡ joined c.loop-done.lead.view p.view) c.from_bare.ensures c.in-Ok-join.ensures.view in
     let theirs = subst (λ (p : PassValue g.row.G.Denot). KnowsNoLess (g.G.Game.model c.args.board.now.game) p.view c.join.new.pass.view) c.from_bare.ensures c.in-Ok-join.ensures.theirs in
-    joining_more g.G.Game.model c.args.g c.args.board.now c.args.ask.now c.args.lead.now c.loop-done.lead c.join.new.pass (length c.args.found.items) c.loop-done.found.items c.pop.new.self.items c.in-Ok.done c.loop-done.spent.items c.push.new.self.items c.loop-done.was_full c.loop-done.was_full
+    joining_more g.G.Game.model c.args.g c.args.board.now c.args.ask.now c.args.lead.now c.loop-done.lead c.join.new.pass (length c.args.found.items) c.loop-done.found.items c.pop.new.self.items c.in-Ok.done c.loop-done.turns.items c.push.new.self.items c.loop-done.was_full c.loop-done.was_full
     c.requires.board.game is c.in_ok-push.ensures.items c.join.ensures.name c.join.ensures.total view c.in-Ok-join.ensures.mine theirs (λ e. inl e) (λ e. (e, c.if-is_full.ensures)) c.loop-done.invariant
 
 pub returns-clause-ours : goal.returns-clause-ours
 returns-clause-ours g c = c.loop-done.invariant.ours
-
-pub returns-clause-full : goal.returns-clause-full
-returns-clause-full g c = c.loop-done.invariant.knows
 
 pub returns-clause-joined : goal.returns-clause-joined
 returns-clause-joined g c = c.loop-done.invariant.joined

@@ -1,13 +1,14 @@
-use Rattle.std.proofs.Common.{Some, ◌≡◌, ◌≤◌, ⊎_elim, true, w64, SFits, sym, ap, subst, ◌∙◌, arith}
+use Rattle.std.proofs.Common.{Some, ◌≡◌, ◌≤◌, w64, SFits, sym, ap, subst, ◌∙◌, arith}
 use Rattle.std.proofs.lemmas.Int.{ints, to_z-of_z}
-use Rattle.bounds_board.specs.Views.{WasFull}
-use Rattle.shared_board.specs.Passes.{seen_by}
+use Rattle.sim_game.proofs.SideLemmas.{looser_refl}
+use Rattle.shared_board.specs.Passes.{seen_by, key_of}
+use Rattle.shared_board.proofs.SeenLemmas.{has_key_of}
 use Rattle.shared_board.specs.Values.{IsPassOf, desk_view}
 use Rattle.shared_board.specs.Bare.{pass_of}
-use Rattle.oracle_search.specs.Searches.{at_work, IsWorked, Ends}
-use Rattle.lazy_workers.specs.Workers.{HasFound, KnowsEach}
+use Rattle.oracle_search.specs.Searches.{at_work, IsWorked}
+use Rattle.lazy_workers.specs.Workers.{HasFound, rows_of}
 use Rattle.lazy_workers.proofs.WorkerLemmas.{found}
-use Rattle.lazy_workers.proofs.JoinLemmas.{never, pass_later, knows_full}
+use Rattle.lazy_workers.proofs.JoinLemmas.{found_later, pass_later}
 use Rattle.lazy_workers.proofs.jobs.work.Goals as goal
 
 pub returns : goal.returns
@@ -30,13 +31,18 @@ returns g c =
     let rows : last.board.rows ≡ ask.rows = worked.board.later.rows ∙ ap (λ b. b.rows) c.new-desk.ensures.board ∙ c.requires.board.rows in
     let total : last.board.total ≡ ask.weight = worked.board.later.total ∙ ap (λ b. b.total) c.new-desk.ensures.board ∙ c.requires.board.total in
     let weight : 1 ≤ ask.weight = omega (arith, c.requires.board.asked.weight.0) in
-    let has = found m game ask start last c.in_ok-end.end rows total weight c.requires.board.goes_on c.new-settled.ensures c.new-turns.ensures worked ends takes c.new-visits.ensures (λ visits quiet. pure visits quiet c.requires.board.goes_on) at_once c.spent.ensures.within in
+    let has = found m game ask start last c.in_ok-end.end rows total weight c.requires.board.goes_on c.new-settled.ensures c.new-turns.ensures worked ends takes c.new-visits.ensures (λ visits quiet. pure visits quiet c.requires.board.goes_on) at_once in
     let desk = c.search.new.board in
     let b = c.args.board.now in
     let game_is : desk.board.game ≡ c.args.g = worked.board.later.game ∙ ap (λ x. x.game) c.new-desk.ensures.board ∙ c.requires.board.game in
     let to : pass_of c.into_bare.result ≡ desk.pass = c.into_bare.ensures.same ∙ c.into_pass.ensures.pass in
-    let at_game : HasFound m ask (seen_by m desk.pass.view) c.search.new.turns.spent c.in_ok-end.end = subst (λ x. HasFound m ask (seen_by (model x) desk.pass.view) c.search.new.turns.spent c.in_ok-end.end) game_is has in
-    let at_pass : HasFound m ask (seen_by m c.into_bare.result.seat.me.0) c.search.new.turns.spent c.in_ok-end.end = subst (λ p. HasFound m ask (seen_by m p.view) c.search.new.turns.spent c.in_ok-end.end) (sym to) at_game in
+    let at_game : HasFound m ask (seen_by m desk.pass.view) (λ row key. key_of desk.pass.view.keys row ≡ Some key) c.search.new.turns c.in_ok-end.end =
+    subst (λ x. HasFound m ask (seen_by (model x) desk.pass.view) (λ row key. key_of desk.pass.view.keys row ≡ Some key) c.search.new.turns c.in_ok-end.end) game_is has in
+    let in_rows : HasFound m ask (seen_by m desk.pass.view) (rows_of desk.pass.view) c.search.new.turns c.in_ok-end.end =
+    found_later m ask (seen_by m desk.pass.view) (seen_by m desk.pass.view) (λ row key. key_of desk.pass.view.keys row ≡ Some key) (rows_of desk.pass.view) (λ side key. looser_refl side (seen_by m desk.pass.view side key)) (has_key_of desk.pass.view.keys)
+    c.search.new.turns c.in_ok-end.end at_game in
+    let at_pass : HasFound m ask (seen_by m c.into_bare.result.seat.me.0) (rows_of c.into_bare.result.seat.me.0) c.search.new.turns c.in_ok-end.end =
+    subst (λ p. HasFound m ask (seen_by m p.view) (rows_of p.view) c.search.new.turns c.in_ok-end.end) (sym to) in_rows in
     let from = c.new-desk.ensures.pass ∙ c.from_bare.ensures in
     let own = c.into_pass.ensures.ours in
     let first = c.requires.job.ours in
@@ -48,12 +54,5 @@ returns g c =
     } in
     record {
       pass = pass_later model c.args.g b ask c.args.job.pass c.into_bare.result c.new-desk.result desk from to worked.board.later.name c.into_bare.ensures.sound ours c.requires.job;
-      found = subst (λ n. HasFound m ask (seen_by m c.into_bare.result.seat.me.0) n c.in_ok-end.end) (sym c.spent.ensures.spent) at_pass;
-      knows = λ full.
-          let noted = subst (Ends m m.root ask.gap last) full ends in
-          let same : desk.board.rows ≡ b.rows = rows ∙ sym c.requires.board.rows in
-          ⊎_elim
-          (λ (a : start.settled.was_full ≡ true). absurd (never c.new-settled.result.was_full (ap (λ f. f.was_full) c.new-settled.ensures) a))
-          (λ (was : WasFull m last.board). subst (λ n. KnowsEach n c.into_bare.result.seat.me.0) same (subst (λ p. KnowsEach desk.board.rows p.view) (sym to) (knows_full model c.args.g b ask m desk was)))
-          (worked.cause noted);
+      found = at_pass;
     }

@@ -1,6 +1,8 @@
-use Rattle.std.proofs.Common.{rules, ◌-ℤ◌, w64, SFits, to_z, of_z, refl, ◌∙◌}
+use Rattle.std.proofs.Common.{rules, ◌-ℤ◌, w64, SFits, to_z, of_z, length, refl, ap, ◌∙◌}
 use Rattle.std.proofs.lemmas.Int.{to_z-of_z}
-use Rattle.lazy_workers.proofs.SolutionLemmas.{solution, gap_fits}
+use Rattle.std.proofs.lemmas.List.{length-map}
+use Rattle.lazy_workers.specs.Keeping.{spent_of}
+use Rattle.lazy_workers.proofs.SolutionLemmas.{solved, gap_fits}
 use Rattle.lazy_workers.proofs.summary.report_of.Goals as goal
 
 pub overflow_sub-upper : goal.overflow_sub-upper
@@ -32,7 +34,8 @@ returns g c =
     (c.in_ok-two.ensures.total ∙ c.requires.total) c.in_ok-one.ensures.best c.in_ok-two.ensures.best c.bound_of-lower.result c.bound_of-upper.result lower_fits upper_fits (rw c.root.ensures at c.bound_of-lower.ensures)
     (rw c.root-2.ensures at c.bound_of-upper.ensures) in
     let ends = rw (to_z-of_z w64 (to_z w64 (of_z w64 c.bound_of-upper.result) -ℤ to_z w64 (of_z w64 c.bound_of-lower.result)) gap_fits) at c.outcome_for-outcome.ensures in
-    solution m game c.args.ask.now c.requires.ask c.args.position c.requires.position c.args.found.book.entries c.args.found.spent c.args.found.was_full c.requires.searched _
-    (record { position = refl; weight = refl; turns = refl; asked = asked; workers = c.requires.searched.workers })
-    (is.0, resolution ∙ is.1, is.2) (rw resolution c.resolution-resolution.ensures.most) (lower ∙ rw c.root.ensures at c.bound_of-lower.ensures) (upper ∙ rw c.root-2.ensures at c.bound_of-upper.ensures) refl c.in_ok-one.ensures.side c.in_ok-two.ensures.side (c.in_ok-one.ensures.total ∙ c.requires.total) (c.in_ok-two.ensures.total ∙ c.requires.total)
+    let spent = c.from_vec.ensures ∙ c.in_ok-spent.ensures ∙ ap spent_of c.as_slice.ensures in
+    solved m game c.args.ask.now c.requires.ask c.args.position c.requires.position c.args.found.book.entries c.args.found.kept c.args.found.turns c.args.found.was_full c.requires.searched _
+    (record { position = refl; weight = refl; turns = refl; asked = asked; workers = ap length spent ∙ length-map c.args.found.turns (λ t. t.spent) ∙ c.requires.searched.workers })
+    (is.0, resolution ∙ is.1, is.2) (rw resolution c.resolution-resolution.ensures.most) (lower ∙ rw c.root.ensures at c.bound_of-lower.ensures) (upper ∙ rw c.root-2.ensures at c.bound_of-upper.ensures) spent c.in_ok-one.ensures.side c.in_ok-two.ensures.side (c.in_ok-one.ensures.total ∙ c.requires.total) (c.in_ok-two.ensures.total ∙ c.requires.total)
     c.in_ok-one.ensures.lawful c.in_ok-two.ensures.lawful c.in_ok-one.ensures.best c.in_ok-two.ensures.best ends

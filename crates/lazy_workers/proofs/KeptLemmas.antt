@@ -1,0 +1,181 @@
+-- What the rows of the closed board show.
+use Rattle.std.proofs.Common.{◌≡◌, ◌≢◌, ⊎_elim, inl, inr, ℕ, suc, ◌+◌, ◌*◌, ◌<◌, ◌≤◌, ℤ, pos, ◌-ℤ◌, ◌*ℤ◌, ◌≤ℤ◌, Bool, cond, Some, List, [], ◌∷◌, length, get_or, slice_index, Contains, refl, sym, ap, subst, ◌∙◌, arith}
+use Rattle.std.specs.List.{AllByRecursion}
+use Rattle.std.proofs.lemmas.Int.{ints}
+use Rattle.std.proofs.lemmas.List.Elements.{All-weaker, All-contains, All-from_recursion, recursion_from_All, at_from_Contains}
+use Rattle.sums.proofs.IntegerLemmas.{times_mono}
+use Rattle.sim_game.specs.declared.Side.{Side}
+use Rattle.sim_game.specs.declared.Side.TheVariants.{One, Two}
+use Rattle.sim_game.specs.Model.{GameModel, IsGame}
+use Rattle.sim_game.specs.Sides.{IsNoTighter}
+use Rattle.sim_game.specs.Resolution.{IsResolution}
+use Rattle.plan_book.specs.declared.Entry.{Entry}
+use Rattle.plan_book.specs.Books.{IsClosed, IsBooked, best_posted, book_bound}
+use Rattle.plan_book.specs.Serial.{serial_bound}
+use Rattle.plan_book.proofs.BookLemmas.{best_backed, best_range}
+use Rattle.plan_book.proofs.ExpectedLemmas.{is_other}
+use Rattle.bounds_board.specs.Views.{IsEnclosure}
+use Rattle.matrix_game.specs.Budget.{Budget}
+use Rattle.shared_board.specs.Rule.{Has}
+use Rattle.shared_board.specs.Passes.{seen_by}
+use Rattle.shared_board.specs.Closing.{IsKept, IsKeptRow, IsDistinct, HasKey, kept_bound}
+use Rattle.shared_board.specs.declared.view.View.{View}
+use Rattle.shared_board.specs.declared.close.Kept.{Kept}
+use Rattle.oracle_search.specs.Finished.{AreApart, rank_gap}
+use Rattle.certificate.specs.declared.report.Ask.{Ask}
+use Rattle.lazy_workers.specs.Keeping.{IsKeptState, IsFinishedRow, AreOwed, AreRows}
+use Rattle.lazy_workers.specs.Searched.{HasKeysIn, IsFar, IsSearched}
+use Rattle.lazy_workers.specs.Workers.{rows_of, KnowsEach, IsFinishedKey, AreOwedTo, IsSpent, AreJoined}
+use Rattle.lazy_workers.proofs.JoinLemmas.{joined_later}
+
+nothing_kept : Kept
+nothing_kept = record { key = 0; lower = pos 0; upper = pos 0 }
+
+-- no key stands twice
+Apart : List ℕ → Type 0
+Apart [] = Unit {0}
+Apart (k ∷ ks) = ((x : ℕ) → Has x ks → k ≢ x) × Apart ks
+
+has_at : (ks : List ℕ) (x : ℕ) → Has x ks → (i : ℕ) × (i < length ks) × (slice_index ks i ≡ x)
+has_at [] x h = absurd h
+has_at (k ∷ ks) x h = ⊎_elim
+    (λ (e : x ≡ k). (0, omega arith, sym e))
+    (λ (t : Has x ks). let it = has_at ks x t in (suc it.0, omega (arith, it.1), it.2))
+    h
+
+apart_by_recursion : (ks : List ℕ) → AreApart ks → Apart ks
+unfolding Apart
+apart_by_recursion [] apart = tt
+apart_by_recursion (k ∷ ks) apart = (
+  λ x h e. let it = has_at ks x h in apart 0 (suc it.0) (omega arith) (omega (arith, it.1)) (e ∙ sym it.2),
+  apart_by_recursion ks (λ i j l h. apart (suc i) (suc j) (omega arith) (omega arith)),
+)
+
+module _ {S G : Type 0} (m : GameModel S) (game : IsGame m) (ask : Ask) (v : View G) (entries : List Entry) (kept : List Kept) (is : IsKept m ask.rows v entries kept) (closed : IsClosed m ask.weight entries) where
+  -- each entry's key has a row
+  pub kept_keys : HasKeysIn ask.rows entries
+  kept_keys = record {
+    key_at = λ row. Some (get_or kept row nothing_kept).key;
+    held = All-weaker (λ (e : Entry). HasKey kept e.key) (λ e. (row : ℕ) × (row < ask.rows) × (Some (get_or kept row nothing_kept).key ≡ Some e.key))
+        (λ e h.
+        let it = at_from_Contains kept h.row h.is_kept in
+        let few = is.few in
+        let inside = it.1 in
+        let same : get_or kept it.0 nothing_kept ≡ h.row = it.2 nothing_kept in
+        (it.0, omega arith, ap Some (ap (λ (k : Kept). k.key) same ∙ h.is_key)))
+        entries is.entered;
+  }
+
+  -- the bounds of each row are the best of the book, which are backed
+  kept_state : (x : Kept) → IsKeptRow m entries x → IsKeptState m x
+  kept_state x row =
+      let s = row.named.state in
+      let at : (side : Side) → kept_bound side x ≡ best_posted m entries side (m.key s) = λ side. row.best side ∙ ap (best_posted m entries side) (sym row.named.is_key) in
+      let best : IsEnclosure m (best_posted m entries One (m.key s)) (best_posted m entries Two (m.key s)) s = record {
+        lower_backed = best_backed m ask.weight (IsBooked m entries) entries One s game row.named.reachable closed;
+        upper_backed = best_backed m ask.weight (IsBooked m entries) entries Two s game row.named.reachable closed;
+        lower_low = best_range m ask.weight (IsBooked m entries) entries One One (m.key s) game closed;
+        lower_high = best_range m ask.weight (IsBooked m entries) entries One Two (m.key s) game closed;
+        upper_low = best_range m ask.weight (IsBooked m entries) entries Two One (m.key s) game closed;
+        upper_high = best_range m ask.weight (IsBooked m entries) entries Two Two (m.key s) game closed;
+      } in
+      record { named = row.named; bounds = subst (λ (z : ℤ). IsEnclosure m z x.upper s) (sym (at One)) (subst (λ (z : ℤ). IsEnclosure m (best_posted m entries One (m.key s)) z s) (sym (at Two)) best) }
+
+  rows_kept : 1 ≤ m.rank m.root → AreRows m ask.rows kept
+  rows_kept goes_on = record { none = λ end. absurd (omega arith); few = is.few; distinct = is.distinct; each = All-weaker (IsKeptRow m entries) (IsKeptState m) kept_state kept is.each }
+
+  -- ---- the rows of finished states
+  module _ (owed : AreOwedTo m ask (seen_by m v) (rows_of v)) (n : ℕ) (resolution : IsResolution m ask.weight n) where
+    row_of : (key : ℕ) → IsFinishedKey m ask (seen_by m v) (rows_of v) key → HasKey kept key
+    row_of key f = is.known f.row key f.has_row
+
+    abbrev rows : (keys : List ℕ) → AllByRecursion (IsFinishedKey m ask (seen_by m v) (rows_of v)) keys → List Kept
+    rows [] each = []
+    rows (key ∷ keys) each = (row_of key each.0).row ∷ rows keys each.1
+
+    rows_count : (keys : List ℕ) (each : AllByRecursion (IsFinishedKey m ask (seen_by m v) (rows_of v)) keys) → length (rows keys each) ≡ length keys
+    rows_count [] each = refl
+    rows_count (key ∷ keys) each = ap suc (rows_count keys each.1)
+
+    rows_among : (keys : List ℕ) (each : AllByRecursion (IsFinishedKey m ask (seen_by m v) (rows_of v)) keys) → AllByRecursion (Contains kept) (rows keys each)
+    rows_among [] each = tt
+    rows_among (key ∷ keys) each = ((row_of key each.0).is_kept, rows_among keys each.1)
+
+    rows_keys : (keys : List ℕ) (each : AllByRecursion (IsFinishedKey m ask (seen_by m v) (rows_of v)) keys) (x : Kept) → Has x (rows keys each) → Has x.key keys
+    rows_keys [] each x h = h
+    rows_keys (key ∷ keys) each x h = ⊎_elim
+        (λ (e : x ≡ (row_of key each.0).row). inl (ap (λ (k : Kept). k.key) e ∙ (row_of key each.0).is_key))
+        (λ (t : Has x (rows keys each.1)). inr (rows_keys keys each.1 x t))
+        h
+
+    rows_distinct : (keys : List ℕ) (each : AllByRecursion (IsFinishedKey m ask (seen_by m v) (rows_of v)) keys) → Apart keys → IsDistinct (rows keys each)
+    unfolding Apart
+    rows_distinct [] each apart = tt
+    rows_distinct (key ∷ keys) each apart = (
+      λ y h e. apart.0 y.key (rows_keys keys each.1 y h) (sym (row_of key each.0).is_key ∙ e),
+      rows_distinct keys each.1 apart.1,
+    )
+
+    finished_row : (key : ℕ) (f : IsFinishedKey m ask (seen_by m v) (rows_of v) key) → IsFinishedRow m (pos n) (row_of key f).row
+    finished_row key f =
+        let here = row_of key f in
+        let row : IsKeptRow m entries here.row = All-contains (IsKeptRow m entries) kept here.row is.each here.is_kept in
+        let best : (side : Side) → IsNoTighter side (seen_by m v side key) (kept_bound side here.row) = λ side.
+        subst (IsNoTighter side (seen_by m v side key)) (sym (row.best side ∙ ap (best_posted m entries side) here.is_key)) (is.no_looser side key) in
+        let low : seen_by m v One key ≤ℤ here.row.lower = best One in
+        let high : here.row.upper ≤ℤ seen_by m v Two key = best Two in
+        let near = f.close resolution.gap resolution.is_gap in
+        let apart : (here.row.upper -ℤ here.row.lower) ≤ℤ pos (rank_gap m resolution.gap (m.rank f.named.state)) = omega (arith, ints) in
+        record {
+          named = record { state = f.named.state; reachable = f.named.reachable; goes_on = f.named.goes_on; is_key = f.named.is_key ∙ sym here.is_key };
+          close = share (m.rank m.root) (m.rank f.named.state) (resolution.gap + 1 + cond m.chance_free 0 1) n (here.row.upper -ℤ here.row.lower) resolution.sums apart;
+        } where
+          share : (root rank each n : ℕ) (gap : ℤ) → n ≡ root * each → gap ≤ℤ pos (rank * each) → (pos root *ℤ gap) ≤ℤ (pos rank *ℤ pos n)
+          share root rank each n gap is near =
+              let times : root * (rank * each) ≡ rank * n = rw is (omega arith) in
+              subst (λ (k : ℕ). (pos root *ℤ gap) ≤ℤ pos k) times (times_mono root gap (pos (rank * each)) near)
+
+    rows_finished : (keys : List ℕ) (each : AllByRecursion (IsFinishedKey m ask (seen_by m v) (rows_of v)) keys) → AllByRecursion (IsFinishedRow m (pos n)) (rows keys each)
+    rows_finished [] each = tt
+    rows_finished (key ∷ keys) each = (finished_row key each.0, rows_finished keys each.1)
+
+    owed_rows : AreOwed m ask.turns (pos n) kept
+    owed_rows =
+        let each = recursion_from_All (IsFinishedKey m ask (seen_by m v) (rows_of v)) owed.keys owed.each in
+        let list = rows owed.keys each in record {
+          finished = list;
+          among = All-from_recursion (Contains kept) list (rows_among owed.keys each);
+          distinct = rows_distinct owed.keys each (apart_by_recursion owed.keys owed.apart);
+          each = All-from_recursion (IsFinishedRow m (pos n)) list (rows_finished owed.keys each);
+          few = omega (arith, owed.few, rows_count owed.keys each);
+        }
+
+  -- a board on which a row is left is none of which each row's key is known
+  rows_left : IsSpent m ask (seen_by m v) (rows_of v) → (n : ℕ) → IsResolution m ask.weight n → length kept < ask.rows → AreOwed m ask.turns (pos n) kept
+  rows_left spent n resolution left = ⊎_elim
+      (λ (each : KnowsEach ask.rows (rows_of v)). let all = is.full each in absurd (omega arith))
+      (λ (owed : AreOwedTo m ask (seen_by m v) (rows_of v)). owed_rows owed n resolution)
+      spent.1
+
+  pub joined_searched : (turns : List Budget) (was_full : Bool) → AreJoined m ask (seen_by m v) (rows_of v) turns was_full → length turns ≡ ask.workers → 1 ≤ ask.workers → 1 ≤ m.rank m.root → IsSearched m ask entries kept turns was_full
+  joined_searched turns was_full j count some goes_on =
+      let some_turns : 1 ≤ length turns = omega arith in
+      let on = is_other (m.rank m.root) 0 (λ e. absurd (omega arith)) in
+      let at : (side : Side) → book_bound m entries side m.root ≡ best_posted m entries side (m.key m.root) = λ side. rw on refl in
+      let k = joined_later m ask (seen_by m v) (best_posted m entries) (rows_of v) (rows_of v) is.no_looser (λ row key h. h) turns was_full j in
+      let low = is.no_looser One (m.key m.root) in let high = is.no_looser Two (m.key m.root) in
+      record {
+        closed = closed;
+        held = kept_keys;
+        rows = rows_kept goes_on;
+        workers = count;
+        within = k.within;
+        full = λ e. (is.full (j.full e).0, (j.full e).1);
+        all_spent = λ e far.
+            let near : IsFar m ask (best_posted m entries Two (m.key m.root) -ℤ best_posted m entries One (m.key m.root)) = rw (at Two, at One) at far in
+            let wide : IsFar m ask (seen_by m v Two (m.key m.root) -ℤ seen_by m v One (m.key m.root)) = record { asked = let asked = near.asked in omega (arith, ints); resolution = λ n is. let over = near.resolution n is in omega (arith, ints) } in
+            let all = j.all_spent e wide in let spent = all.1 some_turns in
+            (all.0, spent.0, rows_left spent);
+        pure = λ has many side. subst (IsNoTighter side (serial_bound m side m.root)) (sym (at side)) (k.pure has many some_turns side);
+        at_once = k.at_once;
+      }

@@ -1,0 +1,51 @@
+-- The rows of the closed board, and the finished states among them.
+use Rattle.std.specs.Prelude.{◌≡◌, ℕ, ◌+◌, ◌*◌, ◌≤◌, ◌<◌, ℤ, pos, ◌-ℤ◌, ◌*ℤ◌, ◌≤ℤ◌, List, [], length, map, All, Contains}
+use Rattle.sim_game.specs.Model.{GameModel, IsEnd}
+use Rattle.bounds_board.specs.Views.{IsInnerKey, IsEnclosure}
+use Rattle.matrix_game.specs.Budget.{Budget}
+use Rattle.shared_board.specs.declared.close.Kept.{Kept}
+use Rattle.shared_board.specs.Closing.{IsDistinct}
+use Rattle.certificate.specs.declared.report.Ask.{Ask}
+use Rattle.certificate.specs.declared.report.Outcome.TheVariants.{Spent, Full}
+use Rattle.certificate.specs.declared.report.Report.{Report}
+
+-- the turns are those asked, and no more of them were spent
+pub record HasLimit (ask : Ask) (t : Budget) : Type 0 where
+  pub limit : t.limit ≡ ask.turns
+  pub spent : t.spent ≤ ask.turns
+
+-- how many turns each worker has spent
+abbrev pub spent_of : List Budget → List ℕ
+spent_of turns = map (λ t. t.spent) turns
+
+module _ {S : Type 0} (m : GameModel S) where
+  -- the key is that of a reachable state that is no end, at which both bounds are backed and lie in the range of payoffs
+  pub record IsKeptState (x : Kept) : Type 0 where
+    pub named : IsInnerKey m x.key
+    pub bounds : IsEnclosure m x.lower x.upper named.state
+
+  -- besides, the bounds are no further apart than the resolution's share of the state's rank
+  pub record IsFinishedRow (resolution : ℤ) (x : Kept) : Type 0 where
+    pub named : IsInnerKey m x.key
+    pub close : (pos (m.rank m.root) *ℤ (x.upper -ℤ x.lower)) ≤ℤ (pos (m.rank named.state) *ℤ resolution)
+
+  -- so many turns are owed to finished states among the rows, 63 to each, and to the states on the way to the root
+  pub record AreOwed (turns : ℕ) (resolution : ℤ) (kept : List Kept) : Type 0 where
+    pub finished : List Kept
+    pub among : All (Contains kept) finished
+    pub distinct : IsDistinct finished
+    pub each : All (IsFinishedRow resolution) finished
+    pub few : turns ≤ 63 * (length finished + m.rank m.root)
+
+  -- the rows of a board that was made for a root that is no end
+  pub record AreRows (rows : ℕ) (kept : List Kept) : Type 0 where
+    pub none : IsEnd m m.root → kept ≡ []
+    pub few : length kept ≤ rows
+    pub distinct : IsDistinct kept
+    pub each : All IsKeptState kept
+
+  -- what the rows show of an outcome short of the resolution
+  pub record IsLeft (ask : Ask) (r : Report) (kept : List Kept) : Type 0 where
+    pub rows : AreRows ask.rows kept
+    pub full : r.outcome ≡ Full → length kept ≡ ask.rows
+    pub spent : r.outcome ≡ Spent → length kept < ask.rows → AreOwed ask.turns r.resolution kept

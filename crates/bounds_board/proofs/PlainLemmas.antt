@@ -1,6 +1,6 @@
 -- What holds of a plain board: its reads, and how a claim and a post keep it.
 use Rattle.std.proofs.Common.{◌≡◌, ◌≢◌, ◌⊎◌, inl, inr, ⊎_elim, ℕ, ◌+◌, ◌-◌, ◌%◌, ◌<◌, ◌≤◌, ℤ, Option, None, Some, true, false, cond, eqb, List, [], ◌∷◌, ◌++◌, length, get_or, set, IsSome, is_some, w64, SFits, refl, sym, ap, ◌∙◌, subst, arith, mod-lt, mod-eq_of_lt}
-use Rattle.std.proofs.Math.Nat.{add-mod_right}
+use Rattle.std.proofs.Math.Nat.{add-mod_right, mod-mod, mod-add-mod}
 use mir.Val.{to_z, of_z}
 use Rattle.std.proofs.lemmas.Int.{ints, to_z-of_z}
 use Rattle.std.proofs.lemmas.List.Elements.{All-push, All-weaker}
@@ -26,6 +26,13 @@ pub row_met : (rows k i : ℕ) → i < rows → (u : ℕ) × (u < rows) × ((k %
 row_met rows k i l = let h : ℕ = k % rows in let low : h < rows = mod-lt k (omega arith) in ⊎_elim
     (λ (lt : i < h). (i + rows - h, omega arith, let sum : h + (i + rows - h) ≡ i + rows = omega arith in ap (λ (z : ℕ). z % rows) sum ∙ (add-mod_right i rows ∙ mod-eq_of_lt l)))
     (λ (ge : h ≤ i). (i - h, omega arith, let sum : h + (i - h) ≡ i = omega arith in ap (λ (z : ℕ). z % rows) sum ∙ mod-eq_of_lt l)) (cases_lt i h)
+
+-- the rows that are tried one after another
+pub row_begins : (rows k : ℕ) → k % rows ≡ (k % rows + 0) % rows
+row_begins rows k = sym (ap (λ (z : ℕ). z % rows) (omega arith) ∙ mod-mod k rows)
+
+pub row_goes_on : (rows k tried row : ℕ) → row ≡ (k % rows + tried) % rows → (row + 1) % rows ≡ (k % rows + (tried + 1)) % rows
+row_goes_on rows k tried row is = ap (λ (z : ℕ). (z + 1) % rows) is ∙ mod-add-mod (k % rows + tried) rows 1 ∙ ap (λ (z : ℕ). z % rows) (omega arith)
 
 pub none_held : (slots : List Slot) (key : ℕ) → ((t : ℕ) → t < length slots → IsOther slots key (row_after (length slots) key t)) → (row : ℕ) → row < length slots → IsOther slots key row
 none_held slots key passed row l = let u = row_met (length slots) (scattered key) row l in subst (λ (z : ℕ). IsOther slots key z) u.2 (passed u.0 u.1)

@@ -1,5 +1,5 @@
 //! The rows of a plain board.
-ghost use Rattle.std.specs.Prelude.{◌≡◌, ℕ, ◌≤◌, ◌<◌, ◌^◌, length, Some, IfSome, IfNone, IfOk, replicate};
+ghost use Rattle.std.specs.Prelude.{◌≡◌, ℕ, ◌+◌, ◌%◌, ◌≤◌, ◌<◌, ◌^◌, length, Some, IfSome, IfNone, IfOk, replicate};
 ghost use Rattle.bounds_board.specs.Slots.{scattered, IsOther, IsPlace, IsMet, key_in};
 
 use sim_game::Side;
@@ -20,6 +20,15 @@ fn scattered(key: u64) -> u64
     (key / 4_294_967_296 * 1_640_531_527 + key % 4_294_967_296 * 2_135_587_861) / 65_536
 }
 
+/// The row behind a row; behind the last one it is the first.
+#[inline]
+pub fn row_behind(row: u32, rows: u32) -> u32
+    requires { row < rows }
+    ensures { result ≡ (row + 1) % rows }
+{
+    if row + 1 == rows { 0 } else { row + 1 }
+}
+
 /// The first row from the key's home that is free or has the key.
 pub(crate) fn find_place(slots: &[Slot], key: u64) -> Option<u32>
     requires rows_low { 1 ≤ length slots.now }
@@ -27,18 +36,18 @@ pub(crate) fn find_place(slots: &[Slot], key: u64) -> Option<u32>
     ensures some { IfSome result (IsPlace slots.now key) }
     ensures none { IfNone result ((row : ℕ) → row < length slots.now → IsOther slots.now key row) }
 {
-    let rows = slots.len() as u64;
-    let home = scattered(key) % rows;
-    for tried in 0..rows {
-        let row = (home + tried) % rows;
+    let rows = slots.len() as u32;
+    let mut row = (scattered(key) % rows as u64) as u32;
+    for _tried in 0..rows {
         match slots[row as usize].key {
             Some(held) => {
                 if held == key {
-                    return Some(row as u32);
+                    return Some(row);
                 }
             }
-            None => return Some(row as u32),
+            None => return Some(row),
         }
+        row = row_behind(row, rows);
     }
     None
 }

@@ -13,3 +13,4 @@ pub mod PassLemmas
 pub mod PassStepLemmas
 pub mod CloseLemmas
 pub mod DeskLemmas
+pub mod KnownLemmas

@@ -1,5 +1,5 @@
 -- What a claim has learnt after so many tries.
-use Rattle.std.proofs.Common.{◌≡◌, ◌≢◌, ◌⊎◌, inl, inr, ⊎_elim, ℕ, suc, ◌+◌, ◌^◌, ◌<◌, ◌≤◌, List, [], ◌∷◌, Some, sym, refl, ap, ◌∙◌, subst, arith}
+use Rattle.std.proofs.Common.{◌≡◌, ◌≢◌, ◌⊎◌, inl, inr, ⊎_elim, ℕ, suc, ◌+◌, ◌%◌, ◌^◌, ◌<◌, ◌≤◌, List, [], ◌∷◌, Some, sym, refl, ap, ◌∙◌, subst, arith, mod-lt}
 use Rattle.std.proofs.lemmas.Bool.{cases_lt}
 use Rattle.sim_game.specs.Model.{GameModel, IsGame}
 use Rattle.bounds_board.specs.Views.{IsInnerKey}
@@ -18,6 +18,10 @@ module _ {S G : Type 0} (model : G → GameModel S) (rows key tried : ℕ) (old 
     pub inside : ((i k : ℕ) → Has (i, k) old.keys → i < rows) → (i k : ℕ) → Has (i, k) new.keys → i < rows
     pub apart : 0 < tried → IsApart new.keys
     pub passed : (u : ℕ) → u < tried → (k : ℕ) × Has (row_after rows key u, k) new.keys × (k ≢ key)
+
+-- a row that is tried is one of the board
+pub row_inside : (rows key tried row : ℕ) → row ≡ row_after rows key tried → tried < rows → row < rows
+row_inside rows key tried row is l = subst (λ (z : ℕ). z < rows) (sym is) (mod-lt (key % rows + tried) (omega arith))
 
 -- a key of a game_laws game leaves room in a word
 pub key_fits : {S : Type 0} (m : GameModel S) (k : ℕ) → IsGame m → IsInnerKey m k → k < 2 ^ 63
@@ -48,16 +52,16 @@ module _ {S G : Type 0} (model : G → GameModel S) (rows key : ℕ) (old : View
   keeps_inside tried n k new next i so l room all j q h = ⊎_elim (λ (here : (j, q) ≡ (i, l.key)). subst (λ (y : ℕ × ℕ). y.0 < rows) (sym here) room)
       (λ (there : Has (j, q) new.keys). so.inside all j q there) (subst (λ (v : View G). Has (j, q) v.keys) l.known h)
 
-  pub goes_on : (tried n : ℕ) (new next : View G) → SoFar model rows key tried old new → IsLearnt model new next (row_after rows key tried) key n → IsApart next.keys → row_after rows key tried < rows → n ≢ 0 → n ≢ suc key
+  pub goes_on : (tried n i : ℕ) (new next : View G) → SoFar model rows key tried old new → i ≡ row_after rows key tried → IsLearnt model new next i key n → IsApart next.keys → i < rows → n ≢ 0 → n ≢ suc key
       → SoFar model rows key (tried + 1) old next
-  goes_on tried n new next so l apart room some other = let t = learnt tried n key new next (row_after rows key tried) so l in let is = l.is_old some in record {
+  goes_on tried n i new next so at l apart room some other = let t = learnt tried n key new next i so l in let is = l.is_old some in record {
     more = t.0;
     named = t.1;
-    inside = keeps_inside tried n key new next (row_after rows key tried) so l room;
+    inside = keeps_inside tried n key new next i so l room;
     apart = λ _. apart;
     passed = λ u h. subst (λ (v : View G). (k : ℕ) × Has (row_after rows key u, k) v.keys × (k ≢ key)) (sym l.known)
         (⊎_elim (λ (lt : u < tried). let p = so.passed u lt in (p.0, inr p.1, p.2))
-        (λ (ge : tried ≤ u). let same : u ≡ tried = omega arith in (l.key, inl (λ c. (row_after rows key (same c), l.key)), λ e. other (is ∙ ap suc e))) (cases_lt u tried));
+        (λ (ge : tried ≤ u). let same : u ≡ tried = omega arith in let here : row_after rows key u ≡ i = ap (row_after rows key) same ∙ sym at in (l.key, inl (λ c. (here c, l.key)), λ e. other (is ∙ ap suc e))) (cases_lt u tried));
   }
 
   -- the row that was found

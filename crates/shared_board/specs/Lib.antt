@@ -3,6 +3,7 @@ pub mod Rule
 pub mod Plays
 pub mod Passes
 pub mod Values
+pub mod Known
 pub mod Closing
 pub mod Laws
 pub mod Bare

@@ -11,6 +11,7 @@ ghost use Rattle.shared_board.specs.Passes.{IsUnseen, IsAnswer};
 ghost use Rattle.shared_board.specs.Values.{IsPassOf, viewing, entering, desk_view, DeskName};
 
 use crate::board::Board;
+use crate::known::KnownRows;
 use crate::pass::Pass;
 use crate::steps::{claim_row, load_lower, load_upper, post_word};
 use crate::words::{bound_of_word, word_of_bound};
@@ -24,16 +25,18 @@ use std::marker::Model;
 pub struct Desk<'a, G: Game> {
     board: &'a Board<G>,
     pass: Pass<G>,
+    known: KnownRows,
 }
 
 impl<'a, G: Game> Model for Desk<'a, G> {
     ghost use Rattle.shared_board.specs.Values.{DeskValue, IsPassOf};
+    ghost use Rattle.shared_board.specs.Known.{AreKnown};
 
     ghost Value = { DeskValue G };
 
     ghost view = { λ d. record { board = d.board.now; pass = d.pass } };
 
-    ghost invariant = { λ d. IsPassOf d.board.now d.pass };
+    ghost invariant = { λ d. IsPassOf d.board.now d.pass × AreKnown d.pass.view.keys d.known.places.items };
 }
 
 impl<'a, G: Game> Desk<'a, G> {
@@ -43,7 +46,11 @@ impl<'a, G: Game> Desk<'a, G> {
         ensures board { result.board ≡ board.now }
         ensures pass { result.pass ≡ pass }
     {
-        Desk { board, pass }
+        Desk {
+            board,
+            pass,
+            known: KnownRows::new(board.alloc),
+        }
     }
 
     /// The pass, which is still of the board.
@@ -51,7 +58,11 @@ impl<'a, G: Game> Desk<'a, G> {
         ensures pass { result ≡ self.entry.pass }
         ensures ours { IsPassOf self.entry.board result }
     {
-        let Desk { board: _, pass } = self;
+        let Desk {
+            board: _,
+            pass,
+            known: _,
+        } = self;
         pass
     }
 
@@ -76,15 +87,21 @@ impl<'a, G: Game> Desk<'a, G> {
         requires { IsInnerKey (G.model self.old.board.game) key }
         ensures view { (ks : List (ℕ × ℕ)) × (self.new ≡ viewing self.old (more_keys ks self.old.pass.view)) }
         ensures ok { IfOk result (λ row. Has (row, key) self.new.pass.view.keys) }
-        ensures err { OnErr result ((i : ℕ) → i < self.old.board.rows → (k : ℕ) × Has (i, k) self.new.pass.view.keys × (k ≢ key)) }
         ensures apart { IsApart self.new.pass.view.keys }
-        ensures named { AllNamed (G.model self.old.board.game) self.new.pass.view.keys }
-        ensures unseen { (side : Side) (i : ℕ) → IsUnseen (G.model self.old.board.game) self.old.pass.view side i }
+        ensures err { OnErr result (((i : ℕ) → i < self.old.board.rows → (k : ℕ) × Has (i, k) self.new.pass.view.keys × (k ≢ key))
+            × AllNamed (G.model self.old.board.game) self.new.pass.view.keys
+            × ((side : Side) (i : ℕ) → IsUnseen (G.model self.old.board.game) self.old.pass.view side i)) }
     {
+        if let Some(row) = self.known.find(key) {
+            return Ok(Row::new(row));
+        }
         let board = self.board;
         let pass = &mut self.pass;
         match claim_row(&board.words.shared, &mut pass.seat, board.rows, key) {
-            Some(row) => Ok(Row::new(row)),
+            Some(row) => {
+                self.known.keep(key, row);
+                Ok(Row::new(row))
+            }
             None => Err(Full),
         }
     }
@@ -120,6 +137,7 @@ impl<'a, G: Game> Desk<'a, G> {
         let board = self.board;
         let pass = &mut self.pass;
         pass.book.reserve(1)?;
+        self.known.make_places(board.alloc, board.rows)?;
         let bound = word_of_bound(e.bound);
         post_word(
             &board.words.shared,

@@ -5,6 +5,7 @@ mod board;
 mod close;
 mod crossing;
 mod desk;
+mod known;
 mod laws;
 mod pass;
 mod rule;

@@ -8,6 +8,7 @@ ghost use Rattle.sim_game.specs.declared.Side.TheVariants.{One, Two};
 use crate::rule::{Claim, Cut, Raise, ReadLower, ReadUpper, Rules};
 use crate::view::View;
 use atomic_table::{Seat, Shared};
+use bounds_board::row_behind;
 use sim_game::{Game, Side};
 
 pub(crate) type Words<G> = Shared<(), View<G>, (G, u32), Rules>;
@@ -32,14 +33,14 @@ pub(crate) fn claim_row<G: Game>(
     ensures some { IfSome result (λ r. (r < rows) × Has (r, key) seat.new.me.0.keys) }
     ensures none { IfNone result ((i : ℕ) → i < rows → (k : ℕ) × Has (i, k) seat.new.me.0.keys × (k ≢ key)) }
 {
-    let count = rows as u64;
-    for tried in 0..count {
-        let row = (key % count + tried) % count;
+    let mut row = (key % rows as u64) as u32;
+    for tried in 0..rows {
         let word = 3 * row as usize + 1;
         let found = words.compare_exchange::<Claim<G>>(seat, word, 0, key + 1);
         if found == 0 || found == key + 1 {
-            return Some(row as u32);
+            return Some(row);
         }
+        row = row_behind(row, rows);
     }
     None
 }

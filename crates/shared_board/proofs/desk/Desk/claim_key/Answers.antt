@@ -1,9 +1,35 @@
-use Rattle.std.proofs.Common.{rules, ◌≡◌, ℕ, ◌+◌, ◌*◌, ◌<◌, sym, ap, ◌∙◌, subst, arith, Some}
+use Rattle.std.proofs.Common.{rules, ◌≡◌, ℕ, ◌+◌, ◌*◌, ◌<◌, [], refl, sym, ap, ◌∙◌, subst, arith, Some}
 use Rattle.shared_board.specs.Rule.{Has}
 use Rattle.shared_board.specs.Passes.{IsUnseen}
+use Rattle.shared_board.specs.Known.{IsRowOf, AreKnown}
+use Rattle.shared_board.specs.declared.known.KnownRow.{KnownRow}
 use Rattle.shared_board.specs.declared.view.View.{View}
 use Rattle.shared_board.proofs.PassStepLemmas.{pass_claimed}
+use Rattle.shared_board.proofs.KnownLemmas.{known_more, known_found, known_kept}
 use Rattle.shared_board.proofs.desk.Desk.claim_key.Goals as goal
+
+pub returns-in-Some : goal.returns-in-Some
+returns-in-Some g c =
+    let keys : c.self.inside.pass.view.keys ≡ c.args.self.now.pass.view.keys = ap (λ d. d.pass.view.keys) c.self.view_is in
+    let x : KnownRow = record { key = c.args.key; row = c.in-Some.row } in
+    let row = subst (λ ks. IsRowOf ks x) keys (known_found c.self.inside.pass.view.keys c.self.inside.known.places.items x c.self.invariant.1 c.in-Some.ensures) in
+    record { view = ([], refl); ok = rw c.new.ensures row.has; apart = row.apart; err = tt }
+
+pub invariant_of-self : goal.invariant_of-self
+invariant_of-self g c =
+    let did = c.claim_row.ensures in let x : KnownRow = record { key = c.args.key; row = c.in-Some-claim_row.row } in
+    let here : IsRowOf c.claim_row.new.seat.me.0.keys x = record { has = c.in-Some-claim_row.ensures.some.1; apart = did.apart } in
+    let before = subst (λ ks. AreKnown ks c.self.inside.known.places.items) (sym (ap (λ p. p.view.keys) c.pass.view_is)) c.self.invariant.1 in (
+      search rules,
+      known_kept c.claim_row.new.seat.me.0.keys c.self.inside.known c.keep.new.self x c.keep.ensures here
+          (known_more did.keys.0 c.pass.inside.seat.me.0.keys c.claim_row.new.seat.me.0.keys c.self.inside.known.places.items (ap (λ v. v.keys) did.keys.1) did.apart before),
+    )
+
+pub invariant_of-self-in-None : goal.invariant_of-self-in-None
+invariant_of-self-in-None g c =
+    let did = c.claim_row.ensures in
+    let before = subst (λ ks. AreKnown ks c.self.inside.known.places.items) (sym (ap (λ p. p.view.keys) c.pass.view_is)) c.self.invariant.1 in
+    (search rules, known_more did.keys.0 c.pass.inside.seat.me.0.keys c.claim_row.new.seat.me.0.keys c.self.inside.known.places.items (ap (λ v. v.keys) did.keys.1) did.apart before)
 
 pub invariant_of-pass : goal.invariant_of-pass
 invariant_of-pass g c = let did = c.claim_row.ensures in let board = c.board.invariant in let p = c.pass.invariant in
@@ -13,11 +39,12 @@ invariant_of-pass g c = let did = c.claim_row.ensures in let board = c.board.inv
     let within : (i k : ℕ) → Has (i, k) c.pass.inside.seat.me.0.keys → i < c.board.inside.rows = λ i k h. (let x = p.inside i k h in omega arith) in
     pass_claimed g.G.Game.model _ _ _ _ _ _ _ _ _ _ did.keys.0 p did.keys.1 did.seat.0.2 now did.named (λ i k h. (let x = did.inside within i k h in omega arith))
 
-pub returns-clause-named : goal.returns-clause-named
-returns-clause-named g c = let game = c.args.self.now.board.game in let is : c.pass.inside.seat.me.0.game ≡ Some game = search rules in
-    c.claim_row.ensures.named game is (c.pass.invariant.told game is).named
-
-pub returns-clause-unseen : goal.returns-clause-unseen
-returns-clause-unseen g c side i = let game = c.args.self.now.board.game in let is : c.pass.inside.seat.me.0.game ≡ Some game = search rules in
+pub returns-in-None-clause-err : goal.returns-in-None-clause-err
+returns-in-None-clause-err g c =
+    let game = c.args.self.now.board.game in let is : c.pass.inside.seat.me.0.game ≡ Some game = search rules in
     let view : c.pass.inside.seat.me.0 ≡ c.args.self.now.pass.view = search rules in
-    subst (λ (v : View g.row.G.Denot). IsUnseen (g.G.Game.model game) v side i) view ((c.pass.invariant.told game is).unseen side i)
+    let told = c.pass.invariant.told game is in let rows : c.board.inside.rows ≡ c.args.self.now.board.rows = search rules in (
+      λ i l. c.in-None.ensures.none i (omega arith),
+      c.claim_row.ensures.named game is told.named,
+      λ side i. subst (λ (v : View g.row.G.Denot). IsUnseen (g.G.Game.model game) v side i) view (told.unseen side i),
+    )

@@ -1,7 +1,7 @@
 use Rattle.std.proofs.Common.{◌≡◌, Some}
 use Rattle.shared_board.specs.Passes.{key_of}
 use Rattle.shared_board.proofs.SeenLemmas.{key_of_has}
-use Rattle.shared_board.proofs.DeskLemmas.{if_ok, ok_always, err_always, on_err, claim_later, claim_opened, claim_unseen, claim_full}
+use Rattle.shared_board.proofs.DeskLemmas.{if_ok, ok_always, on_err, claim_later, claim_opened, claim_unseen, claim_full}
 use Rattle.shared_board.proofs.desk.DeskBounds.claim.Goals as goal
 
 pub returns-clause-later : goal.returns-clause-later
@@ -15,7 +15,7 @@ pub returns-clause-opened : goal.returns-clause-opened
 returns-clause-opened g c = let did = c.claim_key.ensures in ok_always c.claim_key.result _ (λ side. claim_opened g.G.Game.model c.args.self.now c.claim_key.new.self did.view.0 did.view.1 did.apart side c.args.key)
 
 pub returns-clause-unseen : goal.returns-clause-unseen
-returns-clause-unseen g c = let did = c.claim_key.ensures in err_always c.claim_key.result _ (claim_unseen g.G.Game.model c.args.self.now c.claim_key.new.self did.view.0 did.view.1 did.apart (g.met.G.Game.lawful c.args.self.now.board.game) did.unseen)
+returns-clause-unseen g c = let did = c.claim_key.ensures in on_err c.claim_key.result _ _ (λ e. claim_unseen g.G.Game.model c.args.self.now c.claim_key.new.self did.view.0 did.view.1 did.apart (g.met.G.Game.lawful c.args.self.now.board.game) e.2) did.err
 
 pub returns-clause-full : goal.returns-clause-full
-returns-clause-full g c = let did = c.claim_key.ensures in on_err c.claim_key.result _ _ (claim_full g.G.Game.model c.args.self.now c.claim_key.new.self did.view.0 did.view.1 did.apart c.args.key c.requires did.named) did.err
+returns-clause-full g c = let did = c.claim_key.ensures in on_err c.claim_key.result _ _ (λ e. claim_full g.G.Game.model c.args.self.now c.claim_key.new.self did.view.0 did.view.1 did.apart c.args.key c.requires e.1 e.0) did.err

@@ -4,3 +4,4 @@ pub mod CheckLemmas
 pub mod LawLemmas
 pub mod LengthLemmas
 pub mod SampleLemmas
+pub mod SizeLemmas

@@ -1,16 +1,22 @@
 -- The samples.
-use Rattle.std.proofs.Common.{◌≡◌, ℕ, zero, suc, ◌%◌, ◌<◌, ◌≤◌, pos, List, [], ◌∷◌, Result, None, Some, IfOk, refl, arith}
+use Rattle.std.proofs.Common.{◌≡◌, ℕ, zero, suc, ◌%◌, ◌<◌, ◌≤◌, pos, List, [], ◌∷◌, Result, None, Some, ◌⊎◌, inl, inr, IfOk, refl, ap, arith}
 use Rattle.std.proofs.Math.Nat.{mod-lt}
 use Rattle.std.proofs.lemmas.List.Elements.{All-nil, All-cons}
 use Rattle.std.proofs.lemmas.Result.{IfOk-weaker}
 use Rattle.sim_game.specs.declared.NoMemory.{NoMemory}
+use Rattle.sim_game.specs.Model.{GameModel, HasAtMost}
+use Rattle.plan_book.specs.Serial.{tree_size}
 use Rattle.goofspiel.specs.declared.GoofspielError.{GoofspielError}
 use Rattle.goofspiel.specs.Position.{first_fault}
 use Rattle.certificate.specs.Ranges.{IsByteList, IsPositionInRange}
+use Rattle.certificate.specs.declared.report.Outcome.{Outcome}
+use Rattle.certificate.specs.declared.report.Outcome.TheVariants.{Closed, Settled, Spent, Full}
 use Rattle.certificate.specs.declared.report.Report.{Report}
+use Rattle.lazy_workers.specs.Solutions.{IsSolution}
 use Rattle.dosolve.specs.declared.run.Answer.{Answer}
-use Rattle.dosolve.specs.Samples.{sample_cards, rotated_left, sample_prizes, sample_position, sample_line, IsSampleReport}
+use Rattle.dosolve.specs.Samples.{sample_cards, rotated_left, sample_prizes, sample_position, sample_ask, sample_line, IsSampleSolution, IsSampleReport}
 use Rattle.dosolve.specs.Runs.{status_of, IsSampled}
+use Rattle.dosolve.proofs.SizeLemmas.{more_states}
 
 no_fault_below : (n : ℕ) → n < 5 → first_fault sample_cards sample_cards (rotated_left n sample_cards) (pos 0) ≡ None
 no_fault_below zero small = refl
@@ -45,5 +51,31 @@ prizes_below (suc (suc (suc (suc (suc n))))) small = absurd (omega (arith, small
 pub in_range : (n : ℕ) → IsPositionInRange (sample_position n)
 in_range n = let cards = prizes_below 0 (omega (arith)) in (cards, cards, prizes_below (n % 5) (mod-lt n (omega (arith))), omega (arith))
 
+-- nothing runs out in so small a game
+closed_or_settled : {S : Type 0} (m : GameModel S) (n : ℕ) (r : Report) → HasAtMost m 3782 → m.rank m.root ≡ 5 → IsSolution m (sample_position n) sample_ask r
+    → (o : Outcome) → r.outcome ≡ o → (r.outcome ≡ Closed) ⊎ (r.outcome ≡ Settled)
+closed_or_settled m n r few rank is Closed e = inl e
+closed_or_settled m n r few rank is Settled e = inr e
+closed_or_settled m n r few rank is Spent e = absurd (let turns = is.spent e 3782 few (omega arith) in omega (arith, turns, rank))
+closed_or_settled m n r few rank is Full e = absurd (is.full e (more_states m 3782 65536 few (omega arith)))
+
+pub is_sample_solution : {S : Type 0} (m : GameModel S) (n : ℕ) (r : Report) → HasAtMost m 3782 → m.rank m.root ≡ 5 → tree_size m m.root ≡ 32826 → IsSolution m (sample_position n) sample_ask r → IsSampleSolution m n r
+is_sample_solution m n r few rank size is =
+    let room = more_states m 3782 65536 few (omega arith) in
+    let visits : tree_size m m.root ≤ 40000 = omega (arith, size) in
+    record {
+      solution = is;
+      ends = closed_or_settled m n r few rank is r.outcome refl;
+      pure_lower = is.pure_lower room visits;
+      pure_upper = is.pure_upper room visits;
+      at_once = is.at_once room visits;
+    }
+
 pub sampled_is : (n : ℕ) (r : Report) (result : Result Answer NoMemory) → IsSampleReport n r → IfOk result (λ a. (a.status ≡ status_of r.outcome) × (a.text ≡ sample_line n r)) → IfOk result (λ a. IsSampled n a.status a.text)
 sampled_is n r result is said = IfOk-weaker result _ (λ a. IsSampled n a.status a.text) (λ a s. rw (s.0, s.1) (IsSampled.reported r is)) said
+
+pub solved_status : (n status : ℕ) (text : List ℕ) → IsSampled n status text → (status ≡ 0) ⊎ (status ≡ 3)
+solved_status n _ _ (IsSampled.reported r is) = elim is.3.ends [
+  | inl closed ↦ inl (ap status_of closed)
+  | inr settled ↦ inr (ap status_of settled)
+]

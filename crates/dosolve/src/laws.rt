@@ -1,6 +1,8 @@
 //! What the answers of the commands say of each other.
 
-ghost use Rattle.std.specs.Prelude.{◌≡◌, ◌≢◌, ℕ, List};
+ghost use Rattle.std.specs.Prelude.{◌≡◌, ◌≢◌, ◌⊎◌, ℕ, List};
+ghost use Rattle.sim_game.specs.Model.{HasAtMost};
+ghost use Rattle.plan_book.specs.Serial.{tree_size};
 ghost use Rattle.certificate.specs.declared.report.Ask.{Ask};
 ghost use Rattle.certificate.specs.declared.report.PositionText.{PositionText};
 ghost use Rattle.checker.specs.declared.verdict.Verdict.{Verdict};
@@ -11,8 +13,11 @@ ghost use Rattle.certificate.specs.Texts.{report_text};
 ghost use Rattle.certificate.specs.declared.report.Report.{Report};
 ghost use Rattle.dosolve.specs.Checks.{IsChecked};
 ghost use Rattle.dosolve.specs.Reports.{accepted_text};
-ghost use Rattle.dosolve.specs.Runs.{IsSolved};
+ghost use Rattle.dosolve.specs.Games.{OfGame};
+ghost use Rattle.dosolve.specs.Runs.{IsSolved, IsSampled};
+ghost use Rattle.dosolve.specs.Samples.{sample_position};
 
+use crate::sample::sample_game;
 use certificate::Report;
 use checker::one_verdict;
 use sim_game::Game;
@@ -40,4 +45,17 @@ pub fn printed_reports_are_accepted()
         → (r : Report) × (text ≡ report_text r) × IsChecked text 0 (accepted_text r) }
     ensures only { (bytes text answer : List ℕ) (status state : ℕ) → IsSolved bytes status text → status ≢ 2
         → IsChecked text state answer → state ≡ 0 }
+{}
+
+/// The game of each sample has at most 3782 states, and 32826 nodes in its tree.
+pub fn samples_are_small(number: u32)
+    ensures states { OfGame (sample_position number) (λ S m. HasAtMost m 3782) }
+    ensures nodes { OfGame (sample_position number) (λ S m. tree_size m m.root ≡ 32826) }
+{
+    sample_game(number);
+}
+
+/// `sample` has the statuses 0 and 3 alone: neither turns nor rows run out.
+pub fn samples_are_solved()
+    ensures { (number status : ℕ) (text : List ℕ) → IsSampled number status text → (status ≡ 0) ⊎ (status ≡ 3) }
 {}

@@ -60,7 +60,8 @@ fn sample_prizes(number: u32) -> [u8; 5]
     }
 }
 
-fn sample_game(number: u32) -> Goofspiel
+/// The game of the sample.
+pub(crate) fn sample_game(number: u32) -> Goofspiel
     ensures { IsSettingOf sample_cards sample_cards (sample_prizes number) (pos 0) Pay.Margin result.setting }
 {
     match Goofspiel::new(&CARDS, &CARDS, &sample_prizes(number), 0, Pay::Margin) {

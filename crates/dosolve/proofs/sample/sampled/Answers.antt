@@ -3,7 +3,8 @@ use Rattle.goofspiel.specs.Rules.{goofspiel_game}
 use Rattle.certificate.specs.Ranges.{IsPositionInRange}
 use Rattle.lazy_workers.specs.Solutions.{IsSolution}
 use Rattle.dosolve.specs.Samples.{sample_ask}
-use Rattle.dosolve.proofs.SampleLemmas.{in_range, sampled_is}
+use Rattle.dosolve.proofs.SampleLemmas.{in_range, is_sample_solution, sampled_is}
+use Rattle.dosolve.proofs.SizeLemmas.{few_states, rank_is, size_is}
 use Rattle.dosolve.proofs.sample.sampled.Goals as goal
 
 pub solve-requires-clause-position : goal.solve-requires-clause-position
@@ -12,7 +13,10 @@ solve-requires-clause-position g c κs lives = subst IsPositionInRange (sym c.in
 pub returns : goal.returns
 returns g c =
     let r = c.in_ok-solved.solved.report in
+    let n = c.args.number in
     let game = c.sample_game.result.setting in
-    sampled_is c.args.number r c.told.result
-    (game, c.sample_game.result.valid, c.sample_game.ensures, subst (λ text. IsSolution (goofspiel_game game) text sample_ask r) c.in_ok-position.ensures c.in_ok-solved.ensures.solution)
-    c.told.ensures
+    let valid = c.sample_game.result.valid in
+    let of_sample = c.sample_game.ensures in
+    let solution = subst (λ text. IsSolution (goofspiel_game game) text sample_ask r) c.in_ok-position.ensures c.in_ok-solved.ensures.solution in
+    let whole = is_sample_solution (goofspiel_game game) n r (few_states n game valid of_sample) (rank_is n game valid of_sample) (size_is n game valid of_sample) solution in
+    sampled_is n r c.told.result (game, valid, of_sample, whole) c.told.ensures

@@ -11,10 +11,12 @@ ghost use Rattle.plan_book.specs.Sheets.{IsLawful, bound_at, plan_of, root_bound
 
 mod book;
 mod bounds;
+mod crossing;
 mod gather;
 
 pub use book::Book;
 pub use bounds::{bound_of, place_of};
+pub use crossing::crosses;
 use seq::Seq;
 use sim_game::{Game, Side};
 

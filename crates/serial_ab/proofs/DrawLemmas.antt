@@ -39,7 +39,7 @@ module _ {S : Type 0} (m : GameModel S) (game : IsGame m) (side : Side) (s : S) 
       let high : serial_bound m side (child_of m side s own reply d) ≤ℤ opening_bound m Two = range.1 in
       record { low = omega (arith, ints); high = omega (arith, ints) }
 
-  pub chance_small : (d : ℕ) → d < draws_of m side s own reply → chance_of m side s own reply d ≤ 360360
+  chance_small : (d : ℕ) → d < draws_of m side s own reply → chance_of m side s own reply d ≤ 360360
   chance_small d h = omega (arith, count_part (chance_of m side s own reply) d (draws_of m side s own reply) h, chances m game side s own reply r at against)
 
   chances_small : (n : ℕ) → n ≤ draws_of m side s own reply → count_below n (chance_of m side s own reply) ≤ 360360
@@ -64,10 +64,10 @@ module _ {S : Type 0} (m : GameModel S) (game : IsGame m) (side : Side) (s : S) 
     small_x : IsSmall x
     small_x = subst IsSmall (sym is_value) (small d h)
 
-    pub chance_is : to_z w64 k ≡ pos k
+    chance_is : to_z w64 k ≡ pos k
     chance_is = let f = few in omega (arith, ints)
 
-    pub found_is : to_z w64 (of_z w64 x) ≡ x
+    found_is : to_z w64 (of_z w64 x) ≡ x
     found_is = let a = small_x.low in let b = small_x.high in omega (arith, ints)
 
     pub product_fits : SFits w64 (to_z w64 k *ℤ to_z w64 (of_z w64 x))
@@ -89,20 +89,19 @@ module _ {S : Type 0} (m : GameModel S) (game : IsGame m) (side : Side) (s : S) 
       added_is = to_z-of_z w64 _ added_fits
           ∙ rw (to_z-of_z w64 (to_z w64 k *ℤ to_z w64 (of_z w64 x)) product_fits, chance_is, found_is, is_value, is_chance, summed, add-one d) refl
 
-  -- the list with one draw more
-  pub listed_more : (d : ℕ) (before now after : List ℤ) (x : ℤ) → now ≡ before ++ concat_below d (λ i. serial_bound m side (child_of m side s own reply i) ∷ []) → after ≡ now ++ x ∷ [] → x ≡ serial_bound m side (child_of m side s own reply d)
-      → after ≡ before ++ concat_below (d + 1) (λ i. serial_bound m side (child_of m side s own reply i) ∷ [])
-  listed_more d before now after x p q e =
-      q ∙ ap (λ (l : List ℤ). l ++ x ∷ []) p ∙ append_assoc before (concat_below d (λ i. serial_bound m side (child_of m side s own reply i) ∷ [])) (x ∷ [])
-      ∙ ap (λ (y : ℤ). before ++ (concat_below d (λ i. serial_bound m side (child_of m side s own reply i) ∷ []) ++ y ∷ [])) e
-      ∙ sym (ap (λ (n : ℕ). before ++ concat_below n (λ i. serial_bound m side (child_of m side s own reply i) ∷ [])) (add-one d))
+    -- the list with one draw more
+    pub listed_more : (before now mid after : List ℤ) → now ≡ before ++ concat_below d (λ i. serial_bound m side (child_of m side s own reply i) ∷ []) → mid ≡ now → after ≡ mid ++ to_z w64 (of_z w64 x) ∷ []
+        → after ≡ before ++ concat_below (d + 1) (λ i. serial_bound m side (child_of m side s own reply i) ∷ [])
+    listed_more before now mid after p same q =
+        q ∙ ap (λ (l : List ℤ). l ++ to_z w64 (of_z w64 x) ∷ []) (same ∙ p) ∙ append_assoc before (concat_below d (λ i. serial_bound m side (child_of m side s own reply i) ∷ [])) _
+        ∙ ap (λ (y : ℤ). before ++ (concat_below d (λ i. serial_bound m side (child_of m side s own reply i) ∷ []) ++ y ∷ [])) (found_is ∙ is_value)
+        ∙ sym (ap (λ (n : ℕ). before ++ concat_below n (λ i. serial_bound m side (child_of m side s own reply i) ∷ [])) (add-one d))
 
-  pub good_more : {G N : Type 0} (d : ℕ) (u v : BoardView G N) (x : ℤ) → IsLater u v
-      → ((i : ℕ) → i < d → IsGoodNumber m side u (child_of m side s own reply i) (serial_bound m side (child_of m side s own reply i)))
-      → IsGoodNumber m side v (child_of m side s own reply d) x → x ≡ serial_bound m side (child_of m side s own reply d)
-      → (i : ℕ) → i < d + 1 → IsGoodNumber m side v (child_of m side s own reply i) (serial_bound m side (child_of m side s own reply i))
-  good_more d u v x later before here e i h = ⊎_elim
-      (λ (lt : i < d). good_later m side u v _ _ later (before i lt))
-      (λ (ge : d ≤ i). let same : d ≡ i = omega arith in subst (λ (k : ℕ). IsGoodNumber m side v (child_of m side s own reply k) (serial_bound m side (child_of m side s own reply k))) same
-      (subst (IsGoodNumber m side v (child_of m side s own reply d)) e here))
-      (cases_lt i d)
+    pub good_more : {G N : Type 0} (u v : BoardView G N) → IsLater u v
+        → ((i : ℕ) → i < d → IsGoodNumber m side u (child_of m side s own reply i) (serial_bound m side (child_of m side s own reply i))) → IsGoodNumber m side v (child_of m side s own reply d) x
+        → (i : ℕ) → i < d + 1 → IsGoodNumber m side v (child_of m side s own reply i) (serial_bound m side (child_of m side s own reply i))
+    good_more u v later before here i w = ⊎_elim
+        (λ (lt : i < d). good_later later (before i lt))
+        (λ (ge : d ≤ i). let same : d ≡ i = omega arith in subst (λ (k : ℕ). IsGoodNumber m side v (child_of m side s own reply k) (serial_bound m side (child_of m side s own reply k))) same
+        (subst (IsGoodNumber m side v (child_of m side s own reply d)) is_value here))
+        (cases_lt i d)

@@ -1,9 +1,7 @@
 -- What one part of a search after another keeps.
-use Rattle.std.proofs.Common.{◌≡◌, ⊎_elim, ℕ, zero, suc, ◌+◌, ◌<◌, ◌≤◌, ℤ, Option, None, Some, Result, Ok, Err, List, [], ◌++◌, refl, sym, ap, subst, ◌∙◌, append_assoc, append-nil, arith}
+use Rattle.std.proofs.Common.{◌≡◌, ⊎_elim, ℕ, zero, suc, ◌+◌, ◌<◌, ◌≤◌, ℤ, Result, Ok, Err, List, [], ◌++◌, refl, sym, ap, subst, ◌∙◌, append_assoc, append-nil, arith}
 use Rattle.std.proofs.lemmas.Bool.{cases_lt}
 use Rattle.sums.specs.Sums.{count_below}
-use Rattle.bounds_board.specs.declared.bounds.BoardFault.{BoardFault}
-use Rattle.bounds_board.specs.declared.bounds.BoardFault.TheVariants.{Full, NoMemory}
 use Rattle.std.proofs.lemmas.List.Elements.{All-append, All-nil}
 use Rattle.sim_game.specs.declared.Side.{Side}
 use Rattle.sim_game.specs.Model.{GameModel}
@@ -11,8 +9,10 @@ use Rattle.plan_book.specs.declared.Entry.{Entry}
 use Rattle.plan_book.specs.Books.{Grows}
 use Rattle.bounds_board.specs.Views.{BoardView, IsLater}
 use Rattle.bounds_board.proofs.ViewLemmas.{later_refl, later_trans, seen_later}
+use Rattle.serial_ab.specs.declared.stop.Stop.{Stop}
+use Rattle.serial_ab.specs.declared.stop.Stop.TheVariants.{Cut, Full, NoMemory}
 use Rattle.serial_ab.specs.Counts.{VisitsView, Counts, IsCut}
-use Rattle.serial_ab.specs.Searches.{IsPureEntry, IsKept, IsGoodNumber, Ends}
+use Rattle.serial_ab.specs.Searches.{IsPureEntry, IsKept, IsGoodNumber, Stops, Ends}
 use Rattle.serial_ab.proofs.CountLemmas.{counts_none, counts_after, cut_after}
 
 pub grows_none : (P : Entry → Type 0) (xs ys : List Entry) → ys ≡ xs → Grows P xs ys
@@ -35,43 +35,48 @@ count_front f k (suc n) h = ⊎_elim
 pub count_part : (f : ℕ → ℕ) (i n : ℕ) → i < n → count_below i f + f i ≤ count_below n f
 count_part f i n h = count_front f (suc i) n (omega arith)
 
-module _ {S G N : Type 0} (m : GameModel S) (side : Side) where
-  pub kept_none : (n : ℕ) (v : BoardView G N) (u : VisitsView) → IsKept m side n v v u u
-  kept_none n v u = record { later = later_refl v; posted = grows_none (IsPureEntry m v.total) v.entries v.entries refl; visits = counts_none side n u }
+module _ {S G N : Type 0} {m : GameModel S} {side : Side} where
+  pub kept_none : {n : ℕ} {v : BoardView G N} {x : VisitsView} → IsKept m side n v v x x
+  kept_none {v = v} = record { later = later_refl v; posted = grows_none (IsPureEntry m v.total) v.entries v.entries refl; visits = counts_none }
 
-  pub kept_after : (a b c : ℕ) (u v w : BoardView G N) (x y z : VisitsView) → IsKept m side a u v x y → IsKept m side b v w y z → a + b ≤ c → IsKept m side c u w x z
-  kept_after a b c u v w x y z p q h = record {
+  pub kept_after : {a b c : ℕ} {u v w : BoardView G N} {x y z : VisitsView} → IsKept m side a u v x y → IsKept m side b v w y z → a + b ≤ c → IsKept m side c u w x z
+  kept_after {u = u} {v = v} {w = w} p q h = record {
     later = later_trans u v w p.later q.later;
     posted = grows_after (IsPureEntry m u.total) u.entries v.entries w.entries p.posted (subst (λ (t : ℕ). Grows (IsPureEntry m t) v.entries w.entries) p.later.total q.posted);
-    visits = counts_after side a b c x y z p.visits q.visits h;
+    visits = counts_after p.visits q.visits h;
   }
 
-  -- a part that posts and counts nothing
-  pub kept_quiet : (n : ℕ) (u v : BoardView G N) (x : VisitsView) → IsLater u v → v.entries ≡ u.entries → IsKept m side n u v x x
-  kept_quiet n u v x later same = record { later = later; posted = grows_none (IsPureEntry m u.total) u.entries v.entries same; visits = counts_none side n x }
+  -- a part that counts nothing
+  pub kept_posted : {n : ℕ} {u v : BoardView G N} {x : VisitsView} → IsLater u v → Grows (IsPureEntry m u.total) u.entries v.entries → IsKept m side n u v x x
+  kept_posted later posted = record { later = later; posted = posted; visits = counts_none }
 
-  pub kept_posted : (n : ℕ) (u v : BoardView G N) (x : VisitsView) → IsLater u v → Grows (IsPureEntry m u.total) u.entries v.entries → IsKept m side n u v x x
-  kept_posted n u v x later posted = record { later = later; posted = posted; visits = counts_none side n x }
+  -- and posts nothing
+  pub kept_quiet : {n : ℕ} {u v : BoardView G N} {x : VisitsView} → IsLater u v → v.entries ≡ u.entries → IsKept m side n u v x x
+  kept_quiet later same = kept_posted later (grows_none _ _ _ same)
 
-  pub kept_counted : (n : ℕ) (u : BoardView G N) (x y : VisitsView) → Counts side n x y → IsKept m side n u u x y
-  kept_counted n u x y counts = record { later = later_refl u; posted = grows_none (IsPureEntry m u.total) u.entries u.entries refl; visits = counts }
+  pub kept_counted : {n : ℕ} {u : BoardView G N} {x y : VisitsView} → Counts side n x y → IsKept m side n u u x y
+  kept_counted {u = u} counts = record { later = later_refl u; posted = grows_none _ _ _ refl; visits = counts }
 
-  pub good_later : (u v : BoardView G N) (s : S) (x : ℤ) → IsLater u v → IsGoodNumber m side u s x → IsGoodNumber m side v s x
-  good_later u v s x later good = record { proven = good.proven; seen = seen_later m u v side s x later good.seen }
+  pub good_later : {u v : BoardView G N} {s : S} {x : ℤ} → IsLater u v → IsGoodNumber m side u s x → IsGoodNumber m side v s x
+  good_later later good = record { proven = good.proven; seen = seen_later m _ _ side _ _ later good.seen }
 
   -- ---- the parts of a loop
-  module _ (f : ℕ → ℕ) (i n : ℕ) (u v w : BoardView G N) (x y z : VisitsView) (before : IsKept m side (count_below i f) u v x y) where
-    pub part_kept : i < n → IsKept m side (f i) v w y z → IsKept m side (count_below n f) u w x z
-    part_kept l q = kept_after (count_below i f) (f i) (count_below n f) u v w x y z before q (count_part f i n l)
+  module _ {u v : BoardView G N} {x y z : VisitsView} (f : ℕ → ℕ) (i n : ℕ) (before : IsKept m side (count_below i f) u v x y) where
+    pub part_kept : {w : BoardView G N} → i < n → IsKept m side (f i) v w y z → IsKept m side (count_below n f) u w x z
+    part_kept l q = kept_after before q (count_part f i n l)
 
-    pub part_more : IsKept m side (f i) v w y z → IsKept m side (count_below (i + 1) f) u w x z
-    part_more q = kept_after (count_below i f) (f i) (count_below (i + 1) f) u v w x y z before q (count_part f i (i + 1) (omega arith))
+    pub part_more : {w : BoardView G N} → IsKept m side (f i) v w y z → IsKept m side (count_below (i + 1) f) u w x z
+    part_more q = kept_after before q (count_part f i (i + 1) (omega arith))
 
     pub part_cut : i < n → IsCut side (f i) y z → IsCut side (count_below n f) x z
-    part_cut l q = cut_after side (count_below i f) (f i) (count_below n f) x y z before.visits q (count_part f i n l)
+    part_cut l q = cut_after before.visits (count_part f i n l) q
 
-pub ends_weaker : (F F' : ℤ → Type 0) (C C' L L' : Type 0) (r : Result (Option ℤ) BoardFault) → ((x : ℤ) → F x → F' x) → (C → C') → (L → L') → Ends F C L r → Ends F' C' L' r
-ends_weaker F F' C C' L L' (Ok (Some x)) f c l h = f x h
-ends_weaker F F' C C' L L' (Ok None) f c l h = c h
-ends_weaker F F' C C' L L' (Err Full) f c l h = l h
-ends_weaker F F' C C' L L' (Err NoMemory) f c l h = h
+-- where a part stops, the whole stops
+pub stops_more : {C C' : Type 0} (L : Type 0) (stop : Stop) → (C → C') → Stops C L stop → Stops C' L stop
+stops_more L Cut c h = c h
+stops_more L Full c h = h
+stops_more L NoMemory c h = h
+
+pub ends_more : (F : ℤ → Type 0) {C C' : Type 0} (L : Type 0) (r : Result ℤ Stop) → (C → C') → Ends F C L r → Ends F C' L r
+ends_more F L (Ok x) c h = h
+ends_more F L (Err stop) c h = stops_more L stop c h

@@ -1,17 +1,21 @@
 -- The serial bounds of a root, by what two searches over the whole range found.
-use Rattle.std.proofs.Common.{◌≡◌, ℕ, ◌+◌, ◌≤◌, ℤ, ◌≤ℤ◌, w64, SFits, to_z, of_z, sym, ap, ◌∙◌, arith}
+use Rattle.std.proofs.Common.{◌≡◌, ◌≢◌, Result, Ok, Err, ℕ, ◌+◌, ◌≤◌, ℤ, ◌≤ℤ◌, w64, SFits, to_z, of_z, sym, ap, ◌∙◌, arith}
 use Rattle.std.proofs.lemmas.Int.{ints, to_z-of_z}
 use Rattle.sim_game.specs.declared.Side.{Side}
 use Rattle.sim_game.specs.declared.Side.TheVariants.{One, Two}
 use Rattle.sim_game.specs.Model.{GameModel, IsGame, Reachable, HasAtMost}
-use Rattle.sim_game.specs.Sides.{other_side, opening_bound}
-use Rattle.sim_game.proofs.SideLemmas.{looser_both, looser_trans}
+use Rattle.sim_game.specs.Sides.{other_side, opening_bound, IsTighter}
+use Rattle.sim_game.proofs.SideLemmas.{looser_both}
 use Rattle.sim_game.proofs.ReachLemmas.{reachable_root}
-use Rattle.plan_book.specs.Serial.{serial_bound}
+use Rattle.plan_book.specs.Serial.{serial_bound, tree_size}
 use Rattle.bounds_board.specs.Views.{BoardView, WasFull}
 use Rattle.bounds_board.proofs.FullLemmas.{rows_too_few}
 use Rattle.serial_ab.specs.Counts.{VisitsView, Counts, IsCut, spent_on, left_on}
-use Rattle.serial_ab.specs.Roots.{IsRootValue}
+use Rattle.serial_ab.specs.Roots.{IsSearchable, IsRootValue}
+use Rattle.serial_ab.specs.Searches.{Ends, IsFound}
+use Rattle.serial_ab.specs.declared.stop.Stop.{Stop}
+use Rattle.serial_ab.specs.declared.stop.Stop.TheVariants.{Cut, Full, NoMemory}
+use Rattle.serial_ab.proofs.SearchLemmas.{whole_range}
 use Rattle.serial_ab.proofs.ValueLemmas.{serial_low, serial_high}
 
 module _ {S : Type 0} (m : GameModel S) (game : IsGame m) (s : S) (r : Reachable m s) where
@@ -23,21 +27,31 @@ module _ {S : Type 0} (m : GameModel S) (game : IsGame m) (s : S) (r : Reachable
   least One = serial_low m game One s r
   least Two = serial_high m game Two s r
 
-  -- a number at or beyond an end of the whole range
-  pub value_at_least : (side : Side) (x : ℤ) → opening_bound m Two ≤ℤ x → x ≤ℤ serial_bound m side s → x ≡ serial_bound m side s
-  value_at_least side x p q = looser_both One x _ q (looser_trans One _ _ _ (most side) p)
-
-  pub value_at_most : (side : Side) (x : ℤ) → serial_bound m side s ≤ℤ x → x ≤ℤ opening_bound m One → x ≡ serial_bound m side s
-  value_at_most side x p q = looser_both One x _ (looser_trans One _ _ _ q (least side)) p
-
   -- where all payoffs are equal
   pub value_alone : (side : Side) → opening_bound m One ≡ opening_bound m Two → opening_bound m One ≡ serial_bound m side s
   value_alone side e = looser_both One _ _ (least side) (rw e (most side))
 
+pub whole_wide : {S : Type 0} (m : GameModel S) (side : Side) → IsSearchable m → IsTighter side (opening_bound m (other_side side)) (opening_bound m side)
+whole_wide m One searched = searched.wide
+whole_wide m Two searched = searched.wide
+
 -- a search that was not cut had a visit left
-pub root_value : {S : Type 0} (m : GameModel S) (side : Side) (old new : VisitsView) (x : ℤ) → x ≡ serial_bound m side m.root → ¬ (left_on side old ≡ 0) → (1 ≤ left_on side old → spent_on side old + 1 ≤ spent_on side new)
-    → IsRootValue m side old new x
-root_value m side old new x is not entered = let left : 1 ≤ left_on side old = omega arith in record { value = is; had_left = λ _. left; entered = λ _. entered left }
+had_left : (side : Side) (v : VisitsView) (r : Result ℤ Stop) → r ≢ Err Cut → (left_on side v ≡ 0 → r ≡ Err Cut) → 1 ≤ left_on side v
+had_left side v r not none = let some : ¬ (left_on side v ≡ 0) = λ e. not (none e) in omega arith
+
+-- how a search of the root over the whole range ends
+pub root_ends : {S G N : Type 0} (m : GameModel S) (game : IsGame m) (side : Side) (v : BoardView G N) (old new : VisitsView) (r : Result ℤ Stop) → IsSearchable m
+    → (left_on side old ≡ 0 → r ≡ Err Cut) → (1 ≤ left_on side old → spent_on side old + 1 ≤ spent_on side new)
+    → Ends (IsFound m side m.root (opening_bound m side) (opening_bound m (other_side side)) v) (IsCut side (tree_size m m.root) old new) (WasFull m v) r
+    → Ends (IsRootValue m side old new) (IsCut side (tree_size m m.root) old new) (1 ≤ left_on side old × WasFull m v) r
+root_ends m game side v old new (Ok x) searched none entered found = let left = had_left side old (Ok x) (λ e. cc) none in record {
+  value = (whole_range m game side m.root v x (reachable_root m) found (whole_wide m side searched)).0;
+  had_left = λ _. left;
+  entered = λ _. entered left;
+}
+root_ends m game side v old new (Err Cut) searched none entered cut = cut
+root_ends m game side v old new (Err Full) searched none entered full = (had_left side old (Err Full) (λ e. cc) none, full)
+root_ends m game side v old new (Err NoMemory) searched none entered h = h
 
 -- equal words are equal numbers
 pub one_word : (x y : ℤ) → SFits w64 x → SFits w64 y → of_z w64 x ≡ of_z w64 y → x ≡ y

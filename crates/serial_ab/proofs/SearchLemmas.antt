@@ -1,5 +1,6 @@
 -- The steps of a search.
-use Rattle.std.proofs.Common.{◌≡◌, ◌⊎◌, inl, inr, ⊎_elim, ℕ, zero, suc, ◌+◌, ◌<◌, ◌≤◌, ℤ, pos, cond, eqb, List, [], ◌∷◌, ◌++◌, refl, sym, ap, subst, ◌∙◌, add-one, arith}
+use Rattle.std.proofs.Common.{◌≡◌, ◌⊎◌, inl, inr, ⊎_elim, ℕ, zero, suc, ◌+◌, ◌<◌, ◌≤◌, ℤ, pos, cond, eqb, List, [], ◌∷◌, ◌++◌, length, length-append, take, drop, ◌-◌, refl, sym, ap, subst, ◌∙◌, append-nil, append_assoc, add-one, arith}
+use Rattle.std.proofs.Math.Seq.{drop-append_seam, take-length}
 use Rattle.std.proofs.lemmas.Bool.{cases_lt}
 use Rattle.sim_game.specs.declared.Side.{Side}
 use Rattle.sim_game.specs.Model.{GameModel, IsGame, IsEnd, Reachable}
@@ -21,6 +22,10 @@ pub joined_same : {A : Type 0} (n : ℕ) (f g : ℕ → List A) → ((i : ℕ) �
 joined_same zero f g h = refl
 joined_same (suc n) f g h = let front = joined_same n f g (λ i p. h i (omega arith)) in let last = h n (omega arith) in cc
 
+-- the part of a stack from where it began
+pub part_of : (before part all : List ℤ) (start : ℕ) → start ≡ length before → all ≡ before ++ part → take (length all - start) (drop start all) ≡ part
+part_of before part all start s e = rw (e, s, drop-append_seam before part, length-append before part) (let n : (length before + length part) - length before ≡ length part = omega arith in rw n (take-length part))
+
 -- what is known after the first own moves
 pub record MovesSoFar {S G N : Type 0} (m : GameModel S) (side : Side) (s : S) (worse good : ℤ) (owns : ℕ) (value : ℤ) (v : BoardView G N) : Type 0 where
   pub wide : IsTighter side good value
@@ -30,9 +35,11 @@ pub record MovesSoFar {S G N : Type 0} (m : GameModel S) (side : Side) (s : S) (
   pub opened : IsNoTighter side (opening_bound m side) (v.seen side (m.key s))
 
 -- what is known after the first replies to an own move
-pub record RepliesSoFar {S G N : Type 0} (m : GameModel S) (side : Side) (s : S) (own : ℕ) (floor good : ℤ) (replies : ℕ) (least : ℤ) (v : BoardView G N) (reads : List ℤ) : Type 0 where
+pub record RepliesSoFar {S G N : Type 0} (m : GameModel S) (side : Side) (s : S) (own : ℕ) (floor good : ℤ) (replies : ℕ) (least : ℤ) (v : BoardView G N) (before reads : List ℤ) : Type 0 where
   pub wide : IsTighter side least floor
-  pub replied : IsReplied m side s own replies v reads least
+  pub part : List ℤ
+  pub joins : reads ≡ before ++ part
+  pub replied : IsReplied m side s own replies v part least
   pub reached : IsTighter side good least → IsNoTighter side (move_value m side s own) least
 
 pub move_window : {S : Type 0} (m : GameModel S) (side : Side) (worse good value : ℤ) → IsWindow m side worse good → IsTighter side good value → IsWindow m side (better side value worse) good
@@ -57,6 +64,9 @@ new_value side worse value x t = ⊎_elim
     (better_cases side value worse))
     (better_cases side value x))
     (tighter_or side x (better side value worse))
+
+pub whole_window : {S : Type 0} (m : GameModel S) (side : Side) → IsTighter side (opening_bound m (other_side side)) (opening_bound m side) → IsWindow m side (opening_bound m side) (opening_bound m (other_side side))
+whole_window m side wide = record { from = looser_refl side (opening_bound m side); to = looser_refl side (opening_bound m (other_side side)); wide = wide }
 
 pub pair_window : {S : Type 0} (m : GameModel S) (side : Side) (floor good least : ℤ) → IsWindow m side floor good → IsTighter side least floor → IsWindow m side floor (better (other_side side) good least)
 pair_window m side floor good least window wide = record {
@@ -137,16 +147,18 @@ module _ {S G N : Type 0} (m : GameModel S) (game : IsGame m) (side : Side) (s :
 
     -- ---- the replies to an own move
     module _ (own : ℕ) (at : own < m.moves side s) where
-      pub replies_start : (floor good : ℤ) (v : BoardView G N) → IsWindow m side floor good → RepliesSoFar m side s own floor good 0 (opening_bound m (other_side side)) v []
-      replies_start floor good v window = record {
+      pub replies_start : (floor good : ℤ) (v : BoardView G N) (before : List ℤ) → IsWindow m side floor good → RepliesSoFar m side s own floor good 0 (opening_bound m (other_side side)) v before before
+      replies_start floor good v before window = record {
         wide = least_tighter side _ good floor window.to window.wide;
+        part = [];
+        joins = sym (append-nil before);
         replied = record { numbers = λ _ _. pos 0; listed = refl; good = λ reply d h. absurd (omega arith); proven = λ reply h. absurd (omega arith) };
         reached = λ _. let some = game.other_moves (other_side side) s r goes in
             looser_trans side _ _ _ (pair_above m game side s own 0 some (omega arith)) (top_pair m game side s own 0 r at (omega arith));
       }
 
-      module _ (floor good : ℤ) (reply : ℕ) (against : reply < m.moves (other_side side) s) (least x : ℤ) (u v : BoardView G N) (later : IsLater u v) (before after : List ℤ)
-          (so_far : RepliesSoFar m side s own floor good reply least u before) (found : IsPairFound m side s own reply floor (better (other_side side) good least) v before after x) where
+      module _ (floor good : ℤ) (reply : ℕ) (against : reply < m.moves (other_side side) s) (least x : ℤ) (u v : BoardView G N) (later : IsLater u v) (before now after : List ℤ)
+          (so_far : RepliesSoFar m side s own floor good reply least u before now) (found : IsPairFound m side s own reply floor (better (other_side side) good least) v now after x) where
         -- the least number so far bounds the move where it is below the window's better end
         least_reached : IsTighter side good (better (other_side side) least x) → IsNoTighter side (move_value m side s own) (better (other_side side) least x)
         least_reached t = ⊎_elim
@@ -160,6 +172,9 @@ module _ {S G N : Type 0} (m : GameModel S) (game : IsGame m) (side : Side) (s :
             (tighter_or side least x) where
               worse_least : (a b c : ℤ) → IsNoTighter side c a → IsNoTighter side c b → IsNoTighter side c (better (other_side side) a b)
               worse_least a b c p q = ⊎_elim (λ (e : better (other_side side) a b ≡ a). looser_right side c _ _ (sym e) p) (λ (e : better (other_side side) a b ≡ b). looser_right side c _ _ (sym e) q) (better_cases (other_side side) a b)
+
+        joined : after ≡ before ++ (so_far.part ++ concat_below (draws_of m side s own reply) (λ d. found.numbers d ∷ []))
+        joined = found.listed ∙ ap (λ (l : List ℤ). l ++ concat_below (draws_of m side s own reply) (λ d. found.numbers d ∷ [])) so_far.joins ∙ append_assoc before so_far.part _
 
         -- the move is left
         pub replies_stop : IsNoTighter side (better (other_side side) least x) floor → IsMoveFound m side s own floor good v (better (other_side side) least x)
@@ -178,20 +193,21 @@ module _ {S G N : Type 0} (m : GameModel S) (game : IsGame m) (side : Side) (s :
         latest : (d : ℕ) → numbers_after reply d ≡ found.numbers d
         latest d = rw (is_same reply reply refl) refl
 
-        pub replies_more : IsTighter side (better (other_side side) least x) floor → RepliesSoFar m side s own floor good (reply + 1) (better (other_side side) least x) v after
+        pub replies_more : IsTighter side (better (other_side side) least x) floor → RepliesSoFar m side s own floor good (reply + 1) (better (other_side side) least x) v before after
         replies_more wide =
             let tight : IsTighter side x floor = least_tighter side x (better (other_side side) least x) floor (worse_right side least x) wide in record {
               wide = wide;
               reached = least_reached;
+              part = so_far.part ++ concat_below (draws_of m side s own reply) (λ d. found.numbers d ∷ []);
+              joins = joined;
               replied = record {
                 numbers = numbers_after;
-                listed = found.listed
-                    ∙ ap (λ (l : List ℤ). l ++ concat_below (draws_of m side s own reply) (λ d. found.numbers d ∷ [])) (so_far.replied.listed
+                listed = ap (λ (l : List ℤ). l ++ concat_below (draws_of m side s own reply) (λ d. found.numbers d ∷ [])) (so_far.replied.listed
                     ∙ joined_same reply _ _ (λ i h. joined_same (draws_of m side s own i) _ _ (λ d _. ap (λ (z : ℤ). z ∷ []) (sym (earlier i d h)))))
                     ∙ ap (λ (l : List ℤ). concat_below reply (λ i. concat_below (draws_of m side s own i) (λ d. numbers_after i d ∷ [])) ++ l) (joined_same (draws_of m side s own reply) _ _ (λ d _. ap (λ (z : ℤ). z ∷ []) (sym (latest d))))
                     ∙ sym (ap (λ (n : ℕ). concat_below n (λ i. concat_below (draws_of m side s own i) (λ d. numbers_after i d ∷ []))) (add-one reply));
                 good = λ i d h w. ⊎_elim
-                    (λ (lt : i < reply). subst (λ (z : ℤ). IsGoodNumber m side v (child_of m side s own i d) z) (sym (earlier i d lt)) (good_later m side u v _ _ later (so_far.replied.good i d lt w)))
+                    (λ (lt : i < reply). subst (λ (z : ℤ). IsGoodNumber m side v (child_of m side s own i d) z) (sym (earlier i d lt)) (good_later later (so_far.replied.good i d lt w)))
                     (λ (ge : reply ≤ i). let same : reply ≡ i = omega arith in
                     subst (λ (k : ℕ). (d' : ℕ) → d' < draws_of m side s own k → IsGoodNumber m side v (child_of m side s own k d') (numbers_after k d')) same
                     (λ d' w'. subst (λ (z : ℤ). IsGoodNumber m side v (child_of m side s own reply d') z) (sym (latest d')) (found.good tight d' w')) d w)
@@ -208,8 +224,8 @@ module _ {S G N : Type 0} (m : GameModel S) (game : IsGame m) (side : Side) (s :
             }
 
       -- all replies were tried and the step was posted
-      pub replies_end : (floor good least : ℤ) (u v : BoardView G N) (reads : List ℤ) → RepliesSoFar m side s own floor good (m.moves (other_side side) s) least u reads → IsNoTighter side least (v.seen side (m.key s)) → IsMoveFound m side s own floor good v least
-      replies_end floor good least u v reads so_far seen = record {
+      pub replies_end : (floor good least : ℤ) (u v : BoardView G N) (before reads : List ℤ) → RepliesSoFar m side s own floor good (m.moves (other_side side) s) least u before reads → IsNoTighter side least (v.seen side (m.key s)) → IsMoveFound m side s own floor good v least
+      replies_end floor good least u v before reads so_far seen = record {
         proven = λ _. replies_all m game side s own least (game.other_moves (other_side side) s r goes) (λ reply q. looser_trans side _ _ _ (so_far.replied.proven reply q)
             (cell_mono m side s (λ _ a b. so_far.replied.numbers a b) (λ a b d. serial_bound m side (child_of m side s a b d)) own reply (λ d w. (so_far.replied.good reply d q w).proven)));
         seen = λ _. seen;
@@ -229,26 +245,6 @@ module _ {S G N : Type 0} (m : GameModel S) (game : IsGame m) (side : Side) (s :
         }
 
         -- ---- a reply with several draws
-        -- over the whole range the number is the serial bound, and seen
-        pub whole_range : (d : ℕ) (v : BoardView G N) (x : ℤ) → d < draws_of m side s own reply → IsFound m side (child_of m side s own reply d) (opening_bound m side) (opening_bound m (other_side side)) v x
-            → IsTighter side (opening_bound m (other_side side)) (opening_bound m side)
-            → (x ≡ serial_bound m side (child_of m side s own reply d)) × IsGoodNumber m side v (child_of m side s own reply d) x
-        whole_range d v x w found range =
-            let child = child_of m side s own reply d in
-            let is : Reachable m (child_of m side s own reply d) = child_is m game side s own reply d r at against w in
-            let low = serial_low m game side (child_of m side s own reply d) is in
-            let high = serial_high m game side (child_of m side s own reply d) is in ⊎_elim
-            (λ (t : IsTighter side x (opening_bound m side)).
-            let proven = found.proven t in
-            let upper : IsNoTighter side (serial_bound m side (child_of m side s own reply d)) x = ⊎_elim (λ (b : IsTighter side (opening_bound m (other_side side)) x). found.reached b) (λ (b : IsNoTighter side (opening_bound m (other_side side)) x). looser_trans side _ _ _ high b) (tighter_or side (opening_bound m (other_side side)) x) in
-            (looser_both side x _ proven upper, record { proven = proven; seen = found.seen t }))
-            (λ (t : IsNoTighter side x (opening_bound m side)).
-            let upper = found.reached (tighter_than side _ (opening_bound m side) x range t) in
-            let lower : IsNoTighter side x (serial_bound m side (child_of m side s own reply d)) = looser_trans side _ _ _ t low in
-            let opening : IsNoTighter side (opening_bound m side) x = looser_trans side _ _ _ low upper in
-            (looser_both side x _ lower upper, record { proven = lower; seen = by_opening (looser_both side x _ t opening) }))
-            (tighter_or side x (opening_bound m side))
-
         pub pair_several : (floor ceiling : ℤ) (v : BoardView G N) (before after : List ℤ) → after ≡ before ++ concat_below (draws_of m side s own reply) (λ d. serial_bound m side (child_of m side s own reply d) ∷ [])
             → ((d : ℕ) → d < draws_of m side s own reply → IsGoodNumber m side v (child_of m side s own reply d) (serial_bound m side (child_of m side s own reply d)))
             → IsPairFound m side s own reply floor ceiling v before after (pair_value m side s own reply)
@@ -261,20 +257,24 @@ module _ {S G N : Type 0} (m : GameModel S) (game : IsGame m) (side : Side) (s :
         }
 
   -- ---- the whole range
-  -- over the whole range the number is the serial bound
-  pub whole_is : (v : BoardView G N) (x : ℤ) → Reachable m s → IsFound m side s (opening_bound m side) (opening_bound m (other_side side)) v x → IsTighter side (opening_bound m (other_side side)) (opening_bound m side) → IsNoTighter side (serial_bound m side s) x
-  whole_is v x r found range = ⊎_elim
-      (λ (b : IsTighter side (opening_bound m (other_side side)) x). found.reached b)
-      (λ (b : IsNoTighter side (opening_bound m (other_side side)) x). looser_trans side _ _ _ (serial_high m game side s r) b)
-      (tighter_or side (opening_bound m (other_side side)) x)
+  -- over the whole range the number is the serial bound, and seen
+  pub whole_range : (v : BoardView G N) (x : ℤ) → Reachable m s → IsFound m side s (opening_bound m side) (opening_bound m (other_side side)) v x → IsTighter side (opening_bound m (other_side side)) (opening_bound m side)
+      → (x ≡ serial_bound m side s) × IsGoodNumber m side v s x
+  whole_range v x r found range = let low = serial_low m game side s r in ⊎_elim
+      (λ (t : IsTighter side x (opening_bound m side)).
+      let proven = found.proven t in
+      let upper : IsNoTighter side (serial_bound m side s) x = ⊎_elim (λ (b : IsTighter side (opening_bound m (other_side side)) x). found.reached b) (λ (b : IsNoTighter side (opening_bound m (other_side side)) x). looser_trans side _ _ _ (serial_high m game side s r) b) (tighter_or side (opening_bound m (other_side side)) x) in
+      (looser_both side x _ proven upper, record { proven = proven; seen = found.seen t }))
+      (λ (t : IsNoTighter side x (opening_bound m side)).
+      let upper = found.reached (tighter_than side _ (opening_bound m side) x range t) in
+      let lower : IsNoTighter side x (serial_bound m side s) = looser_trans side _ _ _ t low in
+      (looser_both side x _ lower upper, record { proven = lower; seen = by_opening (looser_both side x _ t (looser_trans side _ _ _ low upper)) }))
+      (tighter_or side x (opening_bound m side))
 
   pub whole_seen : (v : BoardView G N) (x : ℤ) → Reachable m s → 1 ≤ m.rank s → IsFound m side s (opening_bound m side) (opening_bound m (other_side side)) v x → IsTighter side (opening_bound m (other_side side)) (opening_bound m side)
       → IsNoTighter side (serial_bound m side s) (v.seen side (m.key s))
-  whole_seen v x r goes found range = let upper = whole_is v x r found range in ⊎_elim
-      (λ (t : IsTighter side x (opening_bound m side)). seen_of (found.seen t) upper)
-      (λ (t : IsNoTighter side x (opening_bound m side)). looser_trans side _ _ _ upper (looser_trans side _ _ _ t (found.opened goes)))
-      (tighter_or side x (opening_bound m side)) where
-        seen_of : IsSeenNumber m v side s x → IsNoTighter side (serial_bound m side s) x → IsNoTighter side (serial_bound m side s) (v.seen side (m.key s))
-        seen_of (by_end e h) u = absurd (omega arith)
-        seen_of (by_opening e) u = looser_trans side _ _ _ u (looser_left side _ _ _ (sym e) (found.opened goes))
-        seen_of (by_seen h) u = looser_trans side _ _ _ u h
+  whole_seen v x r goes found range = let is = whole_range v x r found range in subst (λ (z : ℤ). IsNoTighter side z (v.seen side (m.key s))) is.0 (bound_seen is.1.seen) where
+    bound_seen : IsSeenNumber m v side s x → IsNoTighter side x (v.seen side (m.key s))
+    bound_seen (by_end e h) = absurd (omega arith)
+    bound_seen (by_opening e) = looser_left side _ _ _ (sym e) (found.opened goes)
+    bound_seen (by_seen h) = h

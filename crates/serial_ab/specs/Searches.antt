@@ -1,5 +1,5 @@
 -- What a search finds, and what it keeps.
-use Rattle.std.specs.Prelude.{◌≡◌, ℕ, ◌<◌, ◌≤◌, ℤ, Option, None, Some, Result, Ok, Err, List, [], ◌∷◌, ◌++◌, length}
+use Rattle.std.specs.Prelude.{◌≡◌, ℕ, ◌<◌, ◌≤◌, ℤ, Result, Ok, Err, List, [], ◌∷◌, ◌++◌, length}
 use Rattle.sim_game.specs.declared.Side.{Side}
 use Rattle.sim_game.specs.Model.{GameModel}
 use Rattle.plan_book.specs.declared.Entry.{Entry}
@@ -9,9 +9,9 @@ use Rattle.plan_book.specs.Serial.{serial_bound}
 use Rattle.plan_book.specs.Plans.{one_move}
 use Rattle.plan_book.specs.Entries.{IsLawfulEntry, concat_below}
 use Rattle.plan_book.specs.Books.{Grows}
-use Rattle.bounds_board.specs.declared.bounds.BoardFault.{BoardFault}
-use Rattle.bounds_board.specs.declared.bounds.BoardFault.TheVariants.{Full, NoMemory}
 use Rattle.bounds_board.specs.Views.{BoardView, IsLater, IsSeenNumber}
+use Rattle.serial_ab.specs.declared.stop.Stop.{Stop}
+use Rattle.serial_ab.specs.declared.stop.Stop.TheVariants.{Cut, Full, NoMemory}
 use Rattle.serial_ab.specs.Counts.{VisitsView, Counts}
 use Rattle.serial_ab.specs.Values.{pair_value, move_value}
 
@@ -33,12 +33,16 @@ pub record IsWindow {S : Type 0} (m : GameModel S) (side : Side) (worse better :
   pub to : IsNoTighter side better (opening_bound m (other_side side))
   pub wide : IsTighter side better worse
 
--- how a search ends: with a number, with no visit left, or with a fault
-abbrev pub Ends : (ℤ → Type 0) → Type 0 → Type 0 → Result (Option ℤ) BoardFault → Type 0
-Ends Found Cut IsBoardFull (Ok (Some x)) = Found x
-Ends Found Cut IsBoardFull (Ok None) = Cut
-Ends Found Cut IsBoardFull (Err Full) = IsBoardFull
-Ends Found Cut IsBoardFull (Err NoMemory) = Unit {0}
+-- why a search has no number: no visit is left, the board is full, or there is no memory
+abbrev pub Stops : Type 0 → Type 0 → Stop → Type 0
+Stops WasCut IsBoardFull Cut = WasCut
+Stops WasCut IsBoardFull Full = IsBoardFull
+Stops WasCut IsBoardFull NoMemory = Unit {0}
+
+-- how a search ends
+abbrev pub Ends : (ℤ → Type 0) → Type 0 → Type 0 → Result ℤ Stop → Type 0
+Ends Found WasCut IsBoardFull (Ok x) = Found x
+Ends Found WasCut IsBoardFull (Err stop) = Stops WasCut IsBoardFull stop
 
 -- above the window's worse end the number is proved and seen; below its better end nothing better is there
 pub record IsFound {S G N : Type 0} (m : GameModel S) (side : Side) (s : S) (worse better : ℤ) (v : BoardView G N) (x : ℤ) : Type 0 where

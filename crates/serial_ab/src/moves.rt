@@ -8,20 +8,32 @@ ghost use Rattle.plan_book.specs.Books.{Grows};
 ghost use Rattle.bounds_board.specs.Views.{IsLater};
 ghost use Rattle.serial_ab.specs.Searches.{IsReplied, IsPureEntry};
 
-use bounds_board::{BoardFault, Bounds, Row};
+use crate::stop::Stop;
+use bounds_board::{Bounds, Row};
 use plan_book::Entry;
 use seq::Seq;
 use sim_game::{Game, Side};
 use std::alloc::Global;
 
 /// Adds a number at the end.
-pub(crate) fn keep(reads: &mut Vec<i64>, number: i64) -> Result<(), BoardFault>
+pub(crate) fn keep(reads: &mut Vec<i64>, number: i64) -> Result<(), Stop>
     ensures ok { OnOk result (reads.new.items ≡ reads.old.items ++ number ∷ []) }
-    ensures err { OnErr result (result ≡ Err BoardFault.NoMemory) }
+    ensures err { OnErr result (result ≡ Err Stop.NoMemory) }
 {
     match reads.push(number) {
         Ok(()) => Ok(()),
-        Err(_) => Err(BoardFault::NoMemory),
+        Err(_) => Err(Stop::NoMemory),
+    }
+}
+
+/// The numbers in a vector of their own size.
+fn copied(alloc: Global, reads: &[i64]) -> Result<Vec<i64>, Stop>
+    ensures ok { IfOk result (λ v. v.items ≡ reads.now) }
+    ensures err { OnErr result (result ≡ Err Stop.NoMemory) }
+{
+    match Vec::from_slice(alloc, reads) {
+        Ok(reads) => Ok(reads),
+        Err(_) => Err(Stop::NoMemory),
     }
 }
 
@@ -31,43 +43,43 @@ pub(crate) fn pure_weights(
     total: u32,
     count: u32,
     place: u32,
-) -> Result<Vec<u32>, BoardFault>
+) -> Result<Vec<u32>, Stop>
     requires { place < count }
     ensures ok { IfOk result (λ w. w.items ≡ one_move total count place) }
-    ensures err { OnErr result (result ≡ Err BoardFault.NoMemory) }
+    ensures err { OnErr result (result ≡ Err Stop.NoMemory) }
 {
     match Vec::from_elem(alloc, 0, count as usize) {
         Ok(mut weights) => {
             weights[place as usize] = total;
             Ok(weights)
         }
-        Err(_) => Err(BoardFault::NoMemory),
+        Err(_) => Err(Stop::NoMemory),
     }
 }
 
 /// Posts the step by one move over the numbers at its children, where its bound is tighter than what is read.
 pub(crate) fn post_move<G: Game, B: Bounds<G>>(
     alloc: Global,
-    g: G,
+    g: &G,
     s: G::State,
     side: Side,
     own: u32,
     row: Row,
     bound: i64,
-    reads: Vec<i64>,
+    reads: &[i64],
     board: &mut B,
-) -> Result<(), BoardFault>
-    requires game { (B.view board.old).game ≡ g }
-    requires reachable { Reachable (G.model g) s }
-    requires goes_on { 1 ≤ (G.model g).rank s }
-    requires own_move { own < (G.model g).moves side s }
-    requires row { (B.view board.old).key_at row ≡ Some ((G.model g).key s) }
-    requires low { IsNoTighter side (opening_bound (G.model g) side) bound }
-    requires replied { IsReplied (G.model g) side s own ((G.model g).moves (other_side side) s) (B.view board.old) reads.items bound }
+) -> Result<(), Stop>
+    requires game { (B.view board.old).game ≡ g.now }
+    requires reachable { Reachable (G.model g.now) s }
+    requires goes_on { 1 ≤ (G.model g.now).rank s }
+    requires own_move { own < (G.model g.now).moves side s }
+    requires row { (B.view board.old).key_at row ≡ Some ((G.model g.now).key s) }
+    requires low { IsNoTighter side (opening_bound (G.model g.now) side) bound }
+    requires replied { IsReplied (G.model g.now) side s own ((G.model g.now).moves (other_side side) s) (B.view board.old) reads.now bound }
     ensures later { IsLater (B.view board.old) (B.view board.new) }
-    ensures posted { Grows (IsPureEntry (G.model g) (B.view board.old).total) (B.view board.old).entries (B.view board.new).entries }
-    ensures seen { OnOk result (IsNoTighter side bound ((B.view board.new).seen side ((G.model g).key s))) }
-    ensures err { OnErr result (result ≡ Err BoardFault.NoMemory) }
+    ensures posted { Grows (IsPureEntry (G.model g.now) (B.view board.old).total) (B.view board.old).entries (B.view board.new).entries }
+    ensures seen { OnOk result (IsNoTighter side bound ((B.view board.new).seen side ((G.model g.now).key s))) }
+    ensures err { OnErr result (result ≡ Err Stop.NoMemory) }
 {
     let enclosure = board.read(row);
     let known = match side {
@@ -78,6 +90,7 @@ pub(crate) fn post_move<G: Game, B: Bounds<G>>(
         return Ok(());
     }
     let weights = pure_weights(alloc, board.total(), g.moves(side, s), own)?;
+    let reads = copied(alloc, reads)?;
     let e = Entry {
         key: g.key(s),
         side,
@@ -87,6 +100,6 @@ pub(crate) fn post_move<G: Game, B: Bounds<G>>(
     };
     match board.post(row, e) {
         Ok(()) => Ok(()),
-        Err(_) => Err(BoardFault::NoMemory),
+        Err(_) => Err(Stop::NoMemory),
     }
 }

@@ -8,9 +8,10 @@ ghost use Rattle.serial_ab.specs.Counts.{left_on, IsCut};
 ghost use Rattle.serial_ab.specs.Searches.{Ends, IsKept};
 ghost use Rattle.serial_ab.specs.Roots.{IsSearchable, IsRootValue, IsRootEnd, HasCounted};
 
+use crate::search::search_state;
+use crate::stop::Stop;
 use crate::visits::Visits;
-use crate::windowed::{SerialEnd, serial};
-use bounds_board::{BoardFault, Bounds, PlainBoard};
+use bounds_board::{Bounds, PlainBoard};
 use sim_game::{Game, NoMemory, Side, end_bound, opening_bound};
 use std::alloc::Global;
 
@@ -75,39 +76,37 @@ fn search_both<G: Game, B: Bounds<G>>(
     ensures counted { HasCounted visits.old visits.new }
 {
     match search_root(alloc, g, Side::One, visits, board) {
-        Ok(Some(lower)) => match search_root(alloc, g, Side::Two, visits, board) {
-            Ok(Some(upper)) => Ok(RootEnd::Found { lower, upper }),
-            Ok(None) => Ok(RootEnd::Cut { side: Side::Two }),
-            Err(BoardFault::Full) => Ok(RootEnd::Full),
-            Err(BoardFault::NoMemory) => Err(NoMemory),
+        Ok(lower) => match search_root(alloc, g, Side::Two, visits, board) {
+            Ok(upper) => Ok(RootEnd::Found { lower, upper }),
+            Err(Stop::Cut) => Ok(RootEnd::Cut { side: Side::Two }),
+            Err(Stop::Full) => Ok(RootEnd::Full),
+            Err(Stop::NoMemory) => Err(NoMemory),
         },
-        Ok(None) => Ok(RootEnd::Cut { side: Side::One }),
-        Err(BoardFault::Full) => Ok(RootEnd::Full),
-        Err(BoardFault::NoMemory) => Err(NoMemory),
+        Err(Stop::Cut) => Ok(RootEnd::Cut { side: Side::One }),
+        Err(Stop::Full) => Ok(RootEnd::Full),
+        Err(Stop::NoMemory) => Err(NoMemory),
     }
 }
 
-/// The serial bound of the root for a side, or none where the search was cut.
+/// The serial bound of the root for a side.
 fn search_root<G: Game, B: Bounds<G>>(
     alloc: Global,
     g: G,
     side: Side,
     visits: &mut Visits,
     board: &mut B,
-) -> Result<Option<i64>, BoardFault>
+) -> Result<i64, Stop>
     requires game { (B.view board.old).game ≡ g }
     requires searched { IsSearchable (G.model g) }
     ensures kept { IsKept (G.model g) side (tree_size (G.model g) (G.model g).root) (B.view board.old) (B.view board.new) visits.old visits.new }
     ensures ends { Ends (IsRootValue (G.model g) side visits.old visits.new) (IsCut side (tree_size (G.model g) (G.model g).root) visits.old visits.new)
         ((1 ≤ left_on side visits.old) × WasFull (G.model g) (B.view board.new)) result }
 {
-    let low = opening_bound(g, Side::One);
-    let high = opening_bound(g, Side::Two);
-    match serial(alloc, g, g.root(), side, (low, high), visits, board) {
-        Ok(SerialEnd::Exact { value }) => Ok(Some(value)),
-        Ok(SerialEnd::AtLeast { value }) => Ok(Some(value)),
-        Ok(SerialEnd::AtMost { value }) => Ok(Some(value)),
-        Ok(SerialEnd::Cut) => Ok(None),
-        Err(fault) => Err(fault),
-    }
+    let worse = opening_bound(g, side);
+    let better = opening_bound(g, side.other());
+    let root = g.root();
+    let mut reads = Vec::new(alloc);
+    search_state(
+        alloc, &g, root, side, worse, better, &mut reads, visits, board,
+    )
 }

@@ -10,6 +10,7 @@ ghost use Rattle.bounds_board.specs.Views.{WasFull};
 ghost use Rattle.serial_ab.specs.Searches.{IsKept};
 
 use crate::search::search_state;
+use crate::stop::Stop;
 use crate::visits::Visits;
 use bounds_board::{BoardFault, Bounds};
 use sim_game::{Game, Side};
@@ -55,10 +56,12 @@ pub fn serial<G: Game, B: Bounds<G>>(
 {
     let worse = worse(side, window.0, window.1);
     let better = better(side, window.0, window.1);
-    match search_state(alloc, g, s, side, worse, better, visits, board) {
-        Ok(Some(value)) => Ok(placed(window.0, window.1, value)),
-        Ok(None) => Ok(SerialEnd::Cut),
-        Err(fault) => Err(fault),
+    let mut reads = Vec::new(alloc);
+    match search_state(alloc, &g, s, side, worse, better, &mut reads, visits, board) {
+        Ok(value) => Ok(placed(window.0, window.1, value)),
+        Err(Stop::Cut) => Ok(SerialEnd::Cut),
+        Err(Stop::Full) => Err(BoardFault::Full),
+        Err(Stop::NoMemory) => Err(BoardFault::NoMemory),
     }
 }
 

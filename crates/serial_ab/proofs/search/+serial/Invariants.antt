@@ -9,19 +9,19 @@ use Rattle.serial_ab.proofs.SearchLemmas.{MovesSoFar, RepliesSoFar}
 use Rattle.serial_ab.proofs.search.+serial.Given as goal
 
 abbrev pub decreases-search_draws : goal.decreases-search_draws
-decreases-search_draws g l = 5 * (g.G.Game.model l.g).rank l.s
+decreases-search_draws g l = 5 * (g.G.Game.model l.g.now).rank l.s
 
 abbrev pub decreases-search_pair : goal.decreases-search_pair
-decreases-search_pair g l = 5 * (g.G.Game.model l.g).rank l.s + 1
+decreases-search_pair g l = 5 * (g.G.Game.model l.g.now).rank l.s + 1
 
 abbrev pub decreases-search_move : goal.decreases-search_move
-decreases-search_move g l = 5 * (g.G.Game.model l.g).rank l.s + 2
+decreases-search_move g l = 5 * (g.G.Game.model l.g.now).rank l.s + 2
 
 abbrev pub decreases-search_moves : goal.decreases-search_moves
-decreases-search_moves g l = 5 * (g.G.Game.model l.g).rank l.s + 3
+decreases-search_moves g l = 5 * (g.G.Game.model l.g.now).rank l.s + 3
 
 abbrev pub decreases-search_state : goal.decreases-search_state
-decreases-search_state g l = 5 * (g.G.Game.model l.g).rank l.s + 4
+decreases-search_state g l = 5 * (g.G.Game.model l.g.now).rank l.s + 4
 
 abbrev pub invariant-search_draws-loop-d : goal.invariant-search_draws-loop-d
 invariant-search_draws-loop-d g l = record {
@@ -34,11 +34,12 @@ invariant-search_draws-loop-d g l = record {
 abbrev pub invariant-search_move-loop-reply : goal.invariant-search_move-loop-reply
 invariant-search_move-loop-reply g l = record {
   kept : IsKept (g.G.Game.model l.g) l.side (count_below l.reply (pair_nodes (g.G.Game.model l.g) l.side l.s l.own)) (g.B.Bounds.view l.initial.board) (g.B.Bounds.view l.board) l.initial.visits l.visits;
-  so_far : RepliesSoFar (g.G.Game.model l.g) l.side l.s l.own l.floor l.better l.reply l.least (g.B.Bounds.view l.board) l.reads.items;
+  so_far : RepliesSoFar (g.G.Game.model l.g) l.side l.s l.own l.floor l.better l.reply l.least (g.B.Bounds.view l.board) l.initial.reads.items l.reads.items;
 }
 
 abbrev pub invariant-search_moves-loop-own : goal.invariant-search_moves-loop-own
 invariant-search_moves-loop-own g l = record {
   kept : IsKept (g.G.Game.model l.g) l.side (count_below l.own (move_nodes (g.G.Game.model l.g) l.side l.s)) (g.B.Bounds.view l.initial.board) (g.B.Bounds.view l.board) l.initial.visits l.visits;
   so_far : MovesSoFar (g.G.Game.model l.g) l.side l.s l.worse l.better l.own l.value (g.B.Bounds.view l.board);
+  same_reads : l.reads.items ≡ l.initial.reads.items;
 }

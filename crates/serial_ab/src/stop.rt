@@ -1,0 +1,9 @@
+//! Why a search has no number.
+
+/// Why a search has no number: no visit is left, the board is full, or there is no memory.
+#[derive(Clone, Copy)]
+pub(crate) enum Stop {
+    Cut,
+    Full,
+    NoMemory,
+}

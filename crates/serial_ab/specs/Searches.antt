@@ -33,12 +33,13 @@ pub record IsWindow {S : Type 0} (m : GameModel S) (side : Side) (worse better :
   pub to : IsNoTighter side better (opening_bound m (other_side side))
   pub wide : IsTighter side better worse
 
--- how a search ends: with a number, with no visit left, or with a fault
+-- why a search has no number: no visit is left, the board is full, or there is no memory
 abbrev pub Stops : Type 0 → Type 0 → Stop → Type 0
 Stops WasCut IsBoardFull Cut = WasCut
 Stops WasCut IsBoardFull Full = IsBoardFull
 Stops WasCut IsBoardFull NoMemory = Unit {0}
 
+-- how a search ends
 abbrev pub Ends : (ℤ → Type 0) → Type 0 → Type 0 → Result ℤ Stop → Type 0
 Ends Found WasCut IsBoardFull (Ok x) = Found x
 Ends Found WasCut IsBoardFull (Err stop) = Stops WasCut IsBoardFull stop

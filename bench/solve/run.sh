@@ -47,6 +47,8 @@ one "Goofspiel 5 cards" solve "$(goofspiel 5)$(ask $huge $huge 65536 1)" "$@"
 one "Goofspiel 6 cards" solve "$(goofspiel 6)$(ask $huge $huge 65536 1)" "$@"
 one "Oshi-Zumo 3 fields, 15 coins" solve "$(oshi_zumo 3 15)$(ask $huge $huge 65536 1)" "$@"
 one "Tron 5 by 5" solve "$(tron 5 5)$(ask $huge $huge 65536 1)" "$@"
-for workers in 1 2 4; do
-    one "Goofspiel 6 cards, $workers workers" solve "$(goofspiel 6)$(ask $huge $huge 65536 $workers)" "$1"
+for cards in 6 7; do
+    for workers in 1 2 4; do
+        one "Goofspiel $cards cards, $workers workers" solve "$(goofspiel $cards)$(ask $huge $huge 1048576 $workers)" "$1"
+    done
 done

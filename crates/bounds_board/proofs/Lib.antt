@@ -1,3 +1,4 @@
 pub mod FullLemmas
 pub mod PlainLemmas
+pub mod TableLemmas
 pub mod ViewLemmas

@@ -1,11 +1,12 @@
 -- What holds of a plain board: its reads, and how a claim and a post keep it.
-use Rattle.std.proofs.Common.{◌≡◌, ◌≢◌, ◌⊎◌, inl, inr, ⊎_elim, ℕ, ◌+◌, ◌-◌, ◌%◌, ◌<◌, ◌≤◌, ℤ, Option, None, Some, true, false, cond, eqb, List, [], ◌∷◌, ◌++◌, length, get_or, set, IsSome, is_some, w64, SFits, refl, sym, ap, ◌∙◌, subst, arith, mod-lt, mod-eq_of_lt}
+use Rattle.std.proofs.Common.{◌≡◌, ◌⊎◌, inl, inr, ⊎_elim, ℕ, ◌+◌, ◌-◌, ◌%◌, ◌<◌, ◌≤◌, ℤ, Some, false, cond, eqb, List, [], ◌∷◌, ◌++◌, length, get_or, set, slice_get, Contains, w64, SFits, refl, sym, ap, ◌∙◌, subst, arith, mod-lt, mod-eq_of_lt}
 use Rattle.std.proofs.Math.Nat.{add-mod_right, mod-mod, mod-add-mod}
 use mir.Val.{to_z, of_z}
 use Rattle.std.proofs.lemmas.Int.{ints, to_z-of_z}
-use Rattle.std.proofs.lemmas.List.Elements.{All-push, All-weaker}
-use Rattle.std.proofs.lemmas.Bool.{cases_lt}
-use Rattle.std.proofs.lemmas.List.{get_or_past, get_or-set_same, get_or-set_other, get_or_read, length-set}
+use Rattle.std.proofs.lemmas.Bool.{cases_lt, cases_eq}
+use Rattle.std.proofs.lemmas.List.{get_or-set_same, get_or-set_other, get_or-map, length-set, length-map, map-set, map_push, set-get_or}
+use Rattle.std.proofs.lemmas.List.Elements.{All-push, All-weaker, Contains-append_left}
+use Rattle.std.proofs.lemmas.Option.{slice_get-get_or, slice_get_within, get_or_from_slice_get, same_Some}
 use Rattle.sim_game.specs.declared.Side.{Side}
 use Rattle.sim_game.specs.declared.Side.TheVariants.{One, Two}
 use Rattle.sim_game.specs.Model.{GameModel, IsGame, IsEnd, Reachable}
@@ -16,10 +17,11 @@ use Rattle.plan_book.specs.Entries.{IsEntry}
 use Rattle.sim_game.proofs.SideLemmas.{looser_refl, looser_trans, looser_left, looser_right, side_turn, end_range}
 use Rattle.sim_game.proofs.ReachLemmas.{reachable_turn}
 use Rattle.bounds_board.specs.declared.slots.Slot.{Slot}
-use Rattle.bounds_board.specs.Slots.{free_slot, slot_at, key_in, bound_of, scattered, row_after, IsOther, IsPlace, IsMet}
-use Rattle.bounds_board.specs.Plain.{IsPlain, IsProbed, IsHeld, plain_view}
-use Rattle.bounds_board.specs.Views.{BoardView, IsLater, IsInnerKey, IsEnclosure, IsSeenNumber, by_end, by_opening, by_seen}
+use Rattle.bounds_board.specs.Slots.{keys_of, bound_of, IsOther, IsFree, IsMet}
+use Rattle.bounds_board.specs.Plain.{IsPlain, plain_view}
+use Rattle.bounds_board.specs.Views.{BoardView, IsLater, IsInnerKey, IsFull, IsEnclosure, IsSeenNumber, by_end, by_opening, by_seen}
 use Rattle.plan_book.proofs.BookLemmas.{best_backed, best_range, best_push, best_grows, best_has, best_opening, eqb_self, eqb_other, cond_and, cond_and_false}
+use Rattle.bounds_board.proofs.TableLemmas.{few_keys, key_before, row_inside, row_key, full_others, room, no_row, table_claims}
 
 -- each row is tried, from any number's remainder on
 pub row_met : (rows k i : ℕ) → i < rows → (u : ℕ) × (u < rows) × ((k % rows + u) % rows ≡ i)
@@ -34,152 +36,92 @@ row_begins rows k = sym (ap (λ (z : ℕ). z % rows) (omega arith) ∙ mod-mod k
 pub row_goes_on : (rows k tried row : ℕ) → row ≡ (k % rows + tried) % rows → (row + 1) % rows ≡ (k % rows + (tried + 1)) % rows
 row_goes_on rows k tried row is = ap (λ (z : ℕ). (z + 1) % rows) is ∙ mod-add-mod (k % rows + tried) rows 1 ∙ ap (λ (z : ℕ). z % rows) (omega arith)
 
-pub none_held : (slots : List Slot) (key : ℕ) → ((t : ℕ) → t < length slots → IsOther slots key (row_after (length slots) key t)) → (row : ℕ) → row < length slots → IsOther slots key row
-none_held slots key passed row l = let u = row_met (length slots) (scattered key) row l in subst (λ (z : ℕ). IsOther slots key z) u.2 (passed u.0 u.1)
-
--- a row that has a key is a row of the board
-pub held_inside : (slots : List Slot) (row key : ℕ) → key_in slots row ≡ Some key → row < length slots
-held_inside slots row key e = ⊎_elim (λ (h : row < length slots). h) (λ (h : length slots ≤ row). let past : get_or slots row free_slot ≡ free_slot = get_or_past slots row free_slot h in let none : key_in slots row ≡ None = ap (λ (s : Slot). s.key) past in cc) (cases_lt row (length slots))
-
-pub some_inside : (slots : List Slot) (row : ℕ) → IsSome (key_in slots row) → row < length slots
-some_inside slots row h = ⊎_elim (λ (h : row < length slots). h) (λ (l : length slots ≤ row). let past : get_or slots row free_slot ≡ free_slot = get_or_past slots row free_slot l in let none : key_in slots row ≡ None = ap (λ (s : Slot). s.key) past in let wrong : false ≡ true = rw none at h in cc) (cases_lt row (length slots))
-
 module _ {S : Type 0} (m : GameModel S) (game : IsGame m) where
   -- bounds in the range of payoffs fit
   pub range_fits : (x : ℤ) → IsNoTighter One (opening_bound m One) x → IsNoTighter Two (opening_bound m Two) x → SFits w64 x
   range_fits x low high = let a = game.low_least in let b = game.high_most in let c = game.low_high in omega (arith, ints)
 
-  module _ (slots : List Slot) (total : ℕ) (entries : List Entry) (plain : IsPlain m slots total entries) where
-    pub bound_fits : (side : Side) (key : ℕ) → SFits w64 (best_posted m entries side key)
-    bound_fits side key = range_fits (best_posted m entries side key) (best_range m total (IsBooked m entries) entries side One key game plain.closed) (best_range m total (IsBooked m entries) entries side Two key game plain.closed)
+  -- what a read of a row gives
+  module _ (heads : List ℕ) (slots : List Slot) (total : ℕ) (entries : List Entry) (plain : IsPlain m heads slots total entries) (row : ℕ) (s : S) (slot : Slot)
+      (r : Reachable m s) (has : slice_get (keys_of slots) row ≡ Some (m.key s)) (is : slot ≡ get_or slots row slot) where
+    range : (side other : Side) → IsNoTighter other (opening_bound m other) (best_posted m entries side (m.key s))
+    range side other = best_range m total (IsBooked m entries) entries side other (m.key s) game plain.closed
 
-    -- what a read of a row gives
-    pub read_bound : (side : Side) (row key : ℕ) (slot : Slot) → key_in slots row ≡ Some key → slot ≡ get_or slots row slot → to_z w64 (of_z w64 (bound_of slot side)) ≡ best_posted m entries side key
-    read_bound side row key slot e r =
-        let is : slot ≡ slot_at slots row = get_or_read slots row slot (held_inside slots row key e) r free_slot in
-        let same : bound_of slot side ≡ best_posted m entries side key = ap (λ (z : Slot). bound_of z side) is ∙ plain.bounds side row key e in
-        ap (λ (z : ℤ). to_z w64 (of_z w64 z)) same ∙ to_z-of_z w64 (best_posted m entries side key) (bound_fits side key)
+    read_bound : (side : Side) → to_z w64 (of_z w64 (bound_of slot side)) ≡ best_posted m entries side (m.key s)
+    read_bound side =
+        let inside = row_inside slots row (m.key s) has in
+        let own : (get_or slots row slot).key ≡ m.key s = same_Some _ _ (sym (row_key slots row slot inside) ∙ has) in
+        let same : bound_of slot side ≡ best_posted m entries side (m.key s) = ap (λ (z : Slot). bound_of z side) is ∙ plain.bounds row slot inside side ∙ ap (best_posted m entries side) own in
+        ap (λ (z : ℤ). to_z w64 (of_z w64 z)) same ∙ to_z-of_z w64 (best_posted m entries side (m.key s)) (range_fits (best_posted m entries side (m.key s)) (range side One) (range side Two))
 
-    pub read_enclosure : (row : ℕ) (s : S) (slot : Slot) → Reachable m s → key_in slots row ≡ Some (m.key s) → slot ≡ get_or slots row slot
-        → IsEnclosure m (to_z w64 (of_z w64 slot.lower)) (to_z w64 (of_z w64 slot.upper)) s
-    read_enclosure row s slot r e i =
-        let lower = read_bound One row (m.key s) slot e i in
-        let upper = read_bound Two row (m.key s) slot e i in
+    pub read_enclosure : IsEnclosure m (to_z w64 (of_z w64 slot.lower)) (to_z w64 (of_z w64 slot.upper)) s
+    read_enclosure =
         let best : IsEnclosure m (best_posted m entries One (m.key s)) (best_posted m entries Two (m.key s)) s = record {
           lower_backed = best_backed m total (IsBooked m entries) entries One s game r plain.closed;
           upper_backed = best_backed m total (IsBooked m entries) entries Two s game r plain.closed;
-          lower_low = best_range m total (IsBooked m entries) entries One One (m.key s) game plain.closed;
-          lower_high = best_range m total (IsBooked m entries) entries One Two (m.key s) game plain.closed;
-          upper_low = best_range m total (IsBooked m entries) entries Two One (m.key s) game plain.closed;
-          upper_high = best_range m total (IsBooked m entries) entries Two Two (m.key s) game plain.closed;
+          lower_low = range One One;
+          lower_high = range One Two;
+          upper_low = range Two One;
+          upper_high = range Two Two;
         } in
-        subst (λ (z : ℤ). IsEnclosure m z (to_z w64 (of_z w64 slot.upper)) s) (sym lower) (subst (λ (z : ℤ). IsEnclosure m (best_posted m entries One (m.key s)) z s) (sym upper) best)
+        subst (λ (z : ℤ). IsEnclosure m z (to_z w64 (of_z w64 slot.upper)) s) (sym (read_bound One)) (subst (λ (z : ℤ). IsEnclosure m (best_posted m entries One (m.key s)) z s) (sym (read_bound Two)) best)
 
-pub key_same : (slots : List Slot) (row : ℕ) (new : Slot) → row < length slots → key_in (set slots row new) row ≡ new.key
-key_same slots row new l = ap (λ (z : Slot). z.key) (get_or-set_same slots row new free_slot l)
+-- a claim that finds no free head
+pub claim_full : {S G : Type 0} (model : G → GameModel S) (g : G) (heads : List ℕ) (slots : List Slot) (total : ℕ) (entries : List Entry) (plain : IsPlain (model g) heads slots total entries) (key : ℕ)
+    → IsInnerKey (model g) key → ((head : ℕ) → head < length heads → IsOther heads (keys_of slots) key head)
+    → IsFull (model g) (plain_view model (record { game = g; rows = length heads; keys = keys_of slots; total = total; entries = entries })) key
+claim_full model g heads slots total entries plain key inner others = record {
+  inner = inner;
+  others = λ row l.
+      let o = full_others heads (keys_of slots) plain.table key others row l in
+      (o.0, o.1, subst (IsInnerKey (model g)) (get_or_from_slice_get (keys_of slots) row o.0 o.0 o.1) (plain.inner row o.0 (slice_get_within (keys_of slots) row o.0 o.1)), o.2);
+  apart = λ row other k l h p q. plain.table.apart row other k p q;
+}
 
-key_other : (slots : List Slot) (row other : ℕ) (new : Slot) → other ≢ row → key_in (set slots row new) other ≡ key_in slots other
-key_other slots row other new n = ap (λ (z : Slot). z.key) (get_or-set_other slots row other new free_slot n)
+pub few_rows : {S : Type 0} (m : GameModel S) (heads : List ℕ) (slots : List Slot) (total : ℕ) (entries : List Entry) → IsPlain m heads slots total entries → length slots ≤ 1048576
+few_rows m heads slots total entries plain = omega (arith, few_keys heads (keys_of slots) plain.table, plain.table.rows_high, length-map slots (λ (s : Slot). s.key))
 
-decide_row : (a b : ℕ) → (a ≡ b) ⊎ (a ≢ b)
-decide_row a b = ⊎_elim (λ (h : a < b). inr (λ (e : a ≡ b). omega arith)) (λ (h : b ≤ a). ⊎_elim (λ (k : b < a). inr (λ (e : a ≡ b). omega arith)) (λ (k : a ≤ b). inl (omega arith)) (cases_lt b a)) (cases_lt a b)
+pub claim_later : {S G : Type 0} (model : G → GameModel S) (g : G) (heads : List ℕ) (slots : List Slot) (total : ℕ) (entries : List Entry) (head named : ℕ) (new : Slot)
+    → IsLater (plain_view model (record { game = g; rows = length heads; keys = keys_of slots; total = total; entries = entries }))
+    (plain_view model (record { game = g; rows = length (set heads head named); keys = keys_of (slots ++ new ∷ []); total = total; entries = entries }))
+claim_later model g heads slots total entries head named new = record {
+  name = refl;
+  game = refl;
+  total = refl;
+  rows = length-set heads head named;
+  keys = λ row k e. rw (map_push (λ (s : Slot). s.key) slots new) (key_before (keys_of slots) new.key row k e);
+  seen = λ side k. looser_refl side (best_posted (model g) entries side k);
+}
 
--- a claim takes a free row
-module _ {S : Type 0} (m : GameModel S) (slots : List Slot) (total : ℕ) (entries : List Entry) (plain : IsPlain m slots total entries)
-    (row key : ℕ) (place : IsPlace slots key row) (free : key_in slots row ≡ None) (inside : row < length slots) where
-  -- no row has the key yet
-  pub no_row : (other : ℕ) → key_in slots other ≡ Some key → ⊥
-  no_row other e =
-      let p = plain.probed other key e in
-      ⊎_elim
-      (λ (l : p.tried < place.tried). let o = place.passed p.tried l in let h : key_in slots other ≡ Some o.held = subst (λ (z : ℕ). key_in slots z ≡ Some o.held) (sym p.here) o.is_held in let same : o.held ≡ key = cc in o.differs same)
-      (λ (ge : place.tried ≤ p.tried). ⊎_elim
-      (λ (l : place.tried < p.tried). let s : IsSome (key_in slots row) = subst (λ (z : ℕ). IsSome (key_in slots z)) (sym place.here) (p.passed place.tried l) in let wrong : false ≡ true = rw free at s in cc)
-      (λ (le : p.tried ≤ place.tried). let same : p.tried ≡ place.tried = omega arith in let here : other ≡ row = p.here ∙ ap (λ (t : ℕ). row_after (length slots) key t) same ∙ sym place.here in let k : key_in slots row ≡ Some key = subst (λ (z : ℕ). key_in slots z ≡ Some key) here e in cc)
-      (cases_lt place.tried p.tried))
-      (cases_lt p.tried place.tried)
+-- a claim takes a free head, and a new row
+module _ {S : Type 0} (m : GameModel S) (heads : List ℕ) (slots : List Slot) (total : ℕ) (entries : List Entry) (plain : IsPlain m heads slots total entries)
+    (key head : ℕ) (free : IsFree heads (keys_of slots) key head) where
+  pub claim_room : length slots < length heads
+  claim_room = omega (arith, room heads (keys_of slots) plain.table key head free, length-map slots (λ (s : Slot). s.key))
 
-  other_row : (other k : ℕ) → key_in slots other ≡ Some k → other ≢ row
-  other_row other k e h = let at : key_in slots row ≡ Some k = subst (λ (z : ℕ). key_in slots z ≡ Some k) h e in cc
-
-  pub no_entry : (side : Side) → best_posted m entries side key ≡ opening_bound m side
+  -- no row had the key, so no entry has it
+  no_entry : (side : Side) → best_posted m entries side key ≡ opening_bound m side
   no_entry side = best_has m entries side key (λ x. x ≡ opening_bound m side) refl
-      (All-weaker (λ e. IsHeld slots e.key) (λ e. e.side ≡ side → e.key ≡ key → e.bound ≡ opening_bound m side)
-      (λ e h a k. absurd (no_row h.row (subst (λ (z : ℕ). key_in slots h.row ≡ Some z) k h.holds))) entries plain.held)
+      (All-weaker (λ e. Contains (keys_of slots) e.key) (λ e. e.side ≡ side → e.key ≡ key → e.bound ≡ opening_bound m side)
+      (λ e h a k. absurd (no_row heads (keys_of slots) plain.table key head free h.0 (slice_get-get_or (keys_of slots) h.0 e.key h.1 ∙ ap Some (h.2 ∙ k)))) entries plain.held)
 
-  module _ (new : Slot) (is_key : new.key ≡ Some key) (is_lower : new.lower ≡ opening_bound m One) (is_upper : new.upper ≡ opening_bound m Two) where
-    kept : (other k : ℕ) → key_in slots other ≡ Some k → key_in (set slots row new) other ≡ Some k
-    kept other k e = key_other slots row other new (other_row other k e) ∙ e
+  bounds_new : (lower upper : ℤ) → lower ≡ opening_bound m One → upper ≡ opening_bound m Two → (side : Side) → bound_of (record { key = key; lower = lower; upper = upper }) side ≡ best_posted m entries side key
+  bounds_new lower upper is_lower is_upper One = is_lower ∙ sym (no_entry One)
+  bounds_new lower upper is_lower is_upper Two = is_upper ∙ sym (no_entry Two)
 
-    here : key_in (set slots row new) row ≡ Some key
-    here = key_same slots row new inside ∙ is_key
-
-    -- a row with a key is the claimed one, or had the key before
-    which : (other k : ℕ) → key_in (set slots row new) other ≡ Some k → ((other ≡ row) × (k ≡ key)) ⊎ (key_in slots other ≡ Some k)
-    which other k e = ⊎_elim
-        (λ (same : other ≡ row). let at : key_in (set slots row new) row ≡ Some k = subst (λ (z : ℕ). key_in (set slots row new) z ≡ Some k) same e in let both : Some k ≡ Some key = sym at ∙ here in inl (same, cc))
-        (λ (n : other ≢ row). inr (sym (key_other slots row other new n) ∙ e))
-        (decide_row other row)
-
-    probed_after : (other k : ℕ) → IsProbed slots k other → IsProbed (set slots row new) k other
-    probed_after other k p = record {
-      tried = p.tried;
-      inside = rw length-set p.inside;
-      here = rw length-set p.here;
-      passed = λ t l. let at : ℕ = row_after (length slots) k t in
-          let some : IsSome (key_in (set slots row new) at) = ⊎_elim
-          (λ (same : at ≡ row). subst (λ (z : ℕ). IsSome (key_in (set slots row new) z)) (sym same) (subst IsSome (sym here) refl))
-          (λ (n : at ≢ row). subst IsSome (sym (key_other slots row at new n)) (p.passed t l))
-          (decide_row at row) in
-          rw length-set some;
-    }
-
-    place_probed : IsProbed slots key row
-    place_probed = record {
-      tried = place.tried;
-      inside = place.inside;
-      here = place.here;
-      passed = λ t l. subst IsSome (sym ((place.passed t l).is_held)) refl;
-    }
-
-    bounds_after : (side : Side) → bound_of (slot_at (set slots row new) row) side ≡ best_posted m entries side key
-    bounds_after One = ap (λ (z : Slot). z.lower) (get_or-set_same slots row new free_slot inside) ∙ is_lower ∙ sym (no_entry One)
-    bounds_after Two = ap (λ (z : Slot). z.upper) (get_or-set_same slots row new free_slot inside) ∙ is_upper ∙ sym (no_entry Two)
-
-    pub claim_keeps : IsInnerKey m key → IsPlain m (set slots row new) total entries
-    claim_keeps inner = record {
-      rows_low = rw length-set plain.rows_low;
-      rows_high = rw length-set plain.rows_high;
-      total_low = plain.total_low;
-      total_high = plain.total_high;
-      named = λ other k e. ⊎_elim (λ (h : (other ≡ row) × (k ≡ key)). subst (IsInnerKey m) (sym h.1) inner) (λ (h : key_in slots other ≡ Some k). plain.named other k h) (which other k e);
-      probed = λ other k e. probed_after other k (⊎_elim
-          (λ (h : (other ≡ row) × (k ≡ key)). subst (λ (z : ℕ). IsProbed slots z other) (sym h.1) (subst (λ (z : ℕ). IsProbed slots key z) (sym h.0) place_probed))
-          (λ (h : key_in slots other ≡ Some k). plain.probed other k h) (which other k e));
-      apart = λ r o k e f. ⊎_elim
-          (λ (h : (r ≡ row) × (k ≡ key)). ⊎_elim
-          (λ (j : (o ≡ row) × (k ≡ key)). h.0 ∙ sym j.0)
-          (λ (j : key_in slots o ≡ Some k). absurd (no_row o (subst (λ (z : ℕ). key_in slots o ≡ Some z) h.1 j))) (which o k f))
-          (λ (h : key_in slots r ≡ Some k). ⊎_elim
-          (λ (j : (o ≡ row) × (k ≡ key)). absurd (no_row r (subst (λ (z : ℕ). key_in slots r ≡ Some z) j.1 h)))
-          (λ (j : key_in slots o ≡ Some k). plain.apart r o k h j) (which o k f)) (which r k e);
-      bounds = λ side other k e. ⊎_elim
-          (λ (h : (other ≡ row) × (k ≡ key)). subst (λ (z : ℕ). bound_of (slot_at (set slots row new) other) side ≡ best_posted m entries side z) (sym h.1)
-          (subst (λ (z : ℕ). bound_of (slot_at (set slots row new) z) side ≡ best_posted m entries side key) (sym h.0) (bounds_after side)))
-          (λ (h : key_in slots other ≡ Some k). ap (λ (z : Slot). bound_of z side) (get_or-set_other slots row other new free_slot (other_row other k h)) ∙ plain.bounds side other k h) (which other k e);
-      held = All-weaker (λ e. IsHeld slots e.key) (λ e. IsHeld (set slots row new) e.key) (λ e h. record { row = h.row; inside = rw length-set h.inside; holds = kept h.row e.key h.holds }) entries plain.held;
-      closed = plain.closed;
-    }
-
-    pub claim_later : {G : Type 0} (model : G → GameModel S) (g : G) → IsLater (plain_view model (record { game = g; slots = slots; total = total; entries = entries })) (plain_view model (record { game = g; slots = set slots row new; total = total; entries = entries }))
-    claim_later model g = record {
-      name = refl;
-      game = refl;
-      total = refl;
-      rows = length-set slots row new;
-      keys = kept;
-      seen = λ side k. looser_refl side (best_posted (model g) entries side k);
-    }
+  pub claim_keeps : (lower upper : ℤ) → lower ≡ opening_bound m One → upper ≡ opening_bound m Two → IsInnerKey m key
+      → IsPlain m (set heads head (length slots + 1)) (slots ++ record { key = key; lower = lower; upper = upper } ∷ []) total entries
+  claim_keeps lower upper is_lower is_upper inner =
+      let new : Slot = record { key = key; lower = lower; upper = upper } in
+      let keys : keys_of (slots ++ new ∷ []) ≡ keys_of slots ++ key ∷ [] = map_push (λ (s : Slot). s.key) slots new in record {
+        total_low = plain.total_low;
+        total_high = plain.total_high;
+        table = rw (keys, ← length-map slots (λ (s : Slot). s.key)) (table_claims heads (keys_of slots) plain.table key head free);
+        inner = rw keys (All-push (IsInnerKey m) (keys_of slots) key plain.inner inner);
+        bounds = All-push (λ slot. (side : Side) → bound_of slot side ≡ best_posted m entries side slot.key) slots new plain.bounds (bounds_new lower upper is_lower is_upper);
+        held = rw keys (All-weaker (λ e. Contains (keys_of slots) e.key) (λ e. Contains (keys_of slots ++ key ∷ []) e.key) (λ e h. Contains-append_left (keys_of slots) (key ∷ []) e.key h) entries plain.held);
+        closed = plain.closed;
+      }
 
 -- a number that was seen is no tighter than what the book has
 module _ {S : Type 0} (m : GameModel S) (game : IsGame m) (total : ℕ) (entries : List Entry) (each : IsClosed m total entries) where
@@ -242,71 +184,66 @@ entry_weaker m total P Q e f h = record {
   known = λ own reply draw p q d w. f _ _ (child_reachable m e.side h.state own reply draw h.reachable p q d) (h.known own reply draw p q d w);
 }
 
+-- a post leaves the keys as they are
+pub post_keys : (slots : List Slot) (row : ℕ) (old new : Slot) → row < length slots → old ≡ get_or slots row old → new.key ≡ old.key → keys_of (set slots row new) ≡ keys_of slots
+post_keys slots row old new l is same =
+    let key : Slot → ℕ = λ s. s.key in map-set key slots row new ∙ ap (set (keys_of slots) row) (same ∙ ap key is ∙ sym (get_or-map key slots row old 0 l)) ∙ set-get_or (keys_of slots) row 0
+
+pub post_later : {S G : Type 0} (model : G → GameModel S) (g : G) (rows : ℕ) (keys : List ℕ) (total : ℕ) (entries : List Entry) (e : Entry)
+    → IsLater (plain_view model (record { game = g; rows = rows; keys = keys; total = total; entries = entries })) (plain_view model (record { game = g; rows = rows; keys = keys; total = total; entries = entries ++ e ∷ [] }))
+post_later model g rows keys total entries e = record {
+  name = refl;
+  game = refl;
+  total = refl;
+  rows = refl;
+  keys = λ row k h. h;
+  seen = λ side k. best_grows (model g) entries e side k;
+}
+
 -- a post keeps what holds of the board
-module _ {S : Type 0} (m : GameModel S) (game : IsGame m) (slots : List Slot) (total : ℕ) (entries : List Entry) (plain : IsPlain m slots total entries)
-    (row : ℕ) (e : Entry) (at_row : key_in slots row ≡ Some e.key) (new : Slot) (met : IsMet e.side e.bound (slot_at slots row) new) where
-  inside_row : row < length slots
-  inside_row = held_inside slots row e.key at_row
+module _ {S : Type 0} (m : GameModel S) (game : IsGame m) (heads : List ℕ) (slots : List Slot) (total : ℕ) (entries : List Entry) (plain : IsPlain m heads slots total entries)
+    (row : ℕ) (e : Entry) (at_row : slice_get (keys_of slots) row ≡ Some e.key) (old new : Slot) (is_old : old ≡ get_or slots row old) (met : IsMet e.side e.bound old new) where
+  inside : row < length slots
+  inside = row_inside slots row e.key at_row
 
-  same_keys : (other : ℕ) → key_in (set slots row new) other ≡ key_in slots other
-  same_keys other = ⊎_elim
-      (λ (h : other ≡ row). subst (λ (z : ℕ). key_in (set slots row new) z ≡ key_in slots z) (sym h) (key_same slots row new inside_row ∙ met.key))
-      (λ (h : other ≢ row). key_other slots row other new h)
-      (decide_row other row)
+  same_key : new.key ≡ (get_or slots row old).key
+  same_key = met.key ∙ ap (λ (s : Slot). s.key) is_old
 
-  bounds_there : (side : Side) → bound_of (slot_at (set slots row new) row) side ≡ best_posted m (entries ++ e ∷ []) side e.key
+  keys_stay : keys_of (set slots row new) ≡ keys_of slots
+  keys_stay = post_keys slots row old new inside is_old met.key
+
+  bounds_there : (side : Side) → bound_of new side ≡ best_posted m (entries ++ e ∷ []) side new.key
   bounds_there side =
-      ap (λ (z : Slot). bound_of z side) (get_or-set_same slots row new free_slot inside_row) ∙ met.bounds side
-      ∙ ap (λ (z : ℤ). cond (same_side e.side side) (better side e.bound z) z) (plain.bounds side row e.key at_row)
-      ∙ sym (cond_and (same_side e.side side) (eqb e.key e.key) _ _ (eqb_self e.key))
-      ∙ sym (best_push m entries e side e.key)
+      let own : new.key ≡ e.key = same_key ∙ same_Some _ _ (sym (row_key slots row old inside) ∙ at_row) in
+      let before : bound_of old side ≡ best_posted m entries side new.key = ap (λ (z : Slot). bound_of z side) is_old ∙ plain.bounds row old inside side ∙ ap (best_posted m entries side) (sym same_key) in
+      met.bounds side
+      ∙ ap (λ (z : ℤ). cond (same_side e.side side) (better side e.bound z) z) before
+      ∙ sym (cond_and (same_side e.side side) (eqb e.key new.key) _ _ (rw own (eqb_self e.key)))
+      ∙ sym (best_push m entries e side new.key)
 
-  bounds_elsewhere : (side : Side) (other k : ℕ) → other ≢ row → key_in slots other ≡ Some k → bound_of (slot_at (set slots row new) other) side ≡ best_posted m (entries ++ e ∷ []) side k
-  bounds_elsewhere side other k n h =
-      let apart : e.key ≢ k = λ same. n (plain.apart other row k h (subst (λ (z : ℕ). key_in slots row ≡ Some z) same at_row)) in
-      ap (λ (z : Slot). bound_of z side) (get_or-set_other slots row other new free_slot n) ∙ plain.bounds side other k h
-      ∙ sym (best_push m entries e side k ∙ cond_and_false (same_side e.side side) (eqb e.key k) _ _ (eqb_other e.key k apart))
+  bounds_elsewhere : (other : ℕ) (d : Slot) → other < length slots → (other ≡ row → ⊥) → (side : Side) → bound_of (get_or slots other d) side ≡ best_posted m (entries ++ e ∷ []) side (get_or slots other d).key
+  bounds_elsewhere other d l n side =
+      let slot : Slot = get_or slots other d in
+      let apart : e.key ≡ slot.key → ⊥ = λ same. n (plain.table.apart other row e.key (row_key slots other d l ∙ ap Some (sym same)) at_row) in
+      plain.bounds other d l side ∙ sym (best_push m entries e side slot.key ∙ cond_and_false (same_side e.side side) (eqb e.key slot.key) _ _ (eqb_other e.key slot.key apart))
 
-  pub post_keeps : {G N : Type 0} (v : BoardView G N) → ((side : Side) (key : ℕ) → v.seen side key ≡ best_posted m entries side key) → IsEntry m total (IsSeenNumber m v) e → IsPlain m (set slots row new) total (entries ++ e ∷ [])
-  post_keeps v is lawful =
-      let old : (other k : ℕ) → key_in (set slots row new) other ≡ Some k → key_in slots other ≡ Some k = λ other k h. sym (same_keys other) ∙ h in record {
-        rows_low = rw length-set plain.rows_low;
-        rows_high = rw length-set plain.rows_high;
-        total_low = plain.total_low;
-        total_high = plain.total_high;
-        named = λ other k h. plain.named other k (old other k h);
-        probed = λ other k h. let p = plain.probed other k (old other k h) in record {
-          tried = p.tried;
-          inside = rw length-set p.inside;
-          here = rw length-set p.here;
-          passed = λ t l. let some : IsSome (key_in (set slots row new) (row_after (length slots) k t)) = subst IsSome (sym (same_keys (row_after (length slots) k t))) (p.passed t l) in rw length-set some;
-        };
-        apart = λ r o k h j. plain.apart r o k (old r k h) (old o k j);
-        bounds = λ side other k h. ⊎_elim
-            (λ (same : other ≡ row). let at : key_in slots row ≡ Some k = subst (λ (z : ℕ). key_in slots z ≡ Some k) same (old other k h) in
-            let both : Some e.key ≡ Some k = sym at_row ∙ at in let key : e.key ≡ k = cc in
-            subst (λ (z : ℕ). bound_of (slot_at (set slots row new) other) side ≡ best_posted m (entries ++ e ∷ []) side z) key
-            (subst (λ (z : ℕ). bound_of (slot_at (set slots row new) z) side ≡ best_posted m (entries ++ e ∷ []) side e.key) (sym same) (bounds_there side)))
-            (λ (n : other ≢ row). bounds_elsewhere side other k n (old other k h))
-            (decide_row other row);
-        held = All-push (λ f. IsHeld (set slots row new) f.key) entries e
-            (All-weaker (λ f. IsHeld slots f.key) (λ f. IsHeld (set slots row new) f.key) (λ f h. record { row = h.row; inside = rw length-set h.inside; holds = same_keys h.row ∙ h.holds }) entries plain.held)
-            (record { row = row; inside = rw length-set inside_row; holds = same_keys row ∙ at_row });
-        closed = All-push (IsEntry m total (IsBooked m (entries ++ e ∷ []))) entries e
-            (All-weaker (IsEntry m total (IsBooked m entries)) (IsEntry m total (IsBooked m (entries ++ e ∷ [])))
-            (λ f h. entry_weaker m total (IsBooked m entries) (IsBooked m (entries ++ e ∷ [])) f (λ s x r b. booked_grows m game total entries plain.closed e f.side s x b) h) entries plain.closed)
-            (entry_weaker m total (IsSeenNumber m v) (IsBooked m (entries ++ e ∷ [])) e
-            (λ s x r h. booked_grows m game total entries plain.closed e e.side s x (seen_booked m game total entries plain.closed v is e.side s x r h)) lawful);
-      }
-
-  pub post_later : {G : Type 0} (model : G → GameModel S) (g : G) → IsLater (plain_view model (record { game = g; slots = slots; total = total; entries = entries })) (plain_view model (record { game = g; slots = set slots row new; total = total; entries = entries ++ e ∷ [] }))
-  post_later model g = record {
-    name = refl;
-    game = refl;
-    total = refl;
-    rows = length-set slots row new;
-    keys = λ other k h. same_keys other ∙ h;
-    seen = λ side k. best_grows (model g) entries e side k;
+  pub post_keeps : {G N : Type 0} (v : BoardView G N) → ((side : Side) (key : ℕ) → v.seen side key ≡ best_posted m entries side key) → IsEntry m total (IsSeenNumber m v) e
+      → IsPlain m heads (set slots row new) total (entries ++ e ∷ [])
+  post_keeps v is lawful = record {
+    total_low = plain.total_low;
+    total_high = plain.total_high;
+    table = rw keys_stay plain.table;
+    inner = rw keys_stay plain.inner;
+    bounds = λ other d l side. elim (cases_eq other row) [
+      | inl same ↦ rw (same, get_or-set_same slots row new d inside) (bounds_there side)
+      | inr n ↦ rw (get_or-set_other slots row other new d n) (bounds_elsewhere other d (rw length-set at l) n side)
+    ];
+    held = rw keys_stay (All-push (λ f. Contains (keys_of slots) f.key) entries e plain.held (row, slice_get_within (keys_of slots) row e.key at_row, get_or_from_slice_get (keys_of slots) row e.key e.key at_row));
+    closed = All-push (IsEntry m total (IsBooked m (entries ++ e ∷ []))) entries e
+        (All-weaker (IsEntry m total (IsBooked m entries)) (IsEntry m total (IsBooked m (entries ++ e ∷ [])))
+        (λ f h. entry_weaker m total (IsBooked m entries) (IsBooked m (entries ++ e ∷ [])) f (λ s x r b. booked_grows m game total entries plain.closed e f.side s x b) h) entries plain.closed)
+        (entry_weaker m total (IsSeenNumber m v) (IsBooked m (entries ++ e ∷ [])) e
+        (λ s x r h. booked_grows m game total entries plain.closed e e.side s x (seen_booked m game total entries plain.closed v is e.side s x r h)) lawful);
   }
 
 -- an opening bound fits, so it comes back as it was handed over
@@ -314,20 +251,6 @@ pub opening_returned : {S : Type 0} (m : GameModel S) (side : Side) (x : ℤ) �
 opening_returned m One x game e = let a = game.low_least in let b = game.high_most in let c = game.low_high in omega (arith, ints)
 opening_returned m Two x game e = let a = game.low_least in let b = game.high_most in let c = game.low_high in omega (arith, ints)
 
-pub place_inside : (slots : List Slot) (key row : ℕ) → IsPlace slots key row → row < length slots
-place_inside slots key row place = let some : 0 < length slots = omega (arith, place.inside) in subst (λ (z : ℕ). z < length slots) (sym place.here) (mod-lt (scattered key % length slots + place.tried) some)
-
--- a slot that was read is the one at the row
-pub slot_is : (slots : List Slot) (row : ℕ) (slot : Slot) → row < length slots → slot ≡ get_or slots row slot → slot ≡ slot_at slots row
-slot_is slots row slot l r = get_or_read slots row slot l r free_slot
-
 pub bound_returned : {S : Type 0} (m : GameModel S) (game : IsGame m) (total : ℕ) (Known : Side → S → ℤ → Type 0) (e : Entry) (old new : Slot) → IsEntry m total Known e
     → IsMet e.side (to_z w64 (of_z w64 e.bound)) old new → IsMet e.side e.bound old new
 bound_returned m game total Known e old new lawful met = subst (λ (z : ℤ). IsMet e.side z old new) (to_z-of_z w64 e.bound (range_fits m game e.bound lawful.low lawful.high)) met
-
-pub none_from : (o : Option ℕ) → is_some o ≡ false → o ≡ None
-none_from None e = refl
-none_from (Some x) e = cc
-
-pub own_key : (o : Option ℕ) (k : ℕ) → is_some o ≡ true → (IsSome o → o ≡ Some k) → o ≡ Some k
-own_key o k e h = h e

@@ -1,10 +1,10 @@
 //! The board of one thread.
-ghost use Rattle.std.specs.Prelude.{◌≡◌, ℕ, ◌≤◌, [], All, IfOk, length};
+ghost use Rattle.std.specs.Prelude.{◌≡◌, ℕ, ◌≤◌, [], All, Contains, IfOk, length, nat_eq};
 ghost use Rattle.bounds_board.specs.Plain.{plain_view};
 
 use crate::bounds::{Bounds, Enclosure, Full};
 use crate::row::Row;
-use crate::slots::{Slot, find_place, met};
+use crate::slots::{ProbeEnd, Slot, met, probe};
 use plan_book::{Book, Entry};
 use sim_game::{Game, NoMemory, Side, opening_bound};
 use std::alloc::Global;
@@ -14,48 +14,50 @@ use std::marker::Model;
 #[derive(Drop)]
 pub struct PlainBoard<G: Game> {
     game: G,
+    /// One a row that there may be: 0 while it is free, else 1 plus the number of a row.
+    heads: Vec<u32>,
+    /// The rows, in order of claim.
     slots: Vec<Slot>,
     book: Book,
 }
 
 impl<G: Game> Model for PlainBoard<G> {
+    ghost use Rattle.std.specs.Prelude.{◌≤◌, length, vec_capacity};
+    ghost use Rattle.bounds_board.specs.Slots.{keys_of};
     ghost use Rattle.bounds_board.specs.Plain.{IsPlain, PlainValue};
 
     ghost Value = { PlainValue G };
 
-    ghost view = { λ b. record { game = b.game; slots = b.slots.items; total = b.book.total; entries = b.book.entries } };
+    ghost view = { λ b. record { game = b.game; rows = length b.heads.items; keys = keys_of b.slots.items; total = b.book.total; entries = b.book.entries } };
 
-    ghost invariant = { λ b. IsPlain (G.model b.game) b.slots.items b.book.total b.book.entries };
+    ghost invariant = { λ b. IsPlain (G.model b.game) b.heads.items b.slots.items b.book.total b.book.entries × (length b.heads.items ≤ vec_capacity b.slots) };
 }
 
 impl<G: Game> PlainBoard<G> {
+    ghost use Rattle.std.specs.List.{IsDistinct};
     ghost use Rattle.plan_book.specs.Books.{IsClosed};
-    ghost use Rattle.bounds_board.specs.Plain.{IsHeld};
 
-    /// A board of free rows.
+    /// A board of free rows. It takes the memory of all of them, but writes only the heads: a slot is written when it is
+    /// claimed.
     pub fn new(alloc: Global, game: G, rows: u32, total: u32) -> Result<PlainBoard<G>, NoMemory>
         requires rows_low { 1 ≤ rows }
         requires rows_high { rows ≤ 1048576 }
         requires total_low { 8192 ≤ total }
         requires total_high { total ≤ 1048576 }
         ensures game { IfOk result (λ b. b.game ≡ game) }
-        ensures rows { IfOk result (λ b. length b.slots ≡ rows) }
+        ensures rows { IfOk result (λ b. b.rows ≡ rows) }
+        ensures keys { IfOk result (λ b. b.keys ≡ []) }
         ensures total { IfOk result (λ b. b.total ≡ total) }
         ensures entries { IfOk result (λ b. b.entries ≡ []) }
     {
-        let free = Slot {
-            key: None,
-            lower: 0,
-            upper: 0,
-        };
-        match Vec::from_elem(alloc, free, rows as usize) {
-            Ok(slots) => Ok(PlainBoard {
-                game,
-                slots,
-                book: Book::new(alloc, total),
-            }),
-            Err(_) => Err(NoMemory),
-        }
+        let heads = Vec::from_elem(alloc, 0, rows as usize)?;
+        let slots = Vec::with_capacity(alloc, rows as usize)?;
+        Ok(PlainBoard {
+            game,
+            heads,
+            slots,
+            book: Book::new(alloc, total),
+        })
     }
 
     /// All that was posted.
@@ -65,7 +67,9 @@ impl<G: Game> PlainBoard<G> {
         ensures closed { IsClosed (G.model self.game) result.total result.entries }
 
         // Each entry's key has a row, and no two rows have one key.
-        ensures held { All (λ e. IsHeld self.slots e.key) result.entries }
+        ensures held { All (λ e. Contains self.keys e.key) result.entries }
+        ensures apart { IsDistinct nat_eq self.keys }
+        ensures few { length self.keys ≤ self.rows }
     {
         self.book
     }
@@ -85,20 +89,17 @@ impl<G: Game> Bounds<G> for PlainBoard<G> {
     }
 
     fn claim(&mut self, key: u64) -> Result<Row, Full> {
-        match find_place(self.slots.as_slice(), key) {
-            Some(place) => {
-                if self.slots[place as usize].key.is_none() {
-                    let lower = opening_bound(self.game, Side::One);
-                    let upper = opening_bound(self.game, Side::Two);
-                    self.slots[place as usize] = Slot {
-                        key: Some(key),
-                        lower,
-                        upper,
-                    };
-                }
-                Ok(Row::new(place))
+        match probe(self.heads.as_slice(), self.slots.as_slice(), key) {
+            ProbeEnd::Row(row) => Ok(Row::new(row)),
+            ProbeEnd::Free(head) => {
+                let row = self.slots.len() as u32;
+                let lower = opening_bound(self.game, Side::One);
+                let upper = opening_bound(self.game, Side::Two);
+                self.slots.push_reserved(Slot { key, lower, upper });
+                self.heads[head as usize] = row + 1;
+                Ok(Row::new(row))
             }
-            None => Err(Full),
+            ProbeEnd::Full => Err(Full),
         }
     }
 

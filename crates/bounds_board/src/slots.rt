@@ -1,18 +1,29 @@
-//! The rows of a plain board.
-ghost use Rattle.std.specs.Prelude.{◌≡◌, ℕ, ◌+◌, ◌%◌, ◌≤◌, ◌<◌, ◌^◌, length, Some, IfSome, IfNone, IfOk, replicate};
-ghost use Rattle.bounds_board.specs.Slots.{scattered, IsOther, IsPlace, IsMet, key_in};
+//! The rows of a plain board, and the heads by which a key's row is found.
+ghost use Rattle.std.specs.Prelude.{◌≡◌, ℕ, ◌+◌, ◌%◌, ◌≤◌, ◌<◌, ◌^◌, length, All};
+ghost use Rattle.bounds_board.specs.Slots.{scattered, keys_of, IsProbeEnd, IsMet};
 
 use sim_game::Side;
 
-/// A row: its key, or none while it is free, and its two bounds.
+/// A row: its key and its two bounds.
 #[derive(Clone, Copy, Drop)]
 pub struct Slot {
-    pub key: Option<u64>,
+    pub key: u64,
     pub lower: i64,
     pub upper: i64,
 }
 
-/// Where the rows of a key begin, not yet brought into their range. Keys are packed fields, which differ in few bits; this
+/// What a probe for a key ends at.
+#[derive(Clone, Copy, Drop)]
+pub enum ProbeEnd {
+    /// The row that has the key.
+    Row(u32),
+    /// The first head from the key's home that is free: no row has the key.
+    Free(u32),
+    /// Each head names a row of another key.
+    Full,
+}
+
+/// Where the heads of a key begin, not yet brought into their range. Keys are packed fields, which differ in few bits; this
 /// scatters them, so that rows are found with few tries (multiplicative hashing).
 fn scattered(key: u64) -> u64
     ensures { result ≡ scattered key }
@@ -29,27 +40,27 @@ pub fn row_behind(row: u32, rows: u32) -> u32
     if row + 1 == rows { 0 } else { row + 1 }
 }
 
-/// The first row from the key's home that is free or has the key.
-pub(crate) fn find_place(slots: &[Slot], key: u64) -> Option<u32>
-    requires rows_low { 1 ≤ length slots.now }
-    requires rows_high { length slots.now ≤ 1048576 }
-    ensures some { IfSome result (IsPlace slots.now key) }
-    ensures none { IfNone result ((row : ℕ) → row < length slots.now → IsOther slots.now key row) }
+/// Looks for the key from its home on. A head is 0 while it is free, else 1 plus the number of a row.
+pub(crate) fn probe(heads: &[u32], slots: &[Slot], key: u64) -> ProbeEnd
+    requires rows_low { 1 ≤ length heads.now }
+    requires rows_high { length heads.now ≤ 1048576 }
+    requires named { All (λ named. named ≤ length slots.now) heads.now }
+    ensures { IsProbeEnd heads.now (keys_of slots.now) key result }
 {
-    let rows = slots.len() as u32;
-    let mut row = (scattered(key) % rows as u64) as u32;
+    let rows = heads.len() as u32;
+    let mut head = (scattered(key) % rows as u64) as u32;
     for _tried in 0..rows {
-        match slots[row as usize].key {
-            Some(held) => {
-                if held == key {
-                    return Some(row);
-                }
-            }
-            None => return Some(row),
+        let named = heads[head as usize];
+        if named == 0 {
+            return ProbeEnd::Free(head);
         }
-        row = row_behind(row, rows);
+        let row = named - 1;
+        if slots[row as usize].key == key {
+            return ProbeEnd::Row(row);
+        }
+        head = row_behind(head, rows);
     }
-    None
+    ProbeEnd::Full
 }
 
 /// The slot with the bound of the side at least as tight as this one.

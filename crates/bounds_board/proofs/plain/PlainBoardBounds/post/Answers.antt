@@ -1,38 +1,30 @@
-use Rattle.std.proofs.Common.{◌≡◌, Some, subst, sym, refl}
+use Rattle.std.proofs.Common.{◌≡◌, Some, length, slice_get, subst, sym, refl}
 use Rattle.sim_game.specs.Model.{IsGame}
 use Rattle.bounds_board.specs.Plain.{PlainValue, plain_view}
-use Rattle.bounds_board.specs.Slots.{key_in, slot_at, IsMet}
-use Rattle.bounds_board.specs.declared.slots.Slot.{Slot}
+use Rattle.bounds_board.specs.Slots.{keys_of}
 use Rattle.bounds_board.specs.Views.{IsPostable}
 use Rattle.plan_book.proofs.BookLemmas.{best_last}
-use Rattle.bounds_board.proofs.PlainLemmas.{post_keeps, post_later, held_inside, slot_is, bound_returned}
+use Rattle.bounds_board.proofs.TableLemmas.{row_inside}
+use Rattle.bounds_board.proofs.PlainLemmas.{post_keeps, post_keys, post_later, bound_returned}
 use Rattle.bounds_board.proofs.plain.PlainBoardBounds.post.Goals as goal
 
 pub invariant_of-self-2 : goal.invariant_of-self-2
 invariant_of-self-2 g c =
+    let slots = c.self.inside.slots.items in let row = c.place-place.result in
     let game : IsGame (g.G.Game.model c.self.inside.game) = g.met.G.Game.lawful c.self.inside.game in
-    let here : c.place-place.result ≡ c.args.row = c.place-place.ensures in
-    let at_row : key_in c.self.inside.slots.items c.place-place.result ≡ Some c.args.e.key = subst (λ (v : PlainValue _). key_in v.slots c.place-place.result ≡ Some c.args.e.key) (sym c.self.view_is) (rw here c.requires.row) in
-    let inside = held_inside c.self.inside.slots.items c.place-place.result c.args.e.key at_row in
+    let at_row : slice_get (keys_of slots) row ≡ Some c.args.e.key = subst (λ (v : PlainValue _). slice_get v.keys row ≡ Some c.args.e.key) (sym c.self.view_is) (rw c.place-place.ensures c.requires.row) in
     let entry = subst (λ (v : PlainValue _). IsPostable (g.G.Game.model v.game) (plain_view g.G.Game.model v) c.args.e) (sym c.self.view_is) c.requires.entry in
-    let is : c.index.result.now ≡ slot_at c.self.inside.slots.items c.place-place.result = slot_is c.self.inside.slots.items c.place-place.result c.index.result.now inside c.index.ensures in
     let met = bound_returned _ game c.self.inside.book.total _ c.args.e c.index.result.now c.met-slot.result entry c.met-slot.ensures in
-    let kept = post_keeps _ game c.self.inside.slots.items c.self.inside.book.total c.self.inside.book.entries c.self.invariant c.place-place.result c.args.e at_row c.met-slot.result
-    (subst (λ (z : Slot). IsMet c.args.e.side c.args.e.bound z c.met-slot.result) is met) _ (λ side key. refl) entry in
-    rw (c.push.ensures.total, c.push.ensures.entries, c.reserve.ensures.total, c.reserve.ensures.entries) kept
+    let kept = post_keeps _ game _ _ _ _ c.self.invariant.0 row c.args.e at_row c.index.result.now c.met-slot.result c.index.ensures met _ (λ side key. refl) entry in
+    (rw (c.push.ensures.total, c.push.ensures.entries, c.reserve.ensures.total, c.reserve.ensures.entries) kept, c.self.invariant.1)
 
 pub returns-clause-later : goal.returns-clause-later
 returns-clause-later g c =
-    let game : IsGame (g.G.Game.model c.self.inside.game) = g.met.G.Game.lawful c.self.inside.game in
-    let here : c.place-place.result ≡ c.args.row = c.place-place.ensures in
-    let at_row : key_in c.self.inside.slots.items c.place-place.result ≡ Some c.args.e.key = subst (λ (v : PlainValue _). key_in v.slots c.place-place.result ≡ Some c.args.e.key) (sym c.self.view_is) (rw here c.requires.row) in
-    let inside = held_inside c.self.inside.slots.items c.place-place.result c.args.e.key at_row in
-    let entry = subst (λ (v : PlainValue _). IsPostable (g.G.Game.model v.game) (plain_view g.G.Game.model v) c.args.e) (sym c.self.view_is) c.requires.entry in
-    let is : c.index.result.now ≡ slot_at c.self.inside.slots.items c.place-place.result = slot_is c.self.inside.slots.items c.place-place.result c.index.result.now inside c.index.ensures in
-    let met = bound_returned _ game c.self.inside.book.total _ c.args.e c.index.result.now c.met-slot.result entry c.met-slot.ensures in
-    let later = post_later _ game c.self.inside.slots.items c.self.inside.book.total c.self.inside.book.entries c.self.invariant c.place-place.result c.args.e at_row c.met-slot.result
-    (subst (λ (z : Slot). IsMet c.args.e.side c.args.e.bound z c.met-slot.result) is met) g.G.Game.model c.self.inside.game in
-    rw (← c.self.view_is, c.push.ensures.total, c.push.ensures.entries, c.reserve.ensures.total, c.reserve.ensures.entries) later
+    let slots = c.self.inside.slots.items in let row = c.place-place.result in
+    let at_row : slice_get (keys_of slots) row ≡ Some c.args.e.key = subst (λ (v : PlainValue _). slice_get v.keys row ≡ Some c.args.e.key) (sym c.self.view_is) (rw c.place-place.ensures c.requires.row) in
+    let keys = post_keys slots row c.index.result.now c.met-slot.result (row_inside slots row c.args.e.key at_row) c.index.ensures c.met-slot.ensures.key in
+    rw (← c.self.view_is, keys, c.push.ensures.total, c.push.ensures.entries, c.reserve.ensures.total, c.reserve.ensures.entries)
+    (post_later g.G.Game.model c.self.inside.game (length c.self.inside.heads.items) (keys_of slots) c.self.inside.book.total c.self.inside.book.entries c.args.e)
 
 pub returns-clause-seen : goal.returns-clause-seen
 returns-clause-seen g c = rw c.push.ensures.entries (best_last (g.G.Game.model c.self.inside.game) _ c.args.e)

@@ -9,7 +9,7 @@ use Rattle.std.proofs.lemmas.Map.Keys.{IsDistinct-from_apart}
 use Rattle.std.specs.List.{IsDistinct}
 use Rattle.plan_book.proofs.BookLemmas.{eqb_other}
 use Rattle.bounds_board.specs.declared.slots.Slot.{Slot}
-use Rattle.bounds_board.specs.Slots.{scattered, head_after, keys_of, taken, IsOther, IsFree, IsProbed, IsTable}
+use Rattle.bounds_board.specs.Slots.{home, head_after, keys_of, taken, IsOther, IsFree, IsProbed, IsTable}
 
 -- ---- how many heads are not free
 taken_all : (heads : List ℕ) → All (λ named. 1 ≤ named) heads → length heads ≤ taken heads
@@ -65,7 +65,7 @@ head_other heads slots key head d some within differs = let row = get_or heads h
 
 module _ (heads keys : List ℕ) (table : IsTable heads keys) (key : ℕ) where
   tried_inside : (tried : ℕ) → head_after (length heads) key tried < length heads
-  tried_inside tried = mod-lt (scattered key % length heads + tried) (omega (arith, table.rows_low))
+  tried_inside tried = mod-lt (home (length heads) key % length heads + tried) (omega (arith, table.rows_low))
 
   module _ (others : (head : ℕ) → head < length heads → IsOther heads keys key head) where
     -- no head is free, so there is a row for each
@@ -76,7 +76,7 @@ module _ (heads keys : List ℕ) (table : IsTable heads keys) (key : ℕ) where
     full_others row l =
         let e : slice_get keys row ≡ Some (get_or keys row 0) = slice_get-get_or keys row 0 (omega (arith, full_rows)) in
         let p = table.probed row (get_or keys row 0) e in
-        let o = others (head_after (length heads) (get_or keys row 0) p.tried) (mod-lt (scattered (get_or keys row 0) % length heads + p.tried) (omega (arith, table.rows_low))) in
+        let o = others (head_after (length heads) (get_or keys row 0) p.tried) (mod-lt (home (length heads) (get_or keys row 0) % length heads + p.tried) (omega (arith, table.rows_low))) in
         let same : o.row ≡ row = omega arith in
         (o.held, subst (λ (z : ℕ). slice_get keys z ≡ Some o.held) same o.is_held, o.differs)
 

@@ -8,13 +8,13 @@ use Rattle.bounds_board.specs.declared.slots.Slot.{Slot}
 use Rattle.bounds_board.specs.declared.slots.ProbeEnd.{ProbeEnd}
 use Rattle.bounds_board.specs.declared.slots.ProbeEnd.TheVariants.{Row, Free, Full}
 
--- keys that differ in few fields, scattered over all numbers: the middle of a sum of products of both halves
-abbrev pub scattered : ℕ → ℕ
-scattered key = (key / 4294967296 * 1640531527 + key % 4294967296 * 2135587861) / 65536
+-- the head at which a probe for the key begins: the high half of a product, brought into range by a second one
+abbrev pub home : ℕ → ℕ → ℕ
+home rows key = key * 11400714819323198485 % 18446744073709551616 / 4294967296 * rows / 4294967296
 
 -- the head that a probe for the key tries after so many others
 abbrev pub head_after : ℕ → ℕ → ℕ → ℕ
-head_after rows key tried = (scattered key % rows + tried) % rows
+head_after rows key tried = (home rows key % rows + tried) % rows
 
 -- the keys of the rows, in order of claim
 abbrev pub keys_of : List Slot → List ℕ

@@ -1,6 +1,6 @@
 //! The rows of a plain board, and the heads by which a key's row is found.
 ghost use Rattle.std.specs.Prelude.{◌≡◌, ℕ, ◌+◌, ◌%◌, ◌≤◌, ◌<◌, ◌^◌, length, All};
-ghost use Rattle.bounds_board.specs.Slots.{scattered, keys_of, IsProbeEnd, IsMet};
+ghost use Rattle.bounds_board.specs.Slots.{head_after, keys_of, IsProbeEnd, IsMet};
 
 use sim_game::Side;
 
@@ -23,12 +23,16 @@ pub enum ProbeEnd {
     Full,
 }
 
-/// Where the heads of a key begin, not yet brought into their range. Keys are packed fields, which differ in few bits; this
-/// scatters them, so that rows are found with few tries (multiplicative hashing).
-fn scattered(key: u64) -> u64
-    ensures { result ≡ scattered key }
+/// The head at which a probe for the key begins. Keys are packed fields, which differ in few bits; the high half of the
+/// product depends on all of them (multiplicative hashing), and a second product brings it into range without a division.
+#[inline]
+fn home(key: u64, rows: u32) -> u32
+    requires low { 1 ≤ rows }
+    requires high { rows ≤ 1048576 }
+    ensures { result ≡ head_after rows key 0 }
 {
-    (key / 4_294_967_296 * 1_640_531_527 + key % 4_294_967_296 * 2_135_587_861) / 65_536
+    let hash = key.wrapping_mul(0x9e37_79b9_7f4a_7c15) >> 32;
+    ((hash * rows as u64) >> 32) as u32
 }
 
 /// The row behind a row; behind the last one it is the first.
@@ -48,7 +52,7 @@ pub(crate) fn probe(heads: &[u32], slots: &[Slot], key: u64) -> ProbeEnd
     ensures { IsProbeEnd heads.now (keys_of slots.now) key result }
 {
     let rows = heads.len() as u32;
-    let mut head = (scattered(key) % rows as u64) as u32;
+    let mut head = home(key, rows);
     for _tried in 0..rows {
         let named = heads[head as usize];
         if named == 0 {

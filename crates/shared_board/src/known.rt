@@ -26,8 +26,10 @@ fn place_of(key: u64, places: usize) -> usize
     requires { 0 < places }
     ensures { result < places }
 {
-    // Multiplicative hashing: the high bits of the product depend on all fields of the key.
-    (key.wrapping_mul(0x9e37_79b9_7f4a_7c15) >> 32) as usize % places
+    // Multiplicative hashing: the high bits of the product depend on all fields of the key. A second product brings them
+    // into range without a division.
+    let hash = key.wrapping_mul(0x9e37_79b9_7f4a_7c15) >> 32;
+    ((hash * places.min(MOST_PLACES) as u64) >> 32) as usize
 }
 
 impl KnownRows {

@@ -1,6 +1,6 @@
 -- What holds of a plain board: its reads, and how a claim and a post keep it.
 use Rattle.std.proofs.Common.{◌≡◌, ◌⊎◌, inl, inr, ⊎_elim, ℕ, ◌+◌, ◌-◌, ◌%◌, ◌<◌, ◌≤◌, ℤ, Some, false, cond, eqb, List, [], ◌∷◌, ◌++◌, length, get_or, set, slice_get, Contains, w64, SFits, refl, sym, ap, ◌∙◌, subst, arith, mod-lt, mod-eq_of_lt}
-use Rattle.std.proofs.Math.Nat.{add-mod_right, mod-mod, mod-add-mod}
+use Rattle.std.proofs.Math.Nat.{add-mod_right, mod-add-mod}
 use mir.Val.{to_z, of_z}
 use Rattle.std.proofs.lemmas.Int.{ints, to_z-of_z}
 use Rattle.std.proofs.lemmas.Bool.{cases_lt, cases_eq}
@@ -30,9 +30,6 @@ row_met rows k i l = let h : ℕ = k % rows in let low : h < rows = mod-lt k (om
     (λ (ge : h ≤ i). (i - h, omega arith, let sum : h + (i - h) ≡ i = omega arith in ap (λ (z : ℕ). z % rows) sum ∙ mod-eq_of_lt l)) (cases_lt i h)
 
 -- the rows that are tried one after another
-pub row_begins : (rows k : ℕ) → k % rows ≡ (k % rows + 0) % rows
-row_begins rows k = sym (ap (λ (z : ℕ). z % rows) (omega arith) ∙ mod-mod k rows)
-
 pub row_goes_on : (rows k tried row : ℕ) → row ≡ (k % rows + tried) % rows → (row + 1) % rows ≡ (k % rows + (tried + 1)) % rows
 row_goes_on rows k tried row is = ap (λ (z : ℕ). (z + 1) % rows) is ∙ mod-add-mod (k % rows + tried) rows 1 ∙ ap (λ (z : ℕ). z % rows) (omega arith)
 

@@ -34,7 +34,7 @@ pub(crate) struct Answer {
 const USAGE: &[u8] = b"usage: dosolve solve, check, bounds or sample N\n";
 
 /// Reads what the command needs, makes the whole answer, and writes it. The result is the status of the program.
-pub(crate) fn run<R: Threads + Sync, S: Source, K: Sink, T: Gate + Sync>(
+pub fn run<R: Threads + Sync, S: Source, K: Sink, T: Gate + Sync>(
     rt: &R,
     alloc: Global,
     words: &[String],

@@ -8,6 +8,7 @@ use Rattle.plan_book.specs.Entries.{IsEntry, IsLawfulEntry}
 use Rattle.plan_book.specs.Books.{Grows}
 use Rattle.sim_game.proofs.SideLemmas.{tighter_than}
 use Rattle.bounds_board.specs.Views.{BoardView, IsLater, IsPostable, IsSeenNumber}
+use Rattle.bounds_board.proofs.PlainLemmas.{entry_weaker}
 use Rattle.bounds_board.proofs.ViewLemmas.{seen_later}
 use Rattle.restricted_game.specs.Runs.{IsPosted, posts, passes, entry_at}
 
@@ -24,27 +25,12 @@ grows_after P xs ys zs p q = record {
   each = All-append P p.more q.more p.each q.each;
 }
 
--- what is known of the numbers of an entry may be known anew
-entry_known : {S : Type 0} (m : GameModel S) (total : ℕ) (Known New : Side → S → ℤ → Type 0) (e : Entry) → ((side : Side) (s : S) (x : ℤ) → Known side s x → New side s x) → IsEntry m total Known e → IsEntry m total New e
-entry_known m total Known New e f h = record {
-  state = h.state;
-  reachable = h.reachable;
-  is_key = h.is_key;
-  low = h.low;
-  high = h.high;
-  numbers = h.numbers;
-  listed = h.listed;
-  step = h.step;
-  backed = h.backed;
-  known = λ o r d p q t w. f e.side _ _ (h.known o r d p q t w);
-}
-
 pub postable_later : {S G N : Type 0} (m : GameModel S) (u v : BoardView G N) (e : Entry) → IsLater u v → IsPostable m u e → IsPostable m v e
 postable_later m u v e later h =
-    entry_known m v.total (IsSeenNumber m u) (IsSeenNumber m v) e (λ side s x k. seen_later m u v side s x later k) (subst (λ (n : ℕ). IsEntry m n (IsSeenNumber m u) e) (sym later.total) h)
+    entry_weaker m v.total (IsSeenNumber m u) (IsSeenNumber m v) e (λ s x _ k. seen_later m u v e.side s x later k) (subst (λ (n : ℕ). IsEntry m n (IsSeenNumber m u) e) (sym later.total) h)
 
 pub postable_lawful : {S G N : Type 0} (m : GameModel S) (v : BoardView G N) (e : Entry) → IsPostable m v e → IsLawfulEntry m v.total e
-postable_lawful m v e h = entry_known m v.total (IsSeenNumber m v) (λ _ _ _. Unit {0}) e (λ side s x k. tt) h
+postable_lawful m v e h = entry_weaker m v.total (IsSeenNumber m v) (λ _ _ _. Unit {0}) e (λ s x _ k. tt) h
 
 pub entry_is : {S : Type 0} (m : GameModel S) (side : Side) (s : S) (key : ℕ) (bound bound' : ℤ) (weights weights' : List ℕ) (reads reads' : List ℤ) → key ≡ m.key s → bound ≡ bound' → weights ≡ weights' → reads ≡ reads'
     → (let e : Entry = record { key = key; side = side; bound = bound; weights = weights; reads = reads } in e) ≡ entry_at m side s bound' weights' reads'

@@ -1,1 +1,2 @@
-pub mod RootLemmas
+pub mod EndLemmas
+pub mod TurnLemmas

@@ -10,6 +10,12 @@ mod boards;
 #[cfg(test)]
 mod draws;
 #[cfg(test)]
+mod games;
+#[cfg(test)]
+mod passes;
+#[cfg(test)]
 mod reports;
 #[cfg(test)]
 mod steps;
+#[cfg(test)]
+mod workers;

@@ -1,6 +1,6 @@
-use certificate::{Pay, read};
+use crate::games::two_cards;
+use certificate::read;
 use checker::{Verdict, Why, check};
-use goofspiel::Goofspiel;
 use oshi_zumo::OshiZumo;
 use sim_game::{Game, Side};
 use std::alloc::{AllocError, Global};
@@ -61,14 +61,12 @@ fn outside(side: Side, key: u64) -> Why {
     Why::Outside { side, key }
 }
 
-const CARDS: &str =
+pub(crate) const CARDS: &str =
     "dosolve report 1\ngame goofspiel 1,3 2,3 1,1 0 margin\nweight 65536\nturns 1000\nasked 0\nresolution 62502\noutcome closed\nlower -500000\nupper -500000\nspent 3\none 5\n67127548 -1000000 65536\n67143933 0 65536\n268454139 0 65536\n268470523 -1000000 65536\n335595772 -500000 32768 32768\ntwo 5\n67127548 -1000000 65536\n67143933 0 65536\n268454139 0 65536\n268470523 -1000000 65536\n335595772 -500000 32768 32768\nend\n";
 
 #[test]
 fn two_cards_each(rt: HostRuntime) -> Result<(), Fail> {
-    let Ok(g) = Goofspiel::new(&[1, 3], &[2, 3], &[1, 1], 0, Pay::Margin) else {
-        panic!(rt; "the position is valid");
-    };
+    let g = two_cards(&rt);
     let root = 335595772;
     let won = 67127548;
     let bound = |side, sum, need| Why::Bound {

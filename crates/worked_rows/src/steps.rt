@@ -4,9 +4,8 @@ ghost use Rattle.sim_game.specs.Sides.{opening_bound};
 ghost use Rattle.bounds_board.specs.Views.{IsLater};
 ghost use Rattle.sim_game.specs.Model.{Reachable};
 
+use crate::games::{four_cards, two_cards};
 use bounds_board::{BoardFault, Bounds, PlainBoard};
-use certificate::Pay;
-use goofspiel::Goofspiel;
 use matrix_game::Turns;
 use oracle_search::{OpenGate, SearchEnd, Settled, search};
 use restricted_game::{Restricted, StepEnd, StepFault};
@@ -40,13 +39,38 @@ pub(crate) fn bound_state<G: Game, B: Bounds<G>>(
     }
 }
 
-// The state after a first pair of moves.
-pub(crate) fn after<G: Game>(g: G, one: u32, two: u32) -> G::State
-    requires one { one < (G.model g).moves Side.One (G.model g).root }
-    requires two { two < (G.model g).moves Side.Two (G.model g).root }
+// The state after a pair of moves.
+pub(crate) fn after<G: Game>(g: G, s: G::State, one: u32, two: u32) -> G::State
+    requires reachable { Reachable (G.model g) s }
+    requires one { one < (G.model g).moves Side.One s }
+    requires two { two < (G.model g).moves Side.Two s }
+    ensures is { result ≡ (G.model g).drawn s one two 0 }
     ensures reachable { Reachable (G.model g) result }
+    ensures lower { (G.model g).rank result < (G.model g).rank s }
 {
-    g.next(g.root(), one, two)
+    g.next(s, one, two)
+}
+
+// Bounds the states after the first pairs of moves of a game with two moves a side, from the first pair on, or from the
+// last one backwards.
+pub(crate) fn bound_pairs<G: Game, B: Bounds<G>>(
+    rt: &impl Abort,
+    alloc: Global,
+    backwards: bool,
+    board: &mut B,
+)
+    ensures { IsLater (B.view board.old) (B.view board.new) }
+{
+    let g = board.game();
+    let root = g.root();
+    assert!(rt; opening_bound(g, Side::One) < opening_bound(g, Side::Two));
+    assert!(rt; g.moves(Side::One, root) == 2);
+    assert!(rt; g.moves(Side::Two, root) == 2);
+    for pair in 0..4 {
+        let at: u32 = if backwards { 3 - pair } else { pair };
+        let s = after(g, root, at / 2, at % 2);
+        assert!(rt; bound_state(alloc, g, s, board).is_ok());
+    }
 }
 
 // Makes a step at the root.
@@ -71,8 +95,13 @@ fn step_root<G: Game, B: Bounds<G>>(
 }
 
 // What the board has at the root.
-fn root_bounds<G: Game, B: Bounds<G>>(rt: &impl Abort, g: G, board: &mut B) -> Option<(i64, i64)>
+pub(crate) fn root_bounds<G: Game, B: Bounds<G>>(
+    rt: &impl Abort,
+    g: G,
+    board: &mut B,
+) -> Option<(i64, i64)>
     requires game { (B.view board.old).game ≡ g }
+    ensures later { IsLater (B.view board.old) (B.view board.new) }
 {
     let root = g.root();
     assert!(rt; g.rank(root) >= 1);
@@ -92,19 +121,13 @@ fn third_step(
     alloc: Global,
     limit: u64,
 ) -> Result<(Result<StepEnd, StepFault>, Option<(i64, i64)>, Restricted), Fail> {
-    let Ok(g) = Goofspiel::new(&[1, 3], &[2, 3], &[1, 1], 0, Pay::Margin) else {
-        panic!(rt; "the position is valid");
-    };
+    let g = two_cards(rt);
     let root = g.root();
     assert!(rt; g.moves(Side::One, root) == 2);
     assert!(rt; g.moves(Side::Two, root) == 2);
     assert!(rt; g.rank(root) >= 1);
-    assert!(rt; opening_bound(g, Side::One) < opening_bound(g, Side::Two));
     let mut board = PlainBoard::new(alloc, g, 16, 65536)?;
-    bound_state(alloc, g, after(g, 0, 0), &mut board)?;
-    bound_state(alloc, g, after(g, 0, 1), &mut board)?;
-    bound_state(alloc, g, after(g, 1, 0), &mut board)?;
-    bound_state(alloc, g, after(g, 1, 1), &mut board)?;
+    bound_pairs(rt, alloc, false, &mut board);
     let mut turns = Turns::new(limit);
     let mut held = Restricted::new(alloc, 2, 2, (0, 0))?;
     let first = step_root(g, &mut held, &mut board, &mut turns);
@@ -152,9 +175,7 @@ fn a_step_without_a_turn_changes_nothing(rt: HostRuntime) -> Result<(), Fail> {
 
 #[test]
 fn a_search_leaves_most_states_out(rt: HostRuntime) -> Result<(), Fail> {
-    let Ok(g) = Goofspiel::new(&[5, 6, 7, 8], &[1, 2, 3, 4], &[1, 1, 1, 1], 0, Pay::Margin) else {
-        panic!(rt; "the position is valid");
-    };
+    let g = four_cards(&rt);
     let mut board = PlainBoard::new(rt.alloc(), g, 48, 65536)?;
     let mut settled = Settled::new(rt.alloc());
     let end = search(

@@ -1,14 +1,20 @@
 #!/usr/bin/env python3
-"""random_positions.py PROGRAM OTHER [COUNT [SEED]]: compares two programs with the same commands on random positions.
+"""random_positions.py PROGRAM [OTHER] [COUNT [SEED]]: solves random positions, and has every report checked.
 
-Each of COUNT positions (500) of the three games goes to `solve` and `bounds` of both, with few turns, visits and rows, so
-that every outcome comes up; every fourth is spoilt first, so that it is refused. Bytes and status have to be the same, and
-`check` of PROGRAM has to accept each report. One seed makes the same positions again. No part of the gate.
+Each of COUNT positions (500) of the games goes to `solve` and `bounds`, with few turns, visits and rows, so that every outcome
+comes up; every fourth is spoilt first, so that it is refused. Each answer has to be one that docs/FORMATS.md tells, `check`
+has to accept each report, and no lower bound may be above an upper one of either command. Where OTHER is given, any program
+with the same commands, bytes and status have to be those of OTHER. One seed makes the same positions again. No part of the
+gate.
 """
 import json
+import os
 import random
+import re
 import subprocess
 import sys
+
+from formats import Formats
 
 SPOILT = [-1, 0, 1, 7, 255, 256, -129, 128, 1.5, -0.0, "x", "win", [], [1, 1], [300], [1, "a"], [1] * 256, None, True, {},
           2**63, 2**64, 8000000001, 1048577, 8191, 17, 1099511627777, -1000001]
@@ -33,8 +39,30 @@ def tron(r):
     return dict(game="tron", height=height, width=width, walls=rest[:r.randint(0, len(rest) // 2)], one=one, two=two)
 
 
-def position(r, spoil):
-    p = r.choice([goofspiel, oshi_zumo, tron])(r)
+def goofspiel_drawn(r):
+    p = goofspiel(r)
+    # A deck of five has more states than a run should take.
+    few = {name: p[name][:4] for name in ("one", "two", "prizes")}
+    return dict(p, game="goofspiel_drawn", **few)
+
+
+def pursuit(r):
+    nodes = r.choice([1, 2, 3, 3, 4, 4, 5, 6, 9, 32])
+    edges = []
+    for _ in range(r.choice([0, nodes, 2 * nodes]) if nodes > 1 else 0):
+        edges += r.sample(range(nodes), 2)
+    if edges and r.random() < 0.3:
+        # The same edge again, in the other order.
+        edges += edges[1::-1]
+    return dict(game="pursuit", nodes=nodes, edges=edges, one=r.randrange(nodes), two=r.randrange(nodes),
+                rounds=r.choice([0, 1, 1, 2, 2, 3, 31 if nodes < 4 else 4]))
+
+
+GAMES = [goofspiel, oshi_zumo, tron, goofspiel_drawn, pursuit]
+
+
+def position(r, spoil, games=GAMES):
+    p = r.choice(games)(r)
     p.update(gap=r.choice([0, 0, 1000, 1000000]), weight=r.choice([8192, 8193, 65536, 1048576]),
              turns=r.choice([0, 0, 1, 2, 5, 50]), visits=r.choice([0, 1, 5, 50, 1000, 100000]),
              rows=r.choice([1, 2, 5, 20, 200, 65536]), workers=1)
@@ -52,28 +80,47 @@ def answer(program, command, text):
     return run.returncode, run.stdout
 
 
+def ends(text):
+    """The lower and the upper bound that a text tells."""
+    return [int(number) for word in ("lower", "upper") for number in re.findall(rf"^{word} (-?\d+)$", text.decode(), re.M)]
+
+
+def fault(formats, program, other, text):
+    """What is wrong with the answers to a position, or None."""
+    solved, bounded = answer(program, "solve", text), answer(program, "bounds", text)
+    for command, ours in (("solve", solved), ("bounds", bounded)):
+        told = formats.fault(command, *ours)
+        if told:
+            return f"{command}: {told}"
+        if other and answer(other, command, text) != ours:
+            return f"{command}: {ours} here, {answer(other, command, text)} there"
+    if solved[0] in (0, 3, 4, 5):
+        if answer(program, "check", solved[1])[0] != 0:
+            return "the report is not accepted"
+        # Serial bounds and a report's bounds are both guaranteed, so no lower one is above an upper one.
+        low, high = zip(ends(solved[1]), ends(bounded[1])) if bounded[0] == 0 else ([0], [0])
+        if max(low) > min(high):
+            return f"bounds {low} and {high} do not meet"
+    return None
+
+
 def main():
-    if len(sys.argv) < 3:
-        sys.exit("usage: random_positions.py PROGRAM OTHER [COUNT [SEED]]")
-    program, other = sys.argv[1:3]
-    count, seed = (int(word) for word in (sys.argv[3:] + ["500", "1"][len(sys.argv) - 3:]))
-    r = random.Random(seed)
-    failed = 0
-    statuses = {}
+    words = sys.argv[1:]
+    if not words:
+        sys.exit("usage: random_positions.py PROGRAM [OTHER] [COUNT [SEED]]")
+    program = os.path.realpath(words.pop(0))
+    other = os.path.realpath(words.pop(0)) if words and not words[0].isdigit() else None
+    count, seed = (int(word) for word in (words + ["500", "1"][len(words):]))
+    r, formats, failed = random.Random(seed), Formats(), 0
     for number in range(count):
         text = position(r, number % 4 == 3)
-        for command in ("solve", "bounds"):
-            ours, theirs = answer(program, command, text), answer(other, command, text)
-            same = ours == theirs
-            if command == "solve" and ours[0] in (0, 3, 4, 5):
-                same = same and answer(program, "check", ours[1])[0] == 0
-            statuses[ours[0]] = statuses.get(ours[0], 0) + 1
-            if not same:
-                failed += 1
-                print("FAILED", command, text.decode(), ours, theirs)
-    print("statuses:", ", ".join(f"{status}: {n}" for status, n in sorted(statuses.items())))
-    print(f"{2 * count - failed} passed, {failed} failed")
-    sys.exit(failed > 0)
+        found = fault(formats, program, other, text)
+        if found:
+            failed += 1
+            print("FAILED", text.decode(), found)
+    print(f"{count - failed} passed, {failed} failed")
+    sys.exit(failed > 0 or count == 0)
 
 
-main()
+if __name__ == "__main__":
+    main()

@@ -1,24 +1,28 @@
 #!/usr/bin/env bash
-# run_vectors.sh PROGRAM FOLDER: runs the program on each case of the folder, and compares bytes and status.
-#
-# A case NAME is the files NAME.args (one word a line), NAME.in, NAME.out and NAME.status. An input `@spaces N` stands for
-# that many spaces. A case has 20 seconds. The last line is `N passed, M failed`.
+# run_vectors.sh PROGRAM [COMMAND/NAME ..]: runs the program on the cases of tests/vectors, or on those named, and compares
+# bytes and status. tests/vectors/README.md tells the files of a case. A case has 20 seconds. The last line is
+# `N passed, M failed`.
 set -u
-if [ $# -ne 2 ]; then
-    echo "usage: run_vectors.sh PROGRAM FOLDER" >&2
+if [ $# -lt 1 ]; then
+    echo "usage: run_vectors.sh PROGRAM [COMMAND/NAME ..]" >&2
     exit 2
 fi
 program=$(realpath "$1") || exit 2
-folder=$2
+shift
+folder=$(dirname "$(realpath "$0")")/vectors
 work=$(mktemp -d) || exit 2
 trap 'rm -rf "$work"' EXIT
 
 passed=0
 failed=0
-for args in "$folder"/*.args; do
-    name=${args%.args}
-    mapfile -t words < "$args"
-    input=$name.in
+names=("$@")
+if [ $# -eq 0 ]; then
+    mapfile -t names < <(cd "$folder" && printf '%s\n' */*.args | sed 's/\.args$//')
+fi
+for name in "${names[@]}"; do
+    case=$folder/$name
+    mapfile -t words < "$case.args"
+    input=$case.in
     if [ "$(head -c 8 "$input" | tr -d '\0')" = "@spaces " ]; then
         read -r _ count < "$input"
         printf "%${count}s" "" > "$work/in"
@@ -26,12 +30,12 @@ for args in "$folder"/*.args; do
     fi
     timeout -k 1 20 "$program" "${words[@]}" < "$input" > "$work/out" 2> "$work/err"
     status=$?
-    want=$(cat "$name.status")
-    if [ "$status" = "$want" ] && cmp -s "$work/out" "$name.out"; then
+    want=$(cat "$case.status")
+    if [ "$status" = "$want" ] && cmp -s "$work/out" "$case.out"; then
         passed=$((passed + 1))
     else
         failed=$((failed + 1))
-        echo "FAILED $(basename "$name") (status $status, expected $want)"
+        echo "FAILED $name (status $status, expected $want)"
     fi
 done
 echo "$passed passed, $failed failed"

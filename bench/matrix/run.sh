@@ -1,10 +1,12 @@
 #!/usr/bin/env bash
-# run.sh SOLVER [RUNS]: the stage solver of matrix_game beside the plain solver in the Rust file SOLVER, which has the
-# types Matrix and Turns. The two programs run in turn, RUNS times (5); a line of the table has the median of each, in
-# nanoseconds a round, and their ratio. Needs rt, rustc and awk.
+# run.sh [RUNS [SOLVER]]: times the stage solver of matrix_game, RUNS times (5), in nanoseconds a round; beside it the plain
+# solver in the Rust file SOLVER, which has the types Matrix and Turns, where one is given. The two run in turn; a line of the
+# table has the median of each, and their ratio. Builds main.rt.txt in a scratch folder, over copies of the crates that it
+# stands on, which are proved there. Needs rt and awk, and rustc for SOLVER.
 set -eu
-solver=$(realpath "$1")
-runs=${2:-5}
+runs=${1:-5}
+solver=
+[ $# -ge 2 ] && solver=$(realpath "$2")
 here=$(dirname "$(realpath "$0")")
 top=$(realpath "$here/../..")
 work=$(mktemp -d)
@@ -14,25 +16,28 @@ mkdir -p "$work/repository/crates/bench_matrix/src" "$work/repository/crates/ben
     "$work/repository/crates/bench_matrix/proofs" "$work/reference"
 for crate in seq sums matrix_game; do
     mkdir "$work/repository/crates/$crate"
-    for part in src specs proofs; do
-        cp -r "$top/crates/$crate/$part" "$work/repository/crates/$crate/"
+    # With out/, what checks have proved here before is not proved again.
+    for part in src specs proofs out; do
+        [ ! -e "$top/crates/$crate/$part" ] || cp -r "$top/crates/$crate/$part" "$work/repository/crates/$crate/"
     done
 done
 cp "$top/HANDLES" "$work/repository/"
 printf 'seq:\nsums:\nmatrix_game: seq sums thiserror\nbench_matrix: matrix_game\n' > "$work/repository/crates.txt"
 cp "$here/main.rt.txt" "$work/repository/crates/bench_matrix/src/main.rt"
 touch "$work/repository/crates/bench_matrix/specs/Lib.antt" "$work/repository/crates/bench_matrix/proofs/Lib.antt"
-cp "$here/reference_main.rs.txt" "$work/reference/main.rs"
-cp "$solver" "$work/reference/matrix.rs"
 
 (cd "$work/repository/crates/bench_matrix" && rt run > "$work/build.log" 2>&1) || {
     tail -20 "$work/build.log"
     exit 1
 }
-rustc -C opt-level=3 --edition 2021 -o "$work/reference/main" "$work/reference/main.rs"
+if [ -n "$solver" ]; then
+    cp "$here/reference_main.rs.txt" "$work/reference/main.rs"
+    cp "$solver" "$work/reference/matrix.rs"
+    rustc -C opt-level=3 --edition 2021 -o "$work/reference/main" "$work/reference/main.rs"
+fi
 
 for run in $(seq "$runs"); do
-    "$work/reference/main" | sed 's/^/plain /'
+    [ -z "$solver" ] || "$work/reference/main" | sed 's/^/plain /'
     "$work/repository/crates/bench_matrix/out/bench_matrix" | sed 's/^/ours /'
 done | awk '
     { kind = $2 " " $3 " " $4; if (!(kind in seen)) { seen[kind] = 1; kinds[++count] = kind }
@@ -51,7 +56,12 @@ done | awk '
         print "|---|---|---|---|---|---|---|"
         for (k = 1; k <= count; k++) {
             split(kinds[k], part, " ")
-            plain = median("plain", kinds[k]); ours = median("ours", kinds[k])
+            ours = median("ours", kinds[k])
+            if (!(("plain", kinds[k]) in taken)) {
+                printf "| %sx%s | %s | %s | | %.1f | | |\n", part[1], part[1], part[2], part[3], ours
+                continue
+            }
+            plain = median("plain", kinds[k])
             same = sums["plain", kinds[k]] == sums["ours", kinds[k]] ? "same" : "DIFFERENT"
             printf "| %sx%s | %s | %s | %.1f | %.1f | %.2f | %s |\n", part[1], part[1], part[2], part[3], plain, ours, ours / plain, same
         }

@@ -33,17 +33,21 @@ module _ {S G N : Type 0} (m : GameModel S) (v : BoardView G N) (asked : ℕ) (f
   )
 
 -- what was known of the rows stays known
-pub full_later : {S G N : Type 0} (m : GameModel S) (v w : BoardView G N) → IsLater v w → WasFull m v → WasFull m w
-full_later m v w later was = let full = was.full in record {
-  asked = was.asked;
-  full = record {
-    inner = full.inner;
-    others = λ row l. let o = full.others row (subst (λ (n : ℕ). row < n) later.rows l) in (o.0, later.keys row o.0 o.1, o.2, o.3);
-    apart = λ row other key l h is_row is_other.
-        let l' = subst (λ (n : ℕ). row < n) later.rows l in let h' = subst (λ (n : ℕ). other < n) later.rows h in
-        let o = full.others row l' in let p = full.others other h' in
-        let a = later.keys row o.0 o.1 in let b = later.keys other p.0 p.1 in
-        let same : o.0 ≡ key = cc in let same' : p.0 ≡ key = cc in
-        full.apart row other key l' h' (subst (λ (k : ℕ). v.key_at row ≡ Some k) same o.1) (subst (λ (k : ℕ). v.key_at other ≡ Some k) same' p.1);
-  };
+is_full_later : {S G N : Type 0} (m : GameModel S) (v w : BoardView G N) (asked : ℕ) → IsLater v w → IsFull m v asked → IsFull m w asked
+is_full_later m v w asked later full = record {
+  inner = full.inner;
+  others = λ row l. let o = full.others row (subst (λ (n : ℕ). row < n) later.rows l) in (o.0, later.keys row o.0 o.1, o.2, o.3);
+  apart = λ row other key l h is_row is_other.
+      let l' = subst (λ (n : ℕ). row < n) later.rows l in let h' = subst (λ (n : ℕ). other < n) later.rows h in
+      let o = full.others row l' in let p = full.others other h' in
+      let a = later.keys row o.0 o.1 in let b = later.keys other p.0 p.1 in
+      let same : o.0 ≡ key = cc in let same' : p.0 ≡ key = cc in
+      full.apart row other key l' h' (subst (λ (k : ℕ). v.key_at row ≡ Some k) same o.1) (subst (λ (k : ℕ). v.key_at other ≡ Some k) same' p.1);
 }
+
+pub full_later : {S G N : Type 0} (m : GameModel S) (v w : BoardView G N) (IsAsked : S → Type 0) → IsLater v w → WasFull m v IsAsked → WasFull m w IsAsked
+full_later m v w IsAsked later was = record { state = was.state; is_asked = was.is_asked; full = is_full_later m v w (m.key was.state) later was.full }
+
+-- a state asked for in the one sense is asked for in the other
+pub full_weaker : {S G N : Type 0} (m : GameModel S) (v : BoardView G N) (P Q : S → Type 0) → ((t : S) → P t → Q t) → WasFull m v P → WasFull m v Q
+full_weaker m v P Q weaker was = record { state = was.state; is_asked = weaker was.state was.is_asked; full = was.full }

@@ -21,7 +21,7 @@ use Rattle.bounds_board.specs.Slots.{keys_of, bound_of, IsOther, IsFree, IsMet}
 use Rattle.bounds_board.specs.Plain.{IsPlain, plain_view}
 use Rattle.bounds_board.specs.Views.{BoardView, IsLater, IsInnerKey, IsFull, IsEnclosure, IsSeenNumber, by_end, by_opening, by_seen}
 use Rattle.plan_book.proofs.BookLemmas.{best_backed, best_range, best_push, best_grows, best_has, best_opening, eqb_self, eqb_other, cond_and, cond_and_false}
-use Rattle.bounds_board.proofs.TableLemmas.{few_keys, key_before, row_inside, row_key, full_others, room, no_row, table_claims}
+use Rattle.bounds_board.proofs.TableLemmas.{few_keys, key_before, key_pushed, row_inside, row_key, full_others, room, no_row, table_claims}
 
 -- each row is tried, from any number's remainder on
 pub row_met : (rows k i : ℕ) → i < rows → (u : ℕ) × (u < rows) × ((k % rows + u) % rows ≡ i)
@@ -119,6 +119,14 @@ module _ {S : Type 0} (m : GameModel S) (heads : List ℕ) (slots : List Slot) (
         held = rw keys (All-weaker (λ e. Contains (keys_of slots) e.key) (λ e. Contains (keys_of slots ++ key ∷ []) e.key) (λ e h. Contains-append_left (keys_of slots) (key ∷ []) e.key h) entries plain.held);
         closed = plain.closed;
       }
+
+  -- and no other row has the key
+  pub claim_alone : (lower upper : ℤ) (other : ℕ) → slice_get (keys_of (slots ++ record { key = key; lower = lower; upper = upper } ∷ [])) other ≡ Some key → other ≡ length slots
+  claim_alone lower upper other e =
+      let new : Slot = record { key = key; lower = lower; upper = upper } in
+      let keys : keys_of (slots ++ new ∷ []) ≡ keys_of slots ++ key ∷ [] = map_push (λ (s : Slot). s.key) slots new in
+      (table_claims heads (keys_of slots) plain.table key head free).apart other (length slots) key (subst (λ (k : List ℕ). slice_get k other ≡ Some key) keys e)
+      (subst (λ (k : List ℕ). slice_get k (length slots) ≡ Some key) keys (key_pushed slots new))
 
 -- a number that was seen is no tighter than what the book has
 module _ {S : Type 0} (m : GameModel S) (game : IsGame m) (total : ℕ) (entries : List Entry) (each : IsClosed m total entries) where

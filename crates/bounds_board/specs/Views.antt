@@ -7,6 +7,7 @@ use Rattle.plan_book.specs.declared.Entry.{Entry}
 use Rattle.sim_game.specs.Sides.{IsNoTighter, opening_bound, end_bound}
 use Rattle.plan_book.specs.Backed.{IsBacked}
 use Rattle.plan_book.specs.Entries.{IsEntry}
+use Rattle.bounds_board.specs.declared.bounds.Enclosure.{Enclosure}
 
 pub record BoardView (G N : Type 0) : Type 0 where
   -- which object over which board it is
@@ -44,10 +45,11 @@ pub record IsFull {S G N : Type 0} (m : GameModel S) (v : BoardView G N) (asked 
   pub others : (row : ℕ) → row < v.rows → (key : ℕ) × (v.key_at row ≡ Some key) × IsInnerKey m key × (key ≢ asked)
   pub apart : (row other key : ℕ) → row < v.rows → other < v.rows → v.key_at row ≡ Some key → v.key_at other ≡ Some key → row ≡ other
 
--- a claim found each row held by another key
-pub record WasFull {S G N : Type 0} (m : GameModel S) (v : BoardView G N) : Type 0 where
-  pub asked : ℕ
-  pub full : IsFull m v asked
+-- a claim of the key of such a state found each row held by another key
+pub record WasFull {S G N : Type 0} (m : GameModel S) (v : BoardView G N) (IsAsked : S → Type 0) : Type 0 where
+  pub state : S
+  pub is_asked : IsAsked state
+  pub full : IsFull m v (m.key state)
 
 -- a number at a state that an entry may rest on
 pub data IsSeenNumber {S G N : Type 0} (m : GameModel S) (v : BoardView G N) (side : Side) (s : S) (x : ℤ) : Type 0 where
@@ -72,3 +74,8 @@ pub record IsEnclosure {S : Type 0} (m : GameModel S) (lower upper : ℤ) (s : S
   pub lower_high : IsNoTighter Two (opening_bound m Two) lower
   pub upper_low : IsNoTighter One (opening_bound m One) upper
   pub upper_high : IsNoTighter Two (opening_bound m Two) upper
+
+-- the bound of a side
+abbrev pub bound_in : Side → Enclosure → ℤ
+bound_in One e = e.lower
+bound_in Two e = e.upper

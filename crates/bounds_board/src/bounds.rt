@@ -1,19 +1,30 @@
 //! What a search asks of a board.
 ghost use Rattle.std.specs.Prelude.{◌≡◌, ◌++◌, ◌∷◌, [], ℕ, ◌≤◌, Some, IfOk, IfErr, OnOk, OnErr, IsSome};
 ghost use Rattle.sim_game.specs.Model.{Reachable};
-ghost use Rattle.bounds_board.specs.Views.{BoardView, IsLater, IsInnerKey, IsFull, IsPostable, IsRead, IsEnclosure};
+ghost use Rattle.bounds_board.specs.Views.{BoardView, IsLater, IsInnerKey, IsFull, IsPostable, IsRead, IsEnclosure, bound_in};
 ghost use Rattle.sim_game.specs.Sides.{IsNoTighter, opening_bound};
-ghost use Rattle.sim_game.specs.declared.Side.{Side};
 
 use crate::row::Row;
 use plan_book::Entry;
-use sim_game::{Game, NoMemory};
+use sim_game::{Game, NoMemory, Side};
 
 /// The bounds at a state, in millionths of a payoff.
 #[derive(Clone, Copy, PartialEq, Eq, Debug)]
 pub struct Enclosure {
     pub lower: i64,
     pub upper: i64,
+}
+
+impl Enclosure {
+    /// The bound of a side.
+    pub fn of(&self, side: Side) -> i64
+        ensures { result ≡ bound_in side self.now }
+    {
+        match side {
+            Side::One => self.lower,
+            Side::Two => self.upper,
+        }
+    }
 }
 
 /// Each row is held by another key.
@@ -36,6 +47,10 @@ pub trait Bounds<G: Game> {
     fn game(&self) -> G
         ensures { result ≡ (view self.now).game };
 
+    /// A key that the object knows is that of a reachable state that is no end.
+    fn knows_inner_keys(&self)
+        ensures { (row key : ℕ) → (view self.now).key_at row ≡ Some key → IsInnerKey (G.model (view self.now).game) key };
+
     /// What the weights of each entry sum to.
     fn total(&self) -> u32
         ensures total { result ≡ (view self.now).total }
@@ -48,6 +63,7 @@ pub trait Bounds<G: Game> {
         ensures later { IsLater (view self.old) (view self.new) }
         ensures entries { (view self.new).entries ≡ (view self.old).entries }
         ensures ok { IfOk result (λ row. (view self.new).key_at row ≡ Some key) }
+        ensures alone { IfOk result (λ row. (other : ℕ) → (view self.new).key_at other ≡ Some key → other ≡ row) }
         ensures opened { OnOk result ((side : Side) → IsNoTighter side (opening_bound (G.model (view self.old).game) side) ((view self.new).seen side key)) }
 
         // What was seen stays as it was.

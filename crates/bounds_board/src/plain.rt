@@ -84,6 +84,10 @@ impl<G: Game> Bounds<G> for PlainBoard<G> {
         self.game
     }
 
+    fn knows_inner_keys(&self) {
+        let _slots = self.slots.len();
+    }
+
     fn total(&self) -> u32 {
         self.book.total()
     }

@@ -1,22 +1,19 @@
 -- Reading and writing the fields of a line undo each other.
-use Rattle.std.proofs.Common.{◌≡◌, ℕ, suc, ◌^◌, ◌<◌, ◌≤◌, ℤ, pos, neg_ℤ, unsigned_abs, List, [], ◌∷◌, length, map, drop, Bool, true, false, cond, codes, bytes_eq, Option, Some, None, Result, Ok, Err, decimal, All, refl, ap, ap₂, subst, ◌∙◌, arith}
+use Rattle.std.proofs.Common.{◌≡◌, ℕ, suc, ◌^◌, ◌<◌, ◌≤◌, ℤ, pos, neg_ℤ, unsigned_abs, List, [], ◌∷◌, length, map, Bool, true, false, cond, bytes_eq, Option, Some, None, Result, Ok, Err, decimal, All, refl, ap, ap₂, subst, ◌∙◌, arith}
 use Rattle.std.specs.Fmt.{signed_decimal}
 use Rattle.std.specs.List.{AllByRecursion}
 use Rattle.std.proofs.lemmas.Int.{ints}
 use Rattle.std.proofs.lemmas.List.{nil_from_length}
 use Rattle.std.proofs.lemmas.Slice.Eq.{bytes_eq-Decides}
-use Rattle.goofspiel.specs.declared.Pay.{Pay}
 use Rattle.plan_book.specs.declared.SheetRow.{SheetRow}
 use Rattle.certificate.specs.declared.error.TextError.{TextError}
-use Rattle.certificate.specs.declared.error.TextError.TheVariants.{Line, Number}
-use Rattle.certificate.specs.declared.report.PositionText.{PositionText}
-use Rattle.certificate.specs.declared.report.PositionText.TheVariants.{Goofspiel, OshiZumo, Tron}
+use Rattle.certificate.specs.declared.error.TextError.TheVariants.{Number}
 use Rattle.certificate.specs.Unread.{Unread}
-use Rattle.certificate.specs.Numbers.{natural_in, integer_in}
-use Rattle.certificate.specs.Texts.{position_fields, row_fields, list_text, pay_word}
-use Rattle.certificate.specs.Ranges.{Within, Between, IsByteList, IsPositionInRange}
-use Rattle.certificate.specs.Reading.{◌>>=◌, or_fault, Reads, ◌followed_by◌, ◌before◌, made_by, first_field, field, spelled, natural, integer, naturals_in, naturals, list, pay, expected, goofspiel, goofspiel_of, oshi_zumo, oshi_zumo_of, tron, tron_of, position, row_of}
-use Rattle.certificate.proofs.Spelling.{IsField, Spells, clean_word, natural_spells, integer_spells, list_spells, pay_spells, naturals_takes, naturals_again, numbers_clean}
+use Rattle.certificate.specs.Numbers.{integer_in, Within, Between}
+use Rattle.certificate.specs.Texts.{row_fields}
+use Rattle.certificate.specs.Readers.{◌>>=◌, or_fault, Reads, ◌followed_by◌, ◌before◌, made_by, first_field, field, spelled, natural, integer, naturals_in, naturals, expected}
+use Rattle.certificate.specs.Reading.{row_of}
+use Rattle.certificate.proofs.Spelling.{IsField, Spells, natural_spells, integer_spells, naturals_takes, naturals_again, numbers_clean}
 
 -- A reader of all fields of a line, of which there are not too many, and what writes them undo each other.
 pub record FieldLaw {A : Type 0} (most : ℕ) (read : Reads A) (fields : A → List (List ℕ)) (Fits : A → Type 0) : Type 0 where
@@ -47,10 +44,10 @@ ok_is x y e = cc
 -- ---- one field
 
 -- the first field spells the value, and the others are left
-record TakesFirst {A : Type 0} (value : List ℕ → Option A) (u : Unread) (x : A × Unread) : Type 0 where
-  first : List ℕ
-  here : u.parts ≡ first ∷ x.1.parts
-  is : value first ≡ Some x.0
+pub record TakesFirst {A : Type 0} (value : List ℕ → Option A) (u : Unread) (x : A × Unread) : Type 0 where
+  pub first : List ℕ
+  pub here : u.parts ≡ first ∷ x.1.parts
+  pub is : value first ≡ Some x.0
 
 first_takes : (parts : List (List ℕ)) (n : ℕ) (x : List ℕ × Unread) → first_field parts n ≡ Ok x → parts ≡ x.0 ∷ x.1.parts
 first_takes [] n x e = absurd cc
@@ -60,13 +57,13 @@ field_takes : (u : Unread) (x : List ℕ × Unread) → field u ≡ Ok x → u.p
 unfolding field
 field_takes u x e = first_takes u.parts u.number x e
 
-spelled_takes : {A : Type 0} (fault : ℕ → TextError) (value : List ℕ → Option A) (u : Unread) (x : A × Unread) → spelled fault value u ≡ Ok x → TakesFirst value u x
+pub spelled_takes : {A : Type 0} (fault : ℕ → TextError) (value : List ℕ → Option A) (u : Unread) (x : A × Unread) → spelled fault value u ≡ Ok x → TakesFirst value u x
 spelled_takes {A} fault value u x e =
     let f = bind_ok (field u) _ x e in
     let a = bind_ok (or_fault (value f.0.0) (fault u.number)) _ x f.2 in
     subst (TakesFirst value u) (ok_is (a.0, f.0.1) x a.2) (record { first = f.0.0; here = field_takes u f.0 f.1; is = or_ok (value f.0.0) (fault u.number) a.0 a.1 })
 
-spelled_again : {A : Type 0} (fault : ℕ → TextError) (value : List ℕ → Option A) (f : List ℕ) (fs : List (List ℕ)) (n : ℕ) (a : A) → value f ≡ Some a → spelled fault value (record { parts = f ∷ fs; number = n }) ≡ Ok (a, record { parts = fs; number = n })
+pub spelled_again : {A : Type 0} (fault : ℕ → TextError) (value : List ℕ → Option A) (f : List ℕ) (fs : List (List ℕ)) (n : ℕ) (a : A) → value f ≡ Some a → spelled fault value (record { parts = f ∷ fs; number = n }) ≡ Ok (a, record { parts = fs; number = n })
 unfolding field
 spelled_again fault value f fs n a e = rw e refl
 
@@ -157,118 +154,10 @@ naturals_law most high wide = record {
   clean = λ ns fits. numbers_clean high ns wide fits;
 }
 
--- ---- the position
+-- ---- what is made of the value
 
--- a reader of the fields behind the game's name
-record GameLaw (name : List ℕ) (read : Reads PositionText) : Type 0 where
-  takes : (u : Unread) (x : PositionText × Unread) → read u ≡ Ok x → length u.parts ≤ 5 → (name ∷ u.parts ≡ position_fields x.0) × IsPositionInRange x.0
-
-small_score : (z : ℤ) → Between (neg_ℤ (pos 1000000)) (pos 1000000) z → unsigned_abs z ≤ 1000000
-small_score z h = omega (arith, ints, h.0, h.1)
-
-score_between : (z : ℤ) → unsigned_abs z ≤ 1000000 → Between (neg_ℤ (pos 1000000)) (pos 1000000) z
-score_between z h = (omega (arith, ints), omega (arith, ints))
-
-byte_spells : Spells (natural_in 0 255) decimal (Within 0 255)
-byte_spells = natural_spells 0 255 (omega arith)
-
--- the fields of each game as a row
-abbrev goofspiel_fields : List ℕ × (List ℕ × (List ℕ × (ℤ × Pay))) → List (List ℕ)
-goofspiel_fields x = list_text x.0 ∷ list_text x.1.0 ∷ list_text x.1.1.0 ∷ signed_decimal x.1.1.1.0 ∷ pay_word x.1.1.1.1 ∷ []
-
-goofspiel_row : FieldLaw 5 (list followed_by list followed_by list followed_by integer (neg_ℤ (pos 1000000)) (pos 1000000) followed_by pay) goofspiel_fields
-    (λ x. IsByteList x.0 × (IsByteList x.1.0 × (IsByteList x.1.1.0 × (Between (neg_ℤ (pos 1000000)) (pos 1000000) x.1.1.1.0 × Unit {0}))))
-unfolding list integer pay
-goofspiel_row =
-    then_law Number list_spells (then_law Number list_spells (then_law Number list_spells (
-    then_law Number (integer_spells (neg_ℤ (pos 1000000)) (pos 1000000) (λ z h. omega (arith, ints, h.0, h.1))) (last_law Line pay_spells))))
-
-oshi_zumo_row : FieldLaw 5 (natural 0 255 followed_by natural 0 255 followed_by natural 0 255 followed_by natural 0 255 followed_by integer (neg_ℤ (pos 128)) (pos 127))
-    (λ x. decimal x.0 ∷ decimal x.1.0 ∷ decimal x.1.1.0 ∷ decimal x.1.1.1.0 ∷ signed_decimal x.1.1.1.1 ∷ [])
-    (λ x. Within 0 255 x.0 × (Within 0 255 x.1.0 × (Within 0 255 x.1.1.0 × (Within 0 255 x.1.1.1.0 × Between (neg_ℤ (pos 128)) (pos 127) x.1.1.1.1))))
-unfolding natural integer
-oshi_zumo_row =
-    then_law Number byte_spells (then_law Number byte_spells (then_law Number byte_spells (then_law Number byte_spells (
-    last_law Number (integer_spells (neg_ℤ (pos 128)) (pos 127) (λ z h. omega (arith, ints, h.0, h.1)))))))
-
-tron_row : FieldLaw 5 (natural 0 255 followed_by natural 0 255 followed_by list followed_by natural 0 255 followed_by natural 0 255)
-    (λ x. decimal x.0 ∷ decimal x.1.0 ∷ list_text x.1.1.0 ∷ decimal x.1.1.1.0 ∷ decimal x.1.1.1.1 ∷ [])
-    (λ x. Within 0 255 x.0 × (Within 0 255 x.1.0 × (IsByteList x.1.1.0 × (Within 0 255 x.1.1.1.0 × Within 0 255 x.1.1.1.1))))
-unfolding natural list
-tron_row =
-    then_law Number byte_spells (then_law Number byte_spells (then_law Number list_spells (then_law Number byte_spells (last_law Number byte_spells))))
-
-made_takes : {A B : Type 0} (f : A → B) (r : Result (A × Unread) TextError) (y : B × Unread) → (r >>= λ x. Ok (f x.0, x.1)) ≡ Ok y → (x : A × Unread) × (r ≡ Ok x) × ((f x.0, x.1) ≡ y)
+pub made_takes : {A B : Type 0} (f : A → B) (r : Result (A × Unread) TextError) (y : B × Unread) → (r >>= λ x. Ok (f x.0, x.1)) ≡ Ok y → (x : A × Unread) × (r ≡ Ok x) × ((f x.0, x.1) ≡ y)
 made_takes f r y e = let x = bind_ok r _ y e in (x.0, x.1, ok_is (f x.0.0, x.0.1) y x.2)
-
--- the fields behind the name of a game, and the position that they are read as
-record TakesGame (name : List ℕ) (u : Unread) (p : PositionText) : Type 0 where
-  fields : name ∷ u.parts ≡ position_fields p
-  fits : IsPositionInRange p
-
-goofspiel_takes : (u : Unread) (x : PositionText × Unread) → goofspiel u ≡ Ok x → length u.parts ≤ 5 → TakesGame (codes "goofspiel") u x.0
-unfolding goofspiel
-goofspiel_takes u x e few =
-    let word = bind_ok (pay (record { parts = drop 4 u.parts; number = u.number })) _ x e in
-    let m = made_takes goofspiel_of _ x word.2 in
-    let t = goofspiel_row.takes u m.0 m.1 few in
-    subst (λ (x : PositionText × Unread). TakesGame (codes "goofspiel") u x.0) m.2
-    (record { fields = ap (λ fs. codes "goofspiel" ∷ fs) t.0; fits = (t.1.0, t.1.1.0, t.1.1.1.0, small_score m.0.0.1.1.1.0 t.1.1.1.1.0) })
-
-oshi_zumo_takes : (u : Unread) (x : PositionText × Unread) → oshi_zumo u ≡ Ok x → length u.parts ≤ 5 → TakesGame (codes "oshi_zumo") u x.0
-unfolding oshi_zumo
-oshi_zumo_takes u x e few =
-    let m = made_takes oshi_zumo_of _ x e in
-    let t = oshi_zumo_row.takes u m.0 m.1 few in
-    subst (λ (x : PositionText × Unread). TakesGame (codes "oshi_zumo") u x.0) m.2
-    (record { fields = ap (λ fs. codes "oshi_zumo" ∷ fs) t.0; fits = (t.1.0.1, t.1.1.0.1, t.1.1.1.0.1, t.1.1.1.1.0.1, t.1.1.1.1.1) })
-
-tron_takes : (u : Unread) (x : PositionText × Unread) → tron u ≡ Ok x → length u.parts ≤ 5 → TakesGame (codes "tron") u x.0
-unfolding tron
-tron_takes u x e few =
-    let m = made_takes tron_of _ x e in
-    let t = tron_row.takes u m.0 m.1 few in
-    subst (λ (x : PositionText × Unread). TakesGame (codes "tron") u x.0) m.2
-    (record { fields = ap (λ fs. codes "tron" ∷ fs) t.0; fits = (t.1.0.1, t.1.1.0.1, t.1.1.1.0, t.1.1.1.1.0.1, t.1.1.1.1.1.1) })
-
--- one of two readers, by the name
-by_name : (name word : List ℕ) (u v : Unread) (p q : Result (PositionText × Unread) TextError) (x : PositionText × Unread) → u.parts ≡ name ∷ v.parts → cond (bytes_eq name word) p q ≡ Ok x
-    → (p ≡ Ok x → TakesGame word v x.0) → (q ≡ Ok x → (u.parts ≡ position_fields x.0) × IsPositionInRange x.0) → (u.parts ≡ position_fields x.0) × IsPositionInRange x.0
-by_name name word u v p q x here e mine other =
-    elim (bytes_eq name word) as (λ t. bytes_eq name word ≡ t → cond t p q ≡ Ok x → (u.parts ≡ position_fields x.0) × IsPositionInRange x.0) [
-      | true ↦ λ is h. let g = mine h in (here ∙ ap (λ w. w ∷ v.parts) ((bytes_eq-Decides name word).0 is) ∙ g.fields, g.fits)
-      | false ↦ λ is h. other h
-    ] refl e
-
-position_takes : (u : Unread) (x : PositionText × Unread) → position u ≡ Ok x → length u.parts ≤ 6 → (u.parts ≡ position_fields x.0) × IsPositionInRange x.0
-unfolding position
-position_takes u x e few =
-    let f = bind_ok (field u) _ x e in
-    let here = field_takes u f.0 f.1 in
-    let less : length f.0.1.parts ≤ 5 = omega (arith, ap length here) in
-    by_name f.0.0 (codes "goofspiel") u f.0.1 _ _ x here f.2 (λ e. goofspiel_takes f.0.1 x e less) (λ e.
-    by_name f.0.0 (codes "oshi_zumo") u f.0.1 _ _ x here e (λ e. oshi_zumo_takes f.0.1 x e less) (λ e.
-    by_name f.0.0 (codes "tron") u f.0.1 _ _ x here e (λ e. tron_takes f.0.1 x e less) (λ e. absurd cc)))
-
-position_again : (n : ℕ) (p : PositionText) → IsPositionInRange p → (rest : Unread) × (position (record { parts = position_fields p; number = n }) ≡ Ok (p, rest))
-unfolding position field goofspiel pay oshi_zumo tron
-position_again n (Goofspiel one two prizes score pay) fits =
-    let a = goofspiel_row.again n (one, (two, (prizes, (score, pay)))) (fits.0, (fits.1, (fits.2, (score_between score fits.3, tt)))) in
-    (a.0, rw (pay_spells.again pay tt, a.1) refl)
-position_again n (OshiZumo size one two least place) fits =
-    let a = oshi_zumo_row.again n (size, (one, (two, (least, place)))) ((omega arith, fits.0), ((omega arith, fits.1), ((omega arith, fits.2), ((omega arith, fits.3), fits.4)))) in
-    (a.0, rw a.1 refl)
-position_again n (Tron height width walls one two) fits =
-    let a = tron_row.again n (height, (width, (walls, (one, two)))) ((omega arith, fits.0), ((omega arith, fits.1), (fits.2, ((omega arith, fits.3), (omega arith, fits.4))))) in
-    (a.0, rw a.1 refl)
-
-position_clean : (p : PositionText) → IsPositionInRange p → AllByRecursion IsField (position_fields p)
-position_clean (Goofspiel one two prizes score pay) fits = (clean_word (codes "goofspiel") refl, goofspiel_row.clean (one, (two, (prizes, (score, pay)))) (fits.0, (fits.1, (fits.2, (score_between score fits.3, tt)))))
-position_clean (OshiZumo size one two least place) fits = (clean_word (codes "oshi_zumo") refl, oshi_zumo_row.clean (size, (one, (two, (least, place)))) ((omega arith, fits.0), ((omega arith, fits.1), ((omega arith, fits.2), ((omega arith, fits.3), fits.4)))))
-position_clean (Tron height width walls one two) fits = (clean_word (codes "tron") refl, tron_row.clean (height, (width, (walls, (one, two)))) ((omega arith, fits.0), ((omega arith, fits.1), (fits.2, ((omega arith, fits.3), (omega arith, fits.4))))))
-
-pub position_law : FieldLaw 6 position position_fields IsPositionInRange
-position_law = record { takes = position_takes; again = position_again; clean = position_clean }
 
 -- ---- the rows
 

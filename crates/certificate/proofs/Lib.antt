@@ -1,8 +1,10 @@
 pub mod ReportLaws
 pub mod TextLaws
+pub mod LengthLemmas
+pub mod PositionLaws
+pub mod FieldLengths
 pub mod FieldLaws
 pub mod Spelling
-pub mod TextLemmas
 pub mod RowLemmas
 pub mod ListLemmas
 pub mod PartLemmas

@@ -1,7 +1,7 @@
 -- Reading numbers one after the other, as loops do.
 use Rattle.std.proofs.Common.{◌≡◌, ℕ, List, [], ◌∷◌, ◌++◌, Option, Some, None, option_map, refl, sym, ap, ◌∙◌, append_assoc, append-nil}
 use Rattle.certificate.specs.Numbers.{natural_in}
-use Rattle.certificate.specs.Reading.{naturals_in}
+use Rattle.certificate.specs.Readers.{naturals_in}
 
 -- the numbers, behind those read before
 abbrev pub behind : List ℕ → Option (List ℕ) → Option (List ℕ)

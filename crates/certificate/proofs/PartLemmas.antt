@@ -4,7 +4,7 @@ use Rattle.std.specs.List.{slice_split, position_or_len, list_all}
 use Rattle.std.specs.Option.{option_map_or}
 use Rattle.std.proofs.lemmas.Bool.{lt-leb}
 use Rattle.std.proofs.lemmas.List.Splits.{slice_split_first, length-slice_split}
-use Rattle.certificate.specs.Reading.{has_parts}
+use Rattle.certificate.specs.Readers.{has_parts}
 
 abbrev pub parts_at : ℕ → List ℕ → List (List ℕ)
 parts_at c text = slice_split (λ b. b == c) text

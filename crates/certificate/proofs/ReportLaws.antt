@@ -1,5 +1,5 @@
 -- Reading and writing a report undo each other.
-use Rattle.std.proofs.Common.{◌≡◌, ℕ, zero, suc, ◌+◌, ◌^◌, ◌<◌, ◌≤◌, ℤ, pos, neg_ℤ, unsigned_abs, List, [], ◌∷◌, ◌++◌, length, map, true, codes, bytes_eq, Option, Some, None, Ok, decimal, All, refl, sym, ap, ap₂, subst, ◌∙◌, arith, append_assoc, append-nil, lt-ltb, ltb-true, eqb-true}
+use Rattle.std.proofs.Common.{◌≡◌, ℕ, zero, suc, ◌+◌, ◌^◌, ◌<◌, ◌≤◌, ℤ, pos, neg_ℤ, unsigned_abs, List, [], ◌∷◌, ◌++◌, length, map, true, codes, Option, Some, None, Result, Ok, Err, decimal, All, refl, sym, ap, ap₂, subst, ◌∙◌, arith, append_assoc, append-nil, lt-ltb, ltb-true, eqb-true}
 use Rattle.std.specs.Fmt.{signed_decimal}
 use Rattle.std.specs.List.Sorted.{IsStrictlyIncreasing}
 use Rattle.std.proofs.lemmas.Grind.{flat_map-append}
@@ -7,23 +7,26 @@ use Rattle.std.proofs.lemmas.Int.{ints}
 use Rattle.std.proofs.lemmas.List.{length-map}
 use Rattle.std.proofs.lemmas.List.Elements.{All-nil, All-cons, All-head, All-tail}
 use Rattle.std.proofs.lemmas.List.Splits.{join_with_byte-slice_split}
-use Rattle.std.proofs.lemmas.Slice.Eq.{bytes_eq-Decides}
 use Rattle.sim_game.specs.declared.Side.{Side}
 use Rattle.sim_game.specs.declared.Side.TheVariants.{One, Two}
 use Rattle.plan_book.specs.declared.Sheet.{Sheet}
 use Rattle.plan_book.specs.declared.SheetRow.{SheetRow}
-use Rattle.certificate.specs.declared.error.TextError.TheVariants.{Line, Head}
-use Rattle.certificate.specs.declared.report.PositionText.{PositionText}
-use Rattle.certificate.specs.declared.report.PositionText.TheVariants.{Goofspiel, OshiZumo, Tron}
+use Rattle.certificate.specs.declared.error.TextError.{TextError}
+use Rattle.certificate.specs.declared.error.TextError.TheVariants.{Line, Head, NoMemory}
+use Rattle.certificate.specs.declared.positions.GameKind.{GameKind}
 use Rattle.certificate.specs.declared.report.Outcome.{Outcome}
 use Rattle.certificate.specs.declared.report.Report.{Report}
 use Rattle.certificate.specs.Unread.{Unread}
-use Rattle.certificate.specs.Texts.{line_text, text_of, outcome_word, position_fields, row_fields, sheet_lines, report_lines, report_text}
+use Rattle.text.specs.Texts.{line_text, text_of}
+use Rattle.certificate.specs.Positions.{newest_version, position_fields, kind_of, version_of, game_version}
+use Rattle.certificate.specs.Texts.{outcome_word, row_fields, sheet_lines, report_lines, report_text}
 use Rattle.certificate.specs.Ranges.{Within, Between, IsPositionInRange, IsRowInRange, IsSheetInRange, IsInRange}
-use Rattle.certificate.specs.Reading.{lines_in, game_line, natural_line, integer_line, outcome, outcome_line, spent_line, end_line, row_line, rises, next_row, rows, sheet, sheets, terms, findings, report_of, report, or_fault, first_line, head, ended, read_report}
+use Rattle.certificate.specs.Readers.{Fails, lines_in}
+use Rattle.certificate.specs.Reading.{game_line, natural_line, integer_line, outcome, outcome_line, spent_line, end_line, row_line, rises, next_row, rows, sheet, sheets, terms, findings, report_of, report, version_line, or_head, head, ended, read_report}
 use Rattle.certificate.proofs.Spelling.{IsField, clean_word, outcome_spells}
-use Rattle.certificate.proofs.FieldLaws.{bind_ok, or_ok, test_ok, ok_is, last_law, word_law, before_law, natural_law, integer_law, naturals_law, position_law, row_law, small_bound, bound_between}
-use Rattle.certificate.proofs.TextLaws.{joined, TextLaw, some_line, cut_line-some, first_line_takes, line_law, lines_law, made_law, told_law}
+use Rattle.certificate.proofs.PositionLaws.{known_version, position_law, five_numbers}
+use Rattle.certificate.proofs.FieldLaws.{bind_ok, test_ok, ok_is, last_law, word_law, before_law, natural_law, integer_law, naturals_law, row_law, small_bound, bound_between}
+use Rattle.certificate.proofs.TextLaws.{joined, TextLaw, line_law, lines_law, made_law, told_law}
 
 -- ---- the lines
 
@@ -57,14 +60,10 @@ end_line_law : TextLaw end_line (λ _. line_text (codes "end" ∷ [])) (λ _. Un
 unfolding end_line
 end_line_law = told_law _ (λ _. Unit {0}) (line_law (word_law (codes "end") (clean_word (codes "end") refl)) (omega arith)) (λ u fits. (refl, tt)) (λ u fits. (tt, (omega arith, omega arith)))
 
-game_line_law : TextLaw game_line (λ p. line_text (codes "game" ∷ position_fields p)) IsPositionInRange
+game_line_law : (version : ℕ) → TextLaw (game_line version) (λ p. line_text (codes "game" ∷ position_fields p)) (λ p. IsPositionInRange p × (version_of p ≡ version))
 unfolding game_line
-game_line_law = told_law _ IsPositionInRange (line_law (before_law (codes "game") (clean_word (codes "game") refl) position_law) (omega arith)) (λ p fits. (refl, fits.0)) (λ p fits. (fits, seven p))
-  where
-    seven : (p : PositionText) → Within 7 7 (suc (length (position_fields p)))
-    seven (Goofspiel one two prizes score pay) = (omega arith, omega arith)
-    seven (OshiZumo size one two least place) = (omega arith, omega arith)
-    seven (Tron height width walls one two) = (omega arith, omega arith)
+game_line_law version = told_law _ (λ p. IsPositionInRange p × (version_of p ≡ version)) (line_law (before_law (codes "game") (clean_word (codes "game") refl) (position_law version)) (omega arith))
+    (λ p fits. (refl, fits.0)) (λ p fits. (fits, (omega (arith, five_numbers p), omega (arith, five_numbers p))))
 
 row_line_law : TextLaw row_line (λ row. line_text (row_fields row)) IsRowInRange
 unfolding row_line
@@ -213,30 +212,37 @@ body r =
 sheet_is : (side : Side) (total : ℕ) (s : Sheet) → IsSheetInRange side total s → record { side = side; total = total; rows = s.rows } ≡ s
 sheet_is side total s fits = sym (ap₂ (λ (side : Side) (total : ℕ). record { side = side; total = total; rows = s.rows }) fits.side_is fits.total_is)
 
-report_law : TextLaw report body IsInRange
+-- a report in range of the version
+abbrev IsInVersion : ℕ → Report → Type 0
+IsInVersion version r = IsInRange r × (version_of r.position ≡ version)
+
+report_law : (version : ℕ) → TextLaw (report version) body (IsInVersion version)
 unfolding report
-report_law =
-    made_law report_of (λ r. (r.position, ((r.weight, r.turns, r.asked, r.resolution), ((r.outcome, r.lower, r.upper, r.spent), (r.one.rows, r.two.rows))))) body IsInRange
-    (lines_law game_line_law (lines_law terms_law (lines_law findings_law sheets_law)))
+report_law version =
+    made_law report_of (λ r. (r.position, ((r.weight, r.turns, r.asked, r.resolution), ((r.outcome, r.lower, r.upper, r.spent), (r.one.rows, r.two.rows))))) body (IsInVersion version)
+    (lines_law (game_line_law version) (lines_law terms_law (lines_law findings_law sheets_law)))
     (λ x fits. let t = fits.1.0 in let f = fits.1.1.0 in let s = fits.1.1.1 in (
       refl,
-      record {
-        position = fits.0;
-        weight = t.0;
-        turns = t.1;
-        asked = t.2;
-        resolution = t.3;
-        lower = f.0;
-        upper = f.1;
-        workers = f.2.0;
-        spent = f.2.1;
-        one = record { side_is = refl; total_is = refl; few = s.0.few; rows = s.0.rows; rising = s.0.rising };
-        two = record { side_is = refl; total_is = refl; few = s.1.few; rows = s.1.rows; rising = s.1.rising };
-      },
-    ))
-    (λ r fits. (
       (
-        fits.position,
+        record {
+          position = fits.0.0;
+          weight = t.0;
+          turns = t.1;
+          asked = t.2;
+          resolution = t.3;
+          lower = f.0;
+          upper = f.1;
+          workers = f.2.0;
+          spent = f.2.1;
+          one = record { side_is = refl; total_is = refl; few = s.0.few; rows = s.0.rows; rising = s.0.rising };
+          two = record { side_is = refl; total_is = refl; few = s.1.few; rows = s.1.rows; rising = s.1.rising };
+        },
+        fits.0.1,
+      ),
+    ))
+    (λ r fitting. let fits = fitting.0 in (
+      (
+        (fits.position, fitting.1),
         (
           (fits.weight, fits.turns, fits.asked, fits.resolution),
           (
@@ -250,38 +256,47 @@ report_law =
 
 -- ---- the text in one row
 
-abbrev head_fields : List (List ℕ)
-head_fields = codes "dosolve" ∷ codes "report" ∷ codes "1" ∷ []
+abbrev head_fields : ℕ → List (List ℕ)
+head_fields version = codes "dosolve" ∷ codes "report" ∷ decimal version ∷ []
 
 grouped : (w t a r o l u s rest : List ℕ) → w ++ (t ++ (a ++ (r ++ (o ++ (l ++ (u ++ (s ++ rest))))))) ≡ (w ++ (t ++ (a ++ r))) ++ ((o ++ (l ++ (u ++ s))) ++ rest)
 grouped w t a r o l u s rest = simp append_assoc
 
-report_text-body : (r : Report) → report_text r ≡ line_text head_fields ++ body r
+report_text-body : (r : Report) → report_text r ≡ line_text (head_fields (version_of r.position)) ++ body r
 unfolding report_lines
 report_text-body r =
     let one = sheet_lines (codes "one") r.one.rows in
     let two = sheet_lines (codes "two") r.two.rows in
     let last = (codes "end" ∷ []) ∷ [] in
     let both : text_of (one ++ (two ++ last)) ≡ sheets_text (r.one.rows, r.two.rows) = flat_map-append line_text one (two ++ last) ∙ ap (λ (rest : List ℕ). text_of one ++ rest) (flat_map-append line_text two last) in
-    ap (λ (rest : List ℕ). line_text head_fields ++ (line_text (codes "game" ∷ position_fields r.position) ++ rest))
+    ap (λ (rest : List ℕ). line_text (head_fields (version_of r.position)) ++ (line_text (codes "game" ∷ position_fields r.position) ++ rest))
     (grouped (line_text (codes "weight" ∷ decimal r.weight ∷ [])) (line_text (codes "turns" ∷ decimal r.turns ∷ [])) (line_text (codes "asked" ∷ signed_decimal r.asked ∷ [])) (line_text (codes "resolution" ∷ signed_decimal r.resolution ∷ []))
     (line_text (codes "outcome" ∷ outcome_word r.outcome ∷ [])) (line_text (codes "lower" ∷ signed_decimal r.lower ∷ [])) (line_text (codes "upper" ∷ signed_decimal r.upper ∷ [])) (line_text (codes "spent" ∷ map decimal r.spent)) (text_of (one ++ (two ++ last)))
     ∙ ap (λ (rest : List ℕ). terms_text (r.weight, r.turns, r.asked, r.resolution) ++ (findings_text (r.outcome, r.lower, r.upper, r.spent) ++ rest)) both)
 
 -- ---- the head and the end
 
-head_takes : (u : Unread) (x : Unit {0} × Unread) → head u ≡ Ok x → joined u.parts ≡ line_text head_fields ++ joined x.1.parts
-unfolding head
-head_takes u x e =
-    let cut = bind_ok (or_fault (first_line u) Head) _ x e in
-    let c = first_line_takes u cut.0 (or_ok (first_line u) Head cut.0 cut.1) in
-    let t = test_ok (bytes_eq cut.0.0 (codes "dosolve report 1")) _ _ x cut.2 in
-    subst (λ (x : Unit {0} × Unread). joined u.parts ≡ line_text head_fields ++ joined x.1.parts) (ok_is (tt, cut.0.1) x t.1)
-    (c.text ∙ ap (λ (line : List ℕ). line ++ (10 ∷ joined cut.0.1.parts)) ((bytes_eq-Decides cut.0.0 (codes "dosolve report 1")).0 t.0))
+version_line_law : TextLaw version_line (λ v. line_text (head_fields v)) (Within 1 newest_version)
+unfolding version_line
+version_line_law = told_law _ (Within 1 newest_version)
+    (line_law (before_law (codes "dosolve") (clean_word (codes "dosolve") refl) (before_law (codes "report") (clean_word (codes "report") refl) (natural_law 1 newest_version (omega arith)))) (omega arith))
+    (λ v fits. (refl, fits.0)) (λ v fits. (fits, (omega arith, omega arith)))
 
-head_again : (rest : List ℕ) → head (record { parts = lines_in (line_text head_fields ++ rest); number = 1 }) ≡ Ok (tt, record { parts = lines_in rest; number = 2 })
-unfolding head first_line
-head_again rest = rw (cut_line-some (codes "dosolve report 1") (lines_in rest) 1 (some_line rest)) refl
+or_head_ok : {A : Type 0} (r : Result A TextError) (x : A) → or_head r ≡ Ok x → r ≡ Ok x
+or_head_ok (Ok y) x e = e
+or_head_ok (Err f) x e = absurd cc
+
+pub or_head_err : {A : Type 0} (r : Result A TextError) (e : TextError) → Fails e r → ¬ (e ≡ NoMemory) → or_head r ≡ Err Head
+or_head_err r NoMemory is not = absurd (not refl)
+or_head_err r e is not = rw is refl
+
+head_takes : (u : Unread) (x : ℕ × Unread) → head u ≡ Ok x → joined u.parts ≡ line_text (head_fields x.0) ++ joined x.1.parts
+unfolding head
+head_takes u x e = (version_line_law.takes u x (or_head_ok (version_line u) x e)).0
+
+head_again : (k : GameKind) (rest : List ℕ) → (m : ℕ) × (head (record { parts = lines_in (line_text (head_fields (game_version k)) ++ rest); number = 1 }) ≡ Ok (game_version k, record { parts = lines_in rest; number = m }))
+unfolding head
+head_again k rest = let a = version_line_law.again 1 (game_version k) rest (known_version k) in (a.0, ap or_head a.1)
 
 nothing_left : (lines : List (List ℕ)) → ended lines ≡ true → joined lines ≡ []
 nothing_left [] e = absurd cc
@@ -293,19 +308,24 @@ nothing_left (line ∷ next ∷ more) e = absurd cc
 pub read_again : (r : Report) → IsInRange r → read_report (report_text r) ≡ Ok r
 unfolding read_report
 read_again r fits =
-    let a = report_law.again 2 r [] fits in
-    let rest = rw append-nil at a.1 in
-    ap read_report (report_text-body r) ∙ rw (head_again (body r), rest) refl
+    let version = version_of r.position in
+    let h = head_again (kind_of r.position) (body r) in
+    let a = (report_law version).again h.0 r [] (fits, refl) in
+    let rest = subst (λ (t : List ℕ). report version (record { parts = lines_in t; number = h.0 }) ≡ Ok (r, record { parts = lines_in []; number = a.0 })) (append-nil (body r)) a.1 in
+    ap read_report (report_text-body r) ∙ rw (h.1, rest) refl
 
 -- Bytes that are read as a report are its text, and it is in range.
 pub read_takes : (bytes : List ℕ) (r : Report) → read_report bytes ≡ Ok r → (bytes ≡ report_text r) × IsInRange r
 unfolding read_report
 read_takes bytes r e =
     let h = bind_ok (head (record { parts = lines_in bytes; number = 1 })) _ r e in
-    let x = bind_ok (report h.0.1) _ r h.2 in
+    let x = bind_ok (report h.0.0 h.0.1) _ r h.2 in
     let over = test_ok (ended x.0.1.parts) _ _ r x.2 in
-    let taken = report_law.takes h.0.1 x.0 x.1 in
-    let whole : bytes ≡ report_text x.0.0 =
+    let taken = (report_law h.0.0).takes h.0.1 x.0 x.1 in
+    let text = x.0.0 in
+    let front : ℕ → List ℕ = λ version. line_text (head_fields version) in
+    let whole : bytes ≡ report_text text =
     sym (join_with_byte-slice_split 10 bytes) ∙ head_takes _ h.0 h.1
-    ∙ ap (λ (rest : List ℕ). line_text head_fields ++ rest) (taken.0 ∙ ap (λ (rest : List ℕ). body x.0.0 ++ rest) (nothing_left x.0.1.parts over.0) ∙ append-nil (body x.0.0)) ∙ sym (report_text-body x.0.0) in
-    subst (λ (r : Report). (bytes ≡ report_text r) × IsInRange r) (ok_is x.0.0 r over.1) (whole, taken.1)
+    ∙ ap (λ (rest : List ℕ). front h.0.0 ++ rest) (taken.0 ∙ ap (λ (rest : List ℕ). body text ++ rest) (nothing_left x.0.1.parts over.0) ∙ append-nil (body text))
+    ∙ ap (λ (version : ℕ). front version ++ body text) (sym taken.1.1) ∙ sym (report_text-body text) in
+    subst (λ (r : Report). (bytes ≡ report_text r) × IsInRange r) (ok_is text r over.1) (whole, taken.1.0)

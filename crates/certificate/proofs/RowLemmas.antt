@@ -4,7 +4,8 @@ use Rattle.plan_book.specs.declared.SheetRow.{SheetRow}
 use Rattle.certificate.specs.declared.error.TextError.{TextError}
 use Rattle.certificate.specs.declared.error.TextError.TheVariants.{NoMemory}
 use Rattle.certificate.specs.Unread.{Unread}
-use Rattle.certificate.specs.Reading.{◌>>=◌, Fails, next_row, rows}
+use Rattle.certificate.specs.Readers.{◌>>=◌, Fails}
+use Rattle.certificate.specs.Reading.{next_row, rows}
 
 abbrev pub Rows : Type 0
 Rows = Result (List SheetRow × Unread) TextError

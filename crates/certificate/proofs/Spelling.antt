@@ -11,14 +11,13 @@ use Rattle.std.proofs.lemmas.List.{length-map, length-append}
 use Rattle.std.proofs.lemmas.List.Elements.{All-nil, All-cons, All-head, All-tail, All-append, All-weaker, All-from_get_or}
 use Rattle.std.proofs.lemmas.List.Splits.{slice_split_at, slice_split_none, join_with_byte-slice_split}
 use Rattle.std.proofs.lemmas.Slice.Eq.{bytes_eq-Decides}
-use Rattle.goofspiel.specs.declared.Pay.{Pay}
-use Rattle.goofspiel.specs.declared.Pay.TheVariants.{Margin, Win}
 use Rattle.certificate.specs.declared.report.Outcome.{Outcome}
 use Rattle.certificate.specs.declared.report.Outcome.TheVariants.{Closed, Settled, Spent, Full}
-use Rattle.certificate.specs.Numbers.{natural_in, integer_in}
-use Rattle.certificate.specs.Texts.{list_text, pay_word, outcome_word}
-use Rattle.certificate.specs.Ranges.{Within, Between, IsByteList}
-use Rattle.certificate.specs.Reading.{naturals_in, has_parts, list_in, pay_of, outcome_of}
+use Rattle.text.specs.Texts.{list_text}
+use Rattle.certificate.specs.Numbers.{natural_in, integer_in, Within, Between, IsByteList}
+use Rattle.certificate.specs.Readers.{naturals_in, has_parts, list_in}
+use Rattle.certificate.specs.Texts.{outcome_word}
+use Rattle.certificate.specs.Reading.{outcome_of}
 use Rattle.certificate.proofs.NumberLemmas.{number_takes, number_again, signed_takes, signed_again}
 
 -- some bytes, none of them a space or a line feed
@@ -81,7 +80,7 @@ integer_spells low high small = record {
 
 -- ---- words
 
-find_passes : {A : Type 0} (p : A → Bool) (xs : List A) (a : A) → find p xs ≡ Some a → p a ≡ true
+pub find_passes : {A : Type 0} (p : A → Bool) (xs : List A) (a : A) → find p xs ≡ Some a → p a ≡ true
 find_passes p [] a e = absurd cc
 find_passes p (x ∷ xs) a e =
     elim (p x) as (λ t. p x ≡ t → cond t (Some x) (find p xs) ≡ Some a → p a ≡ true) [
@@ -99,18 +98,6 @@ clean_word w e = let parts = and_parts (not (length w == 0)) (list_all (λ b. le
     above : (w : List ℕ) → list_all (λ b. leb 33 b) w ≡ true → All (λ b. 33 ≤ b) w
     above [] e = All-nil (λ b. 33 ≤ b)
     above (b ∷ bs) e = let parts = and_parts (leb 33 b) (list_all (λ b. leb 33 b) bs) e in All-cons (λ b. 33 ≤ b) b bs (leb-true _ _ parts.0) (above bs parts.1)
-
-pub pay_spells : Spells pay_of pay_word (λ _. Unit {0})
-unfolding pay_of
-pay_spells = record { takes = λ w p e. ((bytes_eq-Decides w (pay_word p)).0 (find_passes (λ p. bytes_eq w (pay_word p)) (Margin ∷ Win ∷ []) p e), tt); again = again; clean = clean }
-  where
-    again : (p : Pay) → Unit {0} → pay_of (pay_word p) ≡ Some p
-    again Margin u = refl
-    again Win u = refl
-
-    clean : (p : Pay) → Unit {0} → IsField (pay_word p)
-    clean Margin u = clean_word (codes "margin") refl
-    clean Win u = clean_word (codes "win") refl
 
 pub outcome_spells : Spells outcome_of outcome_word (λ _. Unit {0})
 unfolding outcome_of
@@ -226,18 +213,18 @@ join-list_text : (ns : List ℕ) → 0 < length ns → join_with_byte 44 (map de
 join-list_text [] some = absurd (omega arith)
 join-list_text (n ∷ ns) some = refl
 
-list_takes : (text ns : List ℕ) → list_in text ≡ Some ns → (text ≡ list_text ns) × IsByteList ns
+list_takes : (most : ℕ) (text ns : List ℕ) → list_in most text ≡ Some ns → (text ≡ list_text ns) × IsByteList most ns
 unfolding list_in
-list_takes text ns e =
+list_takes most text ns e =
     let parts = slice_split (λ b. b == 44) text in
-    elim (bytes_eq text (codes "-")) as (λ t. bytes_eq text (codes "-") ≡ t → cond t (Some []) (cond (has_parts 1 255 parts) (naturals_in 0 255 parts) None) ≡ Some ns → (text ≡ list_text ns) × IsByteList ns) [
+    elim (bytes_eq text (codes "-")) as (λ t. bytes_eq text (codes "-") ≡ t → cond t (Some []) (cond (has_parts 1 most parts) (naturals_in 0 255 parts) None) ≡ Some ns → (text ≡ list_text ns) × IsByteList most ns) [
       | true ↦ λ is h.
           let none : ◌≡◌ {A = List ℕ} [] ns = cc in
-          subst (λ ns. (text ≡ list_text ns) × IsByteList ns) none ((bytes_eq-Decides text (codes "-")).0 is, record { few = omega arith; small = All-nil (λ n. n ≤ 255) })
+          subst (λ ns. (text ≡ list_text ns) × IsByteList most ns) none ((bytes_eq-Decides text (codes "-")).0 is, record { few = omega arith; small = All-nil (λ n. n ≤ 255) })
       | false ↦ λ is h.
-          elim (has_parts 1 255 parts) as (λ t. has_parts 1 255 parts ≡ t → cond t (naturals_in 0 255 parts) None ≡ Some ns → (text ≡ list_text ns) × IsByteList ns) [
+          elim (has_parts 1 most parts) as (λ t. has_parts 1 most parts ≡ t → cond t (naturals_in 0 255 parts) None ≡ Some ns → (text ≡ list_text ns) × IsByteList most ns) [
             | true ↦ λ form h.
-                let size = has_parts-bounds 1 255 parts form in
+                let size = has_parts-bounds 1 most parts form in
                 let numbers = naturals_takes 255 parts ns (omega arith) h in
                 let len : length parts ≡ length ns = ap length numbers.text ∙ length-map ns decimal in
                 (sym (join_with_byte-slice_split 44 text) ∙ ap (join_with_byte 44) numbers.text ∙ join-list_text ns (omega (arith, len, size.0)), record { few = omega (arith, len, size.1); small = numbers.fits })
@@ -245,22 +232,22 @@ list_takes text ns e =
           ] refl h
     ] refl e
 
-list_again : (ns : List ℕ) → IsByteList ns → list_in (list_text ns) ≡ Some ns
+list_again : (most : ℕ) (ns : List ℕ) → IsByteList most ns → list_in most (list_text ns) ≡ Some ns
 unfolding list_in
-list_again [] fit = refl
-list_again (n ∷ ns) fit =
+list_again most [] fit = refl
+list_again most (n ∷ ns) fit =
     let parts = numerals (n ∷ ns) fit.small in
     let listed = All-join IsInList 44 (map decimal (n ∷ ns)) (omega arith) (numerals_as IsInList (λ b h e. omega arith) (map decimal (n ∷ ns)) parts) in
     let split = split-join 44 48 (decimal n) (map decimal ns) (omega arith) parts in
     let clean = numbers_clean 255 (n ∷ ns) (omega arith) fit.small in
-    let form = has_parts-true 1 255 (map decimal (n ∷ ns)) clean (omega arith, omega (arith, length-map ns decimal, fit.few)) in
+    let form = has_parts-true 1 most (map decimal (n ∷ ns)) clean (omega arith, omega (arith, length-map ns decimal, fit.few)) in
     rw (no_dash _ listed, split, form) (naturals_again 255 (n ∷ ns) (omega arith) fit.small)
 
-list_clean : (ns : List ℕ) → IsByteList ns → IsField (list_text ns)
-list_clean [] fit = clean_word (codes "-") refl
-list_clean (n ∷ ns) fit =
+list_clean : (most : ℕ) (ns : List ℕ) → IsByteList most ns → IsField (list_text ns)
+list_clean most [] fit = clean_word (codes "-") refl
+list_clean most (n ∷ ns) fit =
     let parts = numerals (n ∷ ns) fit.small in
     (some_joined 44 (decimal n) (map decimal ns) (digits_from n (omega (arith, All-head (λ n. n ≤ 255) n ns fit.small))).0, All-join (λ b. 33 ≤ b) 44 (map decimal (n ∷ ns)) (omega arith) (numerals_as (λ b. 33 ≤ b) (λ b h. omega arith) (map decimal (n ∷ ns)) parts))
 
-pub list_spells : Spells list_in list_text IsByteList
-list_spells = record { takes = list_takes; again = list_again; clean = list_clean }
+pub list_spells : (most : ℕ) → Spells (list_in most) list_text (IsByteList most)
+list_spells most = record { takes = list_takes most; again = list_again most; clean = list_clean most }

@@ -1,30 +1,14 @@
 -- The reports that have a text: each number is in its range.
-use Rattle.std.specs.Prelude.{◌≡◌, ℕ, ◌≤◌, ℤ, pos, neg_ℤ, ◌≤ℤ◌, unsigned_abs, List, length, map, All}
+use Rattle.std.specs.Prelude.{◌≡◌, ℕ, ◌≤◌, pos, unsigned_abs, length, map, All}
 use Rattle.std.specs.List.Sorted.{IsStrictlyIncreasing}
 use Rattle.sim_game.specs.declared.Side.{Side}
 use Rattle.sim_game.specs.declared.Side.TheVariants.{One, Two}
 use Rattle.plan_book.specs.declared.Sheet.{Sheet}
 use Rattle.plan_book.specs.declared.SheetRow.{SheetRow}
-use Rattle.certificate.specs.declared.report.PositionText.{PositionText}
-use Rattle.certificate.specs.declared.report.PositionText.TheVariants.{Goofspiel, OshiZumo, Tron}
 use Rattle.certificate.specs.declared.report.Ask.{Ask}
 use Rattle.certificate.specs.declared.report.Report.{Report}
-
-abbrev pub Within : ℕ → ℕ → ℕ → Type 0
-Within low high n = (low ≤ n) × (n ≤ high)
-
-abbrev pub Between : ℤ → ℤ → ℤ → Type 0
-Between low high z = low ≤ℤ z × z ≤ℤ high
-
--- at most 255 numbers from 0 to 255
-pub record IsByteList (ns : List ℕ) : Type 0 where
-  pub few : length ns ≤ 255
-  pub small : All (λ n. n ≤ 255) ns
-
-abbrev pub IsPositionInRange : PositionText → Type 0
-IsPositionInRange (Goofspiel one two prizes score pay) = IsByteList one × IsByteList two × IsByteList prizes × unsigned_abs score ≤ 1000000
-IsPositionInRange (OshiZumo size one two least place) = size ≤ 255 × one ≤ 255 × two ≤ 255 × least ≤ 255 × Between (neg_ℤ (pos 128)) (pos 127) place
-IsPositionInRange (Tron height width walls one two) = height ≤ 255 × width ≤ 255 × IsByteList walls × one ≤ 255 × two ≤ 255
+pub use Rattle.certificate.specs.Numbers.{Within, Between, IsByteList}
+pub use Rattle.certificate.specs.Positions.{IsPositionInRange}
 
 pub record IsRowInRange (row : SheetRow) : Type 0 where
   pub key : row.key ≤ 9223372036854775807

@@ -9,7 +9,7 @@ use thiserror::Error;
 /// The first fault of a text. Lines are numbered from 1.
 #[derive(Clone, Copy, Debug, PartialEq, Eq, Error)]
 pub enum TextError {
-    /// The text does not begin with the line `dosolve report 1`.
+    /// The text does not begin with the first line of a report.
     #[error("the first line is not a report's")]
     Head,
     /// The line has another word, another number of fields or an empty field.

@@ -10,15 +10,14 @@ mod positions;
 mod reading;
 mod report;
 mod rows;
-mod text;
 mod writing;
 
 pub use error::TextError;
 pub use goofspiel::Pay;
 pub use numbers::natural;
-pub use reading::{read, reading_undoes_writing};
+pub use positions::GameKind;
+pub use reading::{read, reading_undoes_writing, texts_are_short};
 pub use report::{Ask, Outcome, PositionText, Report};
-pub use text::Text;
 pub use writing::write;
 
 #[cfg(test)]

@@ -2,7 +2,8 @@
 
 ghost use Rattle.std.specs.Prelude.{◌≡◌, ◌==◌, ◌≤◌, ◌≤ℤ◌, length, drop, option_map, Some, None, IfOk, IfSome};
 ghost use Rattle.certificate.specs.declared.error.TextError.TheVariants as errors;
-ghost use Rattle.certificate.specs.Reading.{Gives, lines_in, first_line, next_line, natural_line, integer_line, ended, field, expected, natural, integer, list, naturals};
+ghost use Rattle.certificate.specs.Readers.{Gives, lines_in, first_line, next_line, field, expected, natural, integer, list, naturals};
+ghost use Rattle.certificate.specs.Reading.{natural_line, integer_line, ended};
 
 use crate::parts::{Parts, has_parts};
 use crate::{TextError, lists, numbers};
@@ -60,7 +61,7 @@ impl<'a> Lines<'a> {
     }
 
     /// The first line, where a line feed ends it.
-    #[tactic(auto, unfolding(crate::specs::Reading::first_line))]
+    #[tactic(auto, unfolding(crate::specs::Readers::first_line))]
     pub(crate) fn first(&mut self) -> Option<&'a [u8]>
         ensures { option_map (λ line. (line.now, self.new)) result ≡ first_line self.old }
     {
@@ -73,7 +74,7 @@ impl<'a> Lines<'a> {
     }
 
     /// The fields of the next line, from `least` to `most` of them and none empty.
-    #[tactic(auto, unfolding(crate::specs::Reading::next_line))]
+    #[tactic(auto, unfolding(crate::specs::Readers::next_line))]
     pub(crate) fn line(&mut self, least: usize, most: usize) -> Result<Line<'a>, TextError>
         ensures { Gives (λ l. (l, self.new)) result (next_line least most self.old) }
     {
@@ -139,7 +140,7 @@ impl<'a> Line<'a> {
     }
 
     /// The next field.
-    #[tactic(auto, unfolding(crate::specs::Reading::field))]
+    #[tactic(auto, unfolding(crate::specs::Readers::field))]
     pub(crate) fn field(&mut self) -> Result<&'a [u8], TextError>
         ensures { Gives (λ f. (f.now, self.new)) result (field self.old) }
     {
@@ -152,7 +153,7 @@ impl<'a> Line<'a> {
     }
 
     /// Goes past a field with this word.
-    #[tactic(auto, unfolding(crate::specs::Reading::expected))]
+    #[tactic(auto, unfolding(crate::specs::Readers::expected))]
     pub(crate) fn expect(&mut self, word: &[u8]) -> Result<(), TextError>
         ensures { Gives (λ u. (u, self.new)) result (expected word.now self.old) }
     {
@@ -164,7 +165,7 @@ impl<'a> Line<'a> {
     }
 
     /// A number from `low` to `high`.
-    #[tactic(auto, unfolding(crate::specs::Reading::natural))]
+    #[tactic(auto, unfolding(crate::specs::Readers::natural))]
     pub(crate) fn natural(&mut self, low: u64, high: u64) -> Result<u64, TextError>
         ensures exact { Gives (λ n. (n, self.new)) result (natural low high self.old) }
         ensures low { IfOk result (λ n. low ≤ n) }
@@ -184,7 +185,7 @@ impl<'a> Line<'a> {
     }
 
     /// A whole number from `low` to `high`.
-    #[tactic(auto, unfolding(crate::specs::Reading::integer))]
+    #[tactic(auto, unfolding(crate::specs::Readers::integer))]
     pub(crate) fn integer(&mut self, low: i64, high: i64) -> Result<i64, TextError>
         ensures exact { Gives (λ z. (z, self.new)) result (integer low high self.old) }
         ensures low { IfOk result (λ z. low ≤ℤ z) }
@@ -195,18 +196,18 @@ impl<'a> Line<'a> {
         numbers::integer(field, low, high).ok_or(TextError::Number { number })
     }
 
-    /// At most 255 numbers from 0 to 255.
-    #[tactic(auto, unfolding(crate::specs::Reading::list))]
-    pub(crate) fn list(&mut self, alloc: Global) -> Result<Seq<u8>, TextError>
-        ensures { Gives (λ ns. (ns, self.new)) result (list self.old) }
+    /// At most `most` numbers from 0 to 255.
+    #[tactic(auto, unfolding(crate::specs::Readers::list))]
+    pub(crate) fn list(&mut self, alloc: Global, most: usize) -> Result<Seq<u8>, TextError>
+        ensures { Gives (λ ns. (ns, self.new)) result (list most self.old) }
     {
         let number = self.number;
         let field = self.field()?;
-        lists::list(alloc, field)?.ok_or(TextError::Number { number })
+        lists::list(alloc, field, most)?.ok_or(TextError::Number { number })
     }
 
     /// The weights that all further fields spell.
-    #[tactic(auto, unfolding(crate::specs::Reading::naturals))]
+    #[tactic(auto, unfolding(crate::specs::Readers::naturals))]
     pub(crate) fn weights(&mut self, alloc: Global) -> Result<Seq<u32>, TextError>
         ensures { Gives (λ ns. (ns, self.new)) result (naturals 0 1048576 self.old) }
     {
@@ -219,7 +220,7 @@ impl<'a> Line<'a> {
     }
 
     /// The counts of turns that all further fields spell.
-    #[tactic(auto, unfolding(crate::specs::Reading::naturals))]
+    #[tactic(auto, unfolding(crate::specs::Readers::naturals))]
     pub(crate) fn turns(&mut self, alloc: Global) -> Result<Seq<u64>, TextError>
         ensures { Gives (λ ns. (ns, self.new)) result (naturals 0 1099511627776 self.old) }
     {

@@ -1,7 +1,7 @@
 //! Lists of numbers.
 
 ghost use Rattle.std.specs.Prelude.{◌≡◌, [], option_map, IfOk, IfSome};
-ghost use Rattle.certificate.specs.Reading.{naturals_in, list_in};
+ghost use Rattle.certificate.specs.Readers.{naturals_in, list_in};
 
 use crate::numbers::natural;
 use crate::parts::{Parts, has_parts};
@@ -51,15 +51,15 @@ pub(crate) fn turns(alloc: Global, parts: &mut Parts) -> Result<Option<Vec<u64>>
     Ok(Some(numbers))
 }
 
-/// At most 255 numbers with a comma between each two, or a dash for none.
-#[tactic(auto, unfolding(crate::specs::Reading::list_in))]
-pub(crate) fn list(alloc: Global, text: &[u8]) -> Result<Option<Seq<u8>>, AllocError>
-    ensures { IfOk result (λ o. o ≡ list_in text.now) }
+/// At most `most` numbers with a comma between each two, or a dash for none.
+#[tactic(auto, unfolding(crate::specs::Readers::list_in))]
+pub(crate) fn list(alloc: Global, text: &[u8], most: usize) -> Result<Option<Seq<u8>>, AllocError>
+    ensures { IfOk result (λ o. o ≡ list_in most text.now) }
 {
     if text == b"-".as_slice() {
         return Ok(Some(Seq::from_vec(Vec::new(alloc))));
     }
-    if !has_parts(text, b',', 1, 255) {
+    if !has_parts(text, b',', 1, most) {
         return Ok(None);
     }
     match bytes(alloc, &mut Parts::new(text, b','))? {

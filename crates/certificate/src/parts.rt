@@ -2,7 +2,7 @@
 
 ghost use Rattle.std.specs.Prelude.{◌≡◌, ◌==◌, ◌<◌, [], ◌∷◌, length, drop, position, MatchOption, IfSome};
 ghost use Rattle.std.specs.List.{slice_split};
-ghost use Rattle.certificate.specs.Reading.{has_parts};
+ghost use Rattle.certificate.specs.Readers.{has_parts};
 
 use std::marker::Model;
 

@@ -1,12 +1,13 @@
 //! The report that a text spells.
 
-ghost use Rattle.std.specs.Prelude.{◌≡◌, ℕ, List, Ok, IfOk};
+ghost use Rattle.std.specs.Prelude.{◌≡◌, ◌≤◌, ℕ, List, length, Ok, IfOk};
 ghost use Rattle.certificate.specs.declared.report.Report.{Report};
 ghost use Rattle.certificate.specs.Ranges.{IsInRange};
 ghost use Rattle.certificate.specs.Texts.{report_text};
-ghost use Rattle.certificate.specs.Reading.{Gives, outcome_of, outcome, outcome_line, spent_line, end_line, head, terms, findings, sheets, report, read_report};
+ghost use Rattle.certificate.specs.Reading.{Gives, outcome_of, outcome, outcome_line, spent_line, end_line, version_line, head, terms, findings, sheets, report, read_report};
 
 use crate::lines::{Line, Lines};
+use crate::positions::NEWEST_VERSION;
 use crate::{Outcome, Report, TextError};
 use plan_book::{Sheet, SheetRow};
 use seq::Seq;
@@ -61,15 +62,27 @@ impl Lines<'_> {
         line.expect(b"end")
     }
 
-    #[tactic(auto, unfolding(crate::specs::Reading::head))]
-    fn head(&mut self) -> Result<(), TextError>
-        ensures { Gives (λ u. (u, self.new)) result (head self.old) }
+    #[tactic(auto, unfolding(crate::specs::Reading::version_line))]
+    fn version(&mut self) -> Result<u32, TextError>
+        ensures { Gives (λ v. (v, self.new)) result (version_line self.old) }
     {
-        let line = self.first().ok_or(TextError::Head)?;
-        if line != b"dosolve report 1".as_slice() {
-            return Err(TextError::Head);
+        let mut line = self.line(3, 3)?;
+        line.expect(b"dosolve")?;
+        line.expect(b"report")?;
+        let version = line.natural(1, NEWEST_VERSION)?;
+        Ok(version as u32)
+    }
+
+    /// The version, of which the first line tells.
+    #[tactic(auto, unfolding(crate::specs::Reading::head))]
+    fn head(&mut self) -> Result<u32, TextError>
+        ensures { Gives (λ v. (v, self.new)) result (head self.old) }
+    {
+        match self.version() {
+            Ok(version) => Ok(version),
+            Err(TextError::NoMemory) => Err(TextError::NoMemory),
+            Err(_) => Err(TextError::Head),
         }
-        Ok(())
     }
 
     /// The weight, the turns, the gap asked and the resolution.
@@ -107,12 +120,12 @@ impl Lines<'_> {
         Ok((one, two))
     }
 
-    /// The lines behind the first.
+    /// The lines behind the first, in a report of the version.
     #[tactic(auto, unfolding(crate::specs::Reading::report))]
-    fn report(&mut self, alloc: Global) -> Result<Report, TextError>
-        ensures { Gives (λ r. (r, self.new)) result (report self.old) }
+    fn report(&mut self, alloc: Global, version: u32) -> Result<Report, TextError>
+        ensures { Gives (λ r. (r, self.new)) result (report version self.old) }
     {
-        let position = self.game(alloc)?;
+        let position = self.game(alloc, version)?;
         let (weight, turns, asked, resolution) = self.terms()?;
         let (outcome, lower, upper, spent) = self.findings(alloc)?;
         let (one, two) = self.sheets(alloc)?;
@@ -150,8 +163,8 @@ pub fn read(alloc: Global, text: &[u8]) -> Result<Report, TextError>
     ensures text { IfOk result (λ r. text.now ≡ report_text r) }
 {
     let mut lines = Lines::new(text);
-    lines.head()?;
-    let report = lines.report(alloc)?;
+    let version = lines.head()?;
+    let report = lines.report(alloc, version)?;
     if !lines.is_over() {
         return Err(TextError::Tail);
     }
@@ -163,4 +176,9 @@ pub fn reading_undoes_writing()
     ensures again { (r : Report) → IsInRange r → read_report (report_text r) ≡ Ok r }
     ensures only { (bytes : List ℕ) (r : Report) → read_report bytes ≡ Ok r
         → (bytes ≡ report_text r) × IsInRange r }
+{}
+
+/// The text of a report in range has at most 1073741824 bytes.
+pub fn texts_are_short()
+    ensures { (r : Report) → IsInRange r → length (report_text r) ≤ 1073741824 }
 {}

@@ -59,6 +59,30 @@ pub enum PositionText {
         /// The head of Two.
         two: u8,
     },
+    /// Goofspiel whose next prize is drawn after each bid.
+    GoofspielDrawn {
+        /// The cards of One.
+        one: Seq<u8>,
+        /// The cards of Two.
+        two: Seq<u8>,
+        /// The prizes, of which the first is bid for first.
+        prizes: Seq<u8>,
+        /// One's prizes so far less Two's.
+        score: i32,
+        pay: Pay,
+    },
+    Pursuit {
+        /// How many nodes the graph has.
+        nodes: u8,
+        /// The edges, each by its two nodes one after the other.
+        edges: Seq<u8>,
+        /// The node of One, the pursuer.
+        one: u8,
+        /// The node of Two.
+        two: u8,
+        /// How many rounds are left.
+        rounds: u8,
+    },
 }
 
 /// How a search ended.

@@ -1,5 +1,5 @@
 -- The states found, after one more and after the walk from the root.
-use Rattle.std.proofs.Common.{◌≡◌, ℕ, Bool, true, false, cond, Option, None, Some, List, length, get_or, slice_get, ◌<◌, nat_cmp, inl, inr, refl, sym, ap, subst, ◌∙◌, arith}
+use Rattle.std.proofs.Common.{◌≡◌, ℕ, Bool, true, false, cond, Option, None, Some, List, get_or, nat_cmp, inl, inr, refl, sym, ap, subst, ◌∙◌, arith}
 use Rattle.std.proofs.lemmas.Bool.{cases_eq}
 use Rattle.std.proofs.lemmas.Bool.Decides.{nat_tests}
 use Rattle.std.specs.Option.{IsSome}
@@ -11,7 +11,6 @@ use Rattle.plan_book.specs.declared.SheetRow.{SheetRow}
 use Rattle.plan_book.specs.Gathered.{IsGathered}
 use Rattle.plan_book.specs.Sheets.{row_at, IsReached}
 use Rattle.plan_book.proofs.FoundLemmas.{reached_found}
-use Rattle.plan_book.proofs.GatherLemmas.{item_at}
 use Rattle.checker.specs.Found.{marks, AreStates, AreReached}
 
 is_key : (x y : ℕ) → x ≡ y → is_eq (nat_cmp x y) ≡ true
@@ -27,10 +26,6 @@ marked false s o = refl
 found_of : {S : Type 0} (o : Option S) → IsSome (option_map {U = ℕ} (λ _. 0) o) → IsSome o
 found_of None h = absurd (cc)
 found_of (Some s) h = refl
-
--- the row at the place found is that of the key
-pub row_of : (rows slice : List SheetRow) (key at place : ℕ) (row : SheetRow) → slice ≡ rows → at ≡ key → row_at slice at ≡ slice_get slice place → place < length slice → row ≡ get_or slice place row → row_at rows key ≡ Some row
-row_of rows slice key at place row same keyed here within is = rw (← same, ← keyed) (here ∙ item_at slice place row within is)
 
 pub weights_of : (slice : List SheetRow) (place : ℕ) (row : SheetRow) (weights : List ℕ) → row ≡ get_or slice place row → weights ≡ (get_or slice place row).weights → row.weights ≡ weights
 weights_of slice place row weights is same = ap (λ (x : SheetRow). x.weights) is ∙ sym same

@@ -1,11 +1,12 @@
 -- What can be wrong with a row of a sheet, and which fault is the first.
-use Rattle.std.specs.Prelude.{◌≡◌, ℕ, ◌<◌, ◌≤◌, ℤ, pos, ◌*ℤ◌, ◌≤ℤ◌, Option, None, Some, List, length, sum, slice_get, map, take, All}
+use Rattle.std.specs.Prelude.{◌≡◌, ℕ, ◌<◌, ◌≤◌, ℤ, pos, ◌*ℤ◌, ◌≤ℤ◌, Option, None, Some, List, slice_get, map, take, All}
 use Rattle.std.specs.List.Sorted.{IsStrictlyIncreasing}
 use Rattle.sim_game.specs.Model.{GameModel}
 use Rattle.sim_game.specs.declared.Side.TheVariants.{One, Two}
 use Rattle.sim_game.specs.Sides.{other_side, IsNoTighter, IsTighter, opening_bound, child_of}
 use Rattle.plan_book.specs.declared.Sheet.{Sheet}
 use Rattle.plan_book.specs.declared.SheetRow.{SheetRow}
+use Rattle.plan_book.specs.Plans.{AreWeights}
 use Rattle.plan_book.specs.Sheets.{row_at, bound_at, IsReached, IsLawfulRow, IsLawful}
 use Rattle.plan_book.specs.Steps.{worth, cell}
 use Rattle.certificate.specs.Ranges.{Within, IsRowInRange}
@@ -25,9 +26,8 @@ pub record IsUsed {S : Type 0} (m : GameModel S) (sheet : Sheet) (key : ℕ) (s 
   pub is_key : m.key s ≡ key
 
 -- one weight a move, and the weights sum to the total
-pub record IsWhole {S : Type 0} (m : GameModel S) (sheet : Sheet) (r : SheetRow) (s : S) : Type 0 where
-  pub one_each : length r.weights ≡ m.moves sheet.side s
-  pub sums : sum r.weights ≡ sheet.total
+abbrev pub IsWhole : {S : Type 0} → GameModel S → Sheet → SheetRow → S → Type 0
+IsWhole m sheet r s = AreWeights (m.moves sheet.side s) sheet.total r.weights
 
 -- the bound lies in the range of payoffs
 pub record IsInside {S : Type 0} (m : GameModel S) (r : SheetRow) : Type 0 where

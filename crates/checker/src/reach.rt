@@ -1,18 +1,15 @@
 //! The states that the rows of a sheet reach.
 
-ghost use Rattle.std.specs.Prelude.{◌≡◌, ◌<◌, ◌++◌, map, IfOk, slice_index};
+ghost use Rattle.std.specs.Prelude.{◌≡◌, map, IfOk};
 ghost use Rattle.std.specs.List.Sorted.{IsStrictlyIncreasing};
 ghost use Rattle.std.specs.Ordering.{nat_cmp};
 ghost use Rattle.std.specs.BTreeMap.{get};
-ghost use Rattle.sim_game.specs.Model.{Reachable};
-ghost use Rattle.sim_game.specs.Sides.{other_side};
-ghost use Rattle.plan_book.specs.Children.{children_of_pair, children_of_move, children_of};
 ghost use Rattle.plan_book.specs.Gathered.{IsGathered};
 ghost use Rattle.plan_book.specs.Sheets.{IsReached, row_at};
 ghost use Rattle.checker.specs.Found.{marks, AreStates, AreReached};
 
-use plan_book::{Sheet, place_of};
-use sim_game::{Game, NoMemory, Side};
+use plan_book::{Sheet, children, place_of};
+use sim_game::{Game, NoMemory};
 use std::alloc::Global;
 use std::collections::BTreeMap;
 
@@ -56,73 +53,6 @@ fn gather<G: Game>(
     let below = children(alloc, g, sheet.side, rows[place].weights.as_slice(), s)?;
     for child in &below {
         gather(alloc, g, sheet, *child, found)?;
-    }
-    Ok(())
-}
-
-/// The states after the own moves in range of positive weight.
-fn children<G: Game>(
-    alloc: Global,
-    g: G,
-    side: Side,
-    weights: &[u32],
-    s: G::State,
-) -> Result<Vec<G::State>, NoMemory>
-    requires { Reachable (G.model g) s }
-    ensures { IfOk result (λ children. children.items ≡ children_of (G.model g) side weights.now s) }
-{
-    let mut children = Vec::new(alloc);
-    for own in 0..g.moves(side, s) {
-        if weight_of(weights, own) > 0 {
-            add_move(g, side, s, own, &mut children)?;
-        }
-    }
-    Ok(children)
-}
-
-/// The weight of a move, which is 0 where the list has none for it.
-fn weight_of(weights: &[u32], own: u32) -> u32
-    ensures { result ≡ slice_index weights.now own }
-{
-    weights.get(own as usize).copied().unwrap_or(0)
-}
-
-/// Adds the states after an own move.
-fn add_move<G: Game>(
-    g: G,
-    side: Side,
-    s: G::State,
-    own: u32,
-    children: &mut Vec<G::State>,
-) -> Result<(), NoMemory>
-    requires reachable { Reachable (G.model g) s }
-    requires own { own < (G.model g).moves side s }
-    ensures { IfOk result (λ _. children.new.items ≡ children.old.items ++ children_of_move (G.model g) side s own) }
-{
-    for reply in 0..g.moves(side.other(), s) {
-        add_pair(g, side, s, own, reply, children)?;
-    }
-    Ok(())
-}
-
-/// Adds the states after an own move and a reply.
-fn add_pair<G: Game>(
-    g: G,
-    side: Side,
-    s: G::State,
-    own: u32,
-    reply: u32,
-    children: &mut Vec<G::State>,
-) -> Result<(), NoMemory>
-    requires reachable { Reachable (G.model g) s }
-    requires own { own < (G.model g).moves side s }
-    requires reply { reply < (G.model g).moves (other_side side) s }
-    ensures { IfOk result (λ _. children.new.items ≡ children.old.items ++ children_of_pair (G.model g) side s own reply) }
-{
-    let a = side.move_of_one(own, reply);
-    let b = side.move_of_two(own, reply);
-    for d in 0..g.draws(s, a, b) {
-        children.push(g.drawn(s, a, b, d))?;
     }
     Ok(())
 }

@@ -1,6 +1,6 @@
 //! The checks of a sheet's rows.
 
-ghost use Rattle.std.specs.Prelude.{◌≡◌, ◌≤◌, length, sum, IsSome, IfOk, MatchBool, MatchOption};
+ghost use Rattle.std.specs.Prelude.{IsSome, IfOk, MatchBool, MatchOption};
 ghost use Rattle.std.specs.Ordering.{nat_cmp};
 ghost use Rattle.std.specs.BTreeMap.{get};
 ghost use Rattle.sim_game.specs.Model.{Reachable};
@@ -13,7 +13,7 @@ ghost use Rattle.checker.specs.Found.{AreReached};
 use crate::reach::reached;
 use crate::verdict::Why;
 use crate::worth::worth;
-use plan_book::{Sheet, SheetRow};
+use plan_book::{Sheet, SheetRow, is_whole};
 use sim_game::{Game, NoMemory, Side, opening_bound};
 use std::alloc::Global;
 use std::collections::BTreeMap;
@@ -68,35 +68,13 @@ fn fault_at<G: Game>(g: G, sheet: &Sheet, row: &SheetRow, s: G::State) -> Option
 {
     let side = sheet.side;
     let key = row.key;
-    if !is_whole(g, sheet, row, s) {
+    if !is_whole(row.weights.as_slice(), g.moves(side, s), sheet.total) {
         return Some(Why::Weights { side, key });
     }
     if !is_inside(g, row) {
         return Some(Why::Outside { side, key });
     }
     reply_fault(g, sheet, row, s)
-}
-
-/// Whether there is one weight a move, and the weights sum to the total.
-fn is_whole<G: Game>(g: G, sheet: &Sheet, row: &SheetRow, s: G::State) -> bool
-    requires in_range { IsRowInRange row.now }
-    requires reachable { Reachable (G.model g) s }
-    ensures { MatchBool result (IsWhole (G.model g) sheet.now row.now s) (¬ IsWhole (G.model g) sheet.now row.now s) }
-{
-    let weights = row.weights.as_slice();
-    weights.len() == g.moves(sheet.side, s) as usize && total_of(weights) == sheet.total as u64
-}
-
-/// The sum of the weights.
-fn total_of(weights: &[u32]) -> u64
-    requires { length weights.now ≤ 32 }
-    ensures { result ≡ sum weights.now }
-{
-    let mut sum: u64 = 0;
-    for weight in weights {
-        sum += *weight as u64;
-    }
-    sum
 }
 
 /// Whether the row's bound is in the range of payoffs.

@@ -1,15 +1,7 @@
 //! Solves finite two-player zero-sum games in which both players move at the same time.
 #![tactic(auto)]
 
-mod bounds;
-mod check;
-mod laws;
-mod reports;
-mod run;
-mod sample;
-mod texts;
-mod words;
-
+use commands::run::run;
 use oracle_search::OpenGate;
 use position::{StdSink, StdSource};
 use std::alloc::Global;
@@ -31,10 +23,10 @@ fn main(rt: HostRuntime) -> ExitCode {
     let mut source = StdSource::new(rt.stdin());
     let mut sink = StdSink::new(rt.stdout());
     let status = match arguments(&rt) {
-        Ok(words) => run::run(&rt, rt.alloc(), &words, &mut source, &mut sink, &OpenGate),
+        Ok(words) => run(&rt, rt.alloc(), &words, &mut source, &mut sink, &OpenGate),
         Err(error) if error.kind() == ErrorKind::OutOfMemory => 8,
         // A word that is not UTF-8 is no command.
-        Err(_) => run::run(&rt, rt.alloc(), &[], &mut source, &mut sink, &OpenGate),
+        Err(_) => run(&rt, rt.alloc(), &[], &mut source, &mut sink, &OpenGate),
     };
     ExitCode::from(status)
 }

@@ -157,28 +157,26 @@ position_of g prizes one two one_count two_count count array inside score =
       score_small = score;
     }
 
--- ---- the walk over a hand to the card at a place
--- the lowest cards of the hand, this many, are gone
-pub record IsDropped (hand count rest : ℕ) : Type 0 where
+-- ---- the walk over a set to the number at a place
+-- the lowest numbers of the set, this many, are gone
+pub record IsDropped (low set count rest : ℕ) : Type 0 where
   pub small : rest < 2 ^ 13
-  pub is : cards rest ≡ drop count (cards hand)
+  pub is : members 13 low rest ≡ drop count (members 13 low set)
 
-pub none_dropped : (hand : ℕ) → hand < 2 ^ 13 → IsDropped hand 0 hand
-none_dropped hand h = record { small = h; is = refl }
-
--- a card is left
-left_over : (hand count rest : ℕ) → count < length (cards hand) → IsDropped hand count rest → 0 < rest
-left_over hand count rest l d =
-    let some : length (cards rest) ≡ length (cards hand) - count = ap length d.is ∙ length-drop count (cards hand) in
+-- a number is left
+left_over : (low set count rest : ℕ) → count < length (members 13 low set) → IsDropped low set count rest → 0 < rest
+left_over low set count rest l d =
+    let some : length (members 13 low rest) ≡ length (members 13 low set) - count = ap length d.is ∙ length-drop count (members 13 low set) in
     elim (cases_lt 0 rest) [
       | inl left ↦ left
-      | inr none ↦ let zero_left : rest ≡ 0 = omega arith in absurd (omega (arith, some, members_count 13 1 rest d.small, ap ones zero_left, ones_none))
+      | inr none ↦ let zero_left : rest ≡ 0 = omega arith in absurd (omega (arith, some, members_count 13 low rest d.small, ap ones zero_left, ones_none))
     ]
 
--- the lowest card that is left is the one at the place
-pub next_card : (hand count rest : ℕ) → count < length (cards hand) → IsDropped hand count rest → (0 < rest) × (1 + trailing_zeros w16 rest ≡ get_or (cards hand) count 0) × IsDropped hand (count + 1) (bit_and rest (rest - 1))
-next_card hand count rest l d =
-    let left = left_over hand count rest l d in
-    let split : (1 + trailing_zeros w16 rest) ∷ cards (bit_and rest (rest - 1)) ≡ get_or (cards hand) count 0 ∷ drop (count + 1) (cards hand) =
-    sym (members_lowest 13 1 16 rest (omega arith) left d.small) ∙ d.is ∙ drop_more (cards hand) count 0 l in
+-- the lowest number that is left is the one at the place
+pub next_number : (low set count rest : ℕ) → count < length (members 13 low set) → IsDropped low set count rest
+    → (0 < rest) × (low + trailing_zeros w16 rest ≡ get_or (members 13 low set) count 0) × IsDropped low set (count + 1) (bit_and rest (rest - 1))
+next_number low set count rest l d =
+    let left = left_over low set count rest l d in
+    let split : (low + trailing_zeros w16 rest) ∷ members 13 low (bit_and rest (rest - 1)) ≡ get_or (members 13 low set) count 0 ∷ drop (count + 1) (members 13 low set) =
+    sym (members_lowest 13 low 16 rest (omega arith) left d.small) ∙ d.is ∙ drop_more (members 13 low set) count 0 l in
     (left, ap (λ (xs : List ℕ). get_or xs 0 0) split, record { small = omega (arith, d.small, and_le_l rest (rest - 1)); is = ap (drop 1) split })

@@ -1,2 +1,3 @@
 mod Examples
 mod HandLemmas
+pub mod PositionLemmas

@@ -1,4 +1,4 @@
--- A packed hand and its list say the same.
+-- A packed set and its list say the same.
 use Rattle.std.proofs.Common.{◌≡◌, ℕ, zero, suc, ◌+◌, ◌-◌, ◌*◌, ◌/◌, ◌%◌, ◌^◌, ◌<◌, ◌≤◌, Bool, cond, eqb, List, [], ◌∷◌, length, get_or, refl, sym, ap, subst, ◌∙◌, inl, inr, arith, add-one}
 use Rattle.std.proofs.Math.Nat.{pow-succ'}
 use Rattle.std.proofs.lemmas.Bool.{cases_lt}
@@ -10,9 +10,9 @@ use Rattle.std.proofs.lemmas.Nat.Bits.{bit_at_lowest, bit_at-suc}
 use Rattle.std.specs.Int.{bit_at}
 use Rattle.std.specs.Int.Bits.{bit_and, and_self, and_zero_l, and_zero_r}
 use Rattle.std.specs.Int.Count.{ones, ones_step, count_trailing_zeros}
-use Rattle.std.specs.List.{All, filter, range_with_len, remove, sum_by}
+use Rattle.std.specs.List.{All, filter, range_with_len, remove}
 use Rattle.std.specs.List.Sorted.{IsStrictlyIncreasing}
-use Rattle.goofspiel.specs.Cards.{members, cards, packed}
+use Rattle.goofspiel.specs.Cards.{members, cards, packed, packed_from}
 
 -- ---- a packed set by halves: its lowest bit, and the others
 -- two tests that agree on a range keep the same numbers of it
@@ -77,8 +77,11 @@ members_count (suc n) low m l = by_halves (λ (k : ℕ). k < 2 ^ suc n → lengt
     omega (arith, rest, ap length (members_odd n low h), ones_step (2 * h + 1), ap ones half))
     m l
 
+pub few_members : (low set : ℕ) → set < 2 ^ 13 → length (members 13 low set) ≤ 13
+few_members low set h = omega (arith, members_count 13 low set h, ones-le 13 set h)
+
 pub few_cards : (hand : ℕ) → hand < 2 ^ 13 → length (cards hand) ≤ 13
-few_cards hand h = omega (arith, members_count 13 1 hand h, ones-le 13 hand h)
+few_cards hand h = few_members 1 hand h
 
 -- ---- the lowest number, and the others
 and_even : (h : ℕ) → 0 < h → bit_and (2 * h) (2 * h - 1) ≡ 2 * bit_and h (h - 1)
@@ -203,9 +206,6 @@ rising_increases low (x ∷ (y ∷ xs)) h (suc k) l =
     rw e (rising_increases (suc x) (y ∷ xs) h.1 k (omega arith))
 
 -- ---- the set is packed again
-abbrev pub packed_from : ℕ → List ℕ → ℕ
-packed_from low xs = sum_by (λ x. 2 ^ (x - low)) xs
-
 packed_cons : (low x : ℕ) (xs : List ℕ) → packed_from low (x ∷ xs) ≡ 2 ^ (x - low) + packed_from low xs
 packed_cons low x xs = sum_by-cons (λ y. 2 ^ (y - low)) x xs
 
@@ -228,37 +228,43 @@ members_packed (suc n) low m l = by_halves (λ (k : ℕ). k < 2 ^ suc n → pack
     ap (packed_from low) (members_odd n low h) ∙ packed_cons low low xs ∙ whole)
     m l
 
--- ---- the same of a hand
+-- ---- the same of 13 numbers
+pub set_packed : (low set : ℕ) → set < 2 ^ 13 → packed_from low (members 13 low set) ≡ set
+set_packed low set h = members_packed 13 low set h
+
 pub cards_packed : (hand : ℕ) → hand < 2 ^ 13 → packed (cards hand) ≡ hand
-cards_packed hand h = members_packed 13 1 hand h
+cards_packed hand h = set_packed 1 hand h
 
-pub cards_increase : (hand : ℕ) → IsStrictlyIncreasing (cards hand)
-cards_increase hand = rising_increases 1 (cards hand) (members_rising 13 1 hand)
+pub members_increase : (low set : ℕ) → IsStrictlyIncreasing (members 13 low set)
+members_increase low set = rising_increases low (members 13 low set) (members_rising 13 low set)
 
--- what holds of the card at place `i`, and of the hand without it
-pub record IsBid (hand i : ℕ) : Type 0 where
-  pub low : 1 ≤ get_or (cards hand) i 0
-  pub high : get_or (cards hand) i 0 ≤ 13
-  pub held : 2 ^ (get_or (cards hand) i 0 - 1) ≤ hand
-  pub rest : packed (remove (cards hand) i) ≡ hand - 2 ^ (get_or (cards hand) i 0 - 1)
-  pub again : cards (packed (remove (cards hand) i)) ≡ remove (cards hand) i
-  pub count : length (remove (cards hand) i) + 1 ≡ length (cards hand)
-  pub small : packed (remove (cards hand) i) < 2 ^ 13
+-- what holds of the number at place `i`, and of the set without it
+pub record IsOut (low set i : ℕ) : Type 0 where
+  pub first : low ≤ get_or (members 13 low set) i 0
+  pub last : get_or (members 13 low set) i 0 < low + 13
+  pub held : 2 ^ (get_or (members 13 low set) i 0 - low) ≤ set
+  pub rest : packed_from low (remove (members 13 low set) i) ≡ set - 2 ^ (get_or (members 13 low set) i 0 - low)
+  pub again : members 13 low (packed_from low (remove (members 13 low set) i)) ≡ remove (members 13 low set) i
+  pub count : length (remove (members 13 low set) i) + 1 ≡ length (members 13 low set)
+  pub small : packed_from low (remove (members 13 low set) i) < 2 ^ 13
 
-pub card_bid : (hand i : ℕ) → hand < 2 ^ 13 → i < length (cards hand) → IsBid hand i
-card_bid hand i h place =
-    let t = members_taken 13 1 hand i place in
-    let rest = hand - 2 ^ (get_or (cards hand) i 0 - 1) in
-    let cleared : packed (remove (cards hand) i) ≡ rest = subst (λ (xs : List ℕ). packed xs ≡ rest) t.left (cards_packed rest (omega arith)) in
+pub taken_out : (low set i : ℕ) → set < 2 ^ 13 → i < length (members 13 low set) → IsOut low set i
+taken_out low set i h place =
+    let t = members_taken 13 low set i place in
+    let rest = set - 2 ^ (get_or (members 13 low set) i 0 - low) in
+    let cleared : packed_from low (remove (members 13 low set) i) ≡ rest = subst (λ (xs : List ℕ). packed_from low xs ≡ rest) t.left (set_packed low rest (omega arith)) in
     record {
-      low = t.first;
-      high = omega (arith, t.last);
+      first = t.first;
+      last = t.last;
       held = t.held;
       rest = cleared;
-      again = ap cards cleared ∙ t.left;
-      count = length-remove (cards hand) i place;
+      again = ap (members 13 low) cleared ∙ t.left;
+      count = length-remove (members 13 low set) i place;
       small = omega (arith, cleared);
     }
 
+pub card_bid : (hand i : ℕ) → hand < 2 ^ 13 → i < length (cards hand) → IsOut 1 hand i
+card_bid hand i h place = taken_out 1 hand i h place
+
 pub cards_hand : (hand : ℕ) → hand < 2 ^ 13 → All (λ card. (1 ≤ card) × (card ≤ 13)) (cards hand)
-cards_hand hand h = All-from_get_or (λ card. (1 ≤ card) × (card ≤ 13)) (cards hand) 0 (λ i l. let bid = card_bid hand i h l in (bid.low, bid.high))
+cards_hand hand h = All-from_get_or (λ card. (1 ≤ card) × (card ≤ 13)) (cards hand) 0 (λ i l. let bid = card_bid hand i h l in (bid.first, omega (arith, bid.last)))

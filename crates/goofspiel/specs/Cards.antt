@@ -1,4 +1,4 @@
--- Hands of cards: the list of a hand, and the number that packs it.
+-- Hands of cards and sets of places: the list of a set, and the number that packs it.
 use Rattle.std.specs.Prelude.{ℕ, ◌-◌, ◌^◌, ◌==◌, List, sum_by, filter}
 use Rattle.std.specs.Int.{bit_at}
 use Rattle.std.specs.List.{range_with_len, list_any}
@@ -11,9 +11,17 @@ members count low packed = filter (λ number. bit_at packed (number - low) == 1)
 abbrev pub cards : ℕ → List ℕ
 cards hand = members 13 1 hand
 
+-- the places in a packed set, rising: the bit of place 0 is the lowest, that of place 12 the highest
+abbrev pub places : ℕ → List ℕ
+places set = members 13 0 set
+
+-- the packed set: the sum of 2 ^ (number - low) over its numbers
+abbrev pub packed_from : ℕ → List ℕ → ℕ
+packed_from low numbers = sum_by (λ number. 2 ^ (number - low)) numbers
+
 -- the packed hand: the sum of 2 ^ (card - 1) over its cards
 abbrev pub packed : List ℕ → ℕ
-packed hand = sum_by (λ card. 2 ^ (card - 1)) hand
+packed hand = packed_from 1 hand
 
 -- the cards that stand in a list, rising
 unfoldable pub rising : List ℕ → List ℕ

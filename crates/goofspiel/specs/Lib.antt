@@ -1,5 +1,9 @@
 pub mod CardLaws
 pub mod Cards
+pub mod DealLaws
+pub mod DrawnLaws
+pub mod DrawnRules
 pub mod Laws
 pub mod Position
+pub mod Refusals
 pub mod Rules

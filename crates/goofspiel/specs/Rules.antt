@@ -43,12 +43,12 @@ won one two prize =
 abbrev pub next_prize : List ℕ → Deal → ℕ
 next_prize prizes d = slice_index prizes (length prizes - length d.one)
 
--- each side bids the card at a place of its hand, and both cards are gone
-abbrev pub after_bids : List ℕ → Deal → ℕ → ℕ → Deal
-after_bids prizes d one two = record {
+-- each side bids the card at a place of its hand for the prize, and both cards are gone
+abbrev pub after_bids : ℕ → Deal → ℕ → ℕ → Deal
+after_bids prize d one two = record {
   one = remove d.one one;
   two = remove d.two two;
-  score = d.score +ℤ won (slice_index d.one one) (slice_index d.two two) (next_prize prizes d);
+  score = d.score +ℤ won (slice_index d.one one) (slice_index d.two two) prize;
 }
 
 abbrev pub pay_of : Pay → ℤ → ℤ
@@ -86,7 +86,7 @@ goofspiel_game g = record {
   moves = λ side s. length (hand_of side (deal_of s));
   draws = λ s one two. 1;
   chance = λ s one two draw. whole_chance;
-  drawn = λ s one two draw. state_of (after_bids (prizes_of g) (deal_of s) one two);
+  drawn = λ s one two draw. state_of (after_bids (next_prize (prizes_of g) (deal_of s)) (deal_of s) one two);
   payoff = λ s. pay_of g.pay s.score;
   rank = λ s. length (deal_of s).one;
   key = λ s. key_of (deal_of s);
@@ -104,7 +104,7 @@ pub record KeepsRules (g : Setting) : Type 0 where
   pub prizes : (one two prizes : List ℕ) (score : ℤ) (pay : Pay) → IsSettingOf one two prizes score pay g → prizes_of g ≡ prizes
   pub is_deal : (s : State) → Reachable (goofspiel_game g) s → IsDeal (deal_of s)
   pub follows : (s : State) (t : Turn) → Reachable (goofspiel_game g) s → IsTurn (goofspiel_game g) s t
-      → deal_of (after_turn (goofspiel_game g) s t) ≡ after_bids (prizes_of g) (deal_of s) t.one t.two
+      → deal_of (after_turn (goofspiel_game g) s t) ≡ after_bids (next_prize (prizes_of g) (deal_of s)) (deal_of s) t.one t.two
   pub moves : (side : Side) (s : State) → (goofspiel_game g).moves side s ≡ length (hand_of side (deal_of s))
   pub label : (side : Side) (s : State) (i : ℕ) → (goofspiel_game g).label side s i ≡ slice_index (hand_of side (deal_of s)) i
   pub rank : (s : State) → (goofspiel_game g).rank s ≡ length (deal_of s).one

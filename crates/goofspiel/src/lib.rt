@@ -1,19 +1,25 @@
 //! Goofspiel: two players bid their cards for prizes.
 #![tactic(auto)]
 
-ghost use Rattle.std.specs.Prelude.{◌≡◌, ◌<◌, ◌≤◌, ◌^◌, length, remove, slice_index, sum, unsigned_abs, MatchResult, None, Some};
-ghost use Rattle.goofspiel.specs.Cards.{cards, packed};
+ghost use Rattle.std.specs.Prelude.{◌≡◌, ◌<◌, ◌≤◌, ◌^◌, length, sum, unsigned_abs, MatchResult, None, Some};
 ghost use Rattle.goofspiel.specs.Laws.{goofspiel_is_game};
 ghost use Rattle.goofspiel.specs.Position.{first_fault, prizes_of, IsPosition, IsSettingOf};
-ghost use Rattle.goofspiel.specs.Rules.{goofspiel_game, high_of, low_of, won, KeepsRules};
+ghost use Rattle.goofspiel.specs.Rules.{goofspiel_game, high_of, low_of, KeepsRules};
 
+mod drawn;
+mod hands;
 mod position;
+mod refusals;
+mod sets;
 
+pub use drawn::{DrawnState, GoofspielDrawn, drawn_position_has_one_game, keeps_drawn_rules};
+use hands::{hands_key, played};
+pub use position::position_has_one_game;
 use position::{
     check_cards, check_lengths, check_prizes, check_score, hand_of, prize_array, prize_sum,
 };
+use sets::{number_at, size};
 use sim_game::{CHANCE, Game, Side};
-use state_key::{Key, put};
 use thiserror::Error;
 
 /// What a player gets at an end.
@@ -115,56 +121,6 @@ impl Goofspiel {
     }
 }
 
-/// How many cards a hand has.
-#[inline]
-fn size(hand: u16) -> u32
-    requires { hand < 2 ^ 13 }
-    ensures { result ≡ length (cards hand) }
-{
-    hand.count_ones()
-}
-
-/// The card at a place of a hand.
-#[inline]
-fn card_at(hand: u16, place: u32) -> u8
-    requires small { hand < 2 ^ 13 }
-    requires place { place < length (cards hand) }
-    ensures { result ≡ slice_index (cards hand) place }
-{
-    let mut rest = hand;
-    for _ in 0..place {
-        rest &= rest - 1;
-    }
-    rest.trailing_zeros() as u8 + 1
-}
-
-/// The card at a place of a hand, and the hand without it.
-#[inline]
-fn bid(hand: u16, place: u32) -> (u8, u16)
-    requires small { hand < 2 ^ 13 }
-    requires place { place < length (cards hand) }
-    ensures card { result.0 ≡ slice_index (cards hand) place }
-    ensures rest { result.1 ≡ packed (remove (cards hand) place) }
-{
-    let card = card_at(hand, place);
-    (card, hand - (1 << (card - 1)))
-}
-
-/// What a prize adds to the score.
-#[inline]
-fn change(one: u8, two: u8, prize: u8) -> i32
-    ensures is { result ≡ won one two prize }
-    ensures small { unsigned_abs result ≤ 255 }
-{
-    if one > two {
-        prize as i32
-    } else if one < two {
-        -(prize as i32)
-    } else {
-        0
-    }
-}
-
 /// The least payoff from a score, where the prizes have this sum.
 fn least_payoff(pay: Pay, score: i32, total: u32) -> i32
     requires score { unsigned_abs score ≤ 1000 }
@@ -213,14 +169,7 @@ impl Game for Goofspiel {
     #[inline]
     fn next(&self, s: State, a: u32, b: u32) -> State {
         let gone = self.setting.count as u32 - size(s.one);
-        let prize = self.setting.prizes[gone as usize];
-        let (card_one, one) = bid(s.one, a);
-        let (card_two, two) = bid(s.two, b);
-        State {
-            one,
-            two,
-            score: s.score + change(card_one, card_two, prize),
-        }
+        played(s, a, b, self.setting.prizes[gone as usize])
     }
 
     #[inline]
@@ -238,8 +187,7 @@ impl Game for Goofspiel {
 
     #[inline]
     fn key(&self, s: State) -> u64 {
-        let hands = put(put(Key(0), s.one as u64, 13), s.two as u64, 13);
-        put(hands, (s.score + 2300) as u64, 13).0
+        hands_key(s).0
     }
 
     #[inline]
@@ -258,8 +206,8 @@ impl Game for Goofspiel {
 
     fn label(&self, side: Side, s: State, i: u32) -> u8 {
         match side {
-            Side::One => card_at(s.one, i),
-            Side::Two => card_at(s.two, i),
+            Side::One => number_at(s.one, 1, i),
+            Side::Two => number_at(s.two, 1, i),
         }
     }
 

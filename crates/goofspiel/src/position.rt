@@ -1,6 +1,8 @@
 //! The rules that the lists of a position keep, tried one by one.
-ghost use Rattle.std.specs.Prelude.{◌≡◌, ℕ, ◌<◌, ◌≤◌, ◌^◌, ◌-◌, ◌++◌, IfSome, length, replicate, sum, unsigned_abs, MatchResult, position};
-ghost use Rattle.goofspiel.specs.Position.{is_outside, card_range, card_twice, lengths, prize_range, score_range, IsHandOf};
+ghost use Rattle.std.specs.Prelude.{◌≡◌, ℕ, ℤ, List, ◌<◌, ◌≤◌, ◌^◌, ◌-◌, ◌++◌, IfSome, length, replicate, sum, unsigned_abs, MatchResult, position};
+ghost use Rattle.goofspiel.specs.Position.{is_outside, card_range, card_twice, lengths, prize_range, score_range, IsHandOf, IsSettingOf};
+ghost use Rattle.goofspiel.specs.declared.Pay.{Pay};
+ghost use Rattle.goofspiel.specs.declared.Setting.{Setting};
 
 use crate::GoofspielError;
 use sim_game::Side;
@@ -115,3 +117,9 @@ pub(crate) fn prize_sum(prizes: &[u8]) -> u32
     }
     sum
 }
+
+/// The same cards, prizes, score and pay give one setting, and so one game.
+pub fn position_has_one_game()
+    ensures { (one two prizes : List ℕ) (score : ℤ) (pay : Pay) (g h : Setting)
+        → IsSettingOf one two prizes score pay g → IsSettingOf one two prizes score pay h → g ≡ h }
+{}

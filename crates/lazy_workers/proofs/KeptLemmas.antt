@@ -168,6 +168,8 @@ module _ {S G : Type 0} (m : GameModel S) (game : IsGame m) (ask : Ask) (v : Vie
         closed = closed;
         held = kept_keys;
         rows = rows_kept goes_on;
+        entered = is.entered;
+        best = is.each;
         workers = count;
         within = k.within;
         full = λ e. (is.full (j.full e).0, (j.full e).1);

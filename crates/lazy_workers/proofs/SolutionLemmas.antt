@@ -1,9 +1,9 @@
 -- That the report on the best entries is a solution.
-use Rattle.std.proofs.Common.{◌≡◌, ⊎_elim, ℕ, ◌+◌, ◌*◌, ◌<◌, ◌≤◌, ℤ, pos, ◌-ℤ◌, ◌≤ℤ◌, ◌<ℤ◌, Bool, cond, List, length, All, w64, SFits, to_z, of_z, refl, sym, ap, subst, ◌∙◌, arith}
+use Rattle.std.proofs.Common.{◌≡◌, ⊎_elim, ℕ, ◌+◌, ◌*◌, ◌<◌, ◌≤◌, ℤ, pos, ◌-ℤ◌, ◌≤ℤ◌, ◌<ℤ◌, Bool, cond, Some, List, length, All, w64, SFits, to_z, of_z, refl, sym, ap, subst, ◌∙◌, arith}
 use Rattle.std.specs.Int.RustNames.{unsigned_abs}
 use Rattle.std.proofs.lemmas.Int.{ints, to_z-of_z}
 use Rattle.std.proofs.lemmas.Bool.{cases_eq}
-use Rattle.std.proofs.lemmas.List.Elements.{All-map, All-weaker}
+use Rattle.std.proofs.lemmas.List.Elements.{All-contains, All-map, All-weaker}
 use Rattle.sim_game.specs.declared.Side.{Side}
 use Rattle.sim_game.specs.declared.Side.TheVariants.{One, Two}
 use Rattle.sim_game.specs.Model.{GameModel, IsGame, IsEnd}
@@ -13,10 +13,12 @@ use Rattle.sim_game.proofs.ReachLemmas.{reachable_root}
 use Rattle.sim_game.proofs.SideLemmas.{end_range}
 use Rattle.plan_book.specs.declared.Entry.{Entry}
 use Rattle.plan_book.specs.declared.Sheet.{Sheet}
-use Rattle.plan_book.specs.Books.{IsClosed, IsBooked, IsBestSheet, book_bound}
-use Rattle.plan_book.specs.Sheets.{IsLawful, root_bound, plan_of}
+use Rattle.plan_book.specs.declared.SheetRow.{SheetRow}
+use Rattle.plan_book.specs.Books.{IsClosed, IsBooked, IsBestSheet, best_posted, best_row, book_bound}
+use Rattle.plan_book.specs.Sheets.{IsLawful, IsReached, bound_or, root_bound, plan_of}
 use Rattle.plan_book.specs.Expected.{Guarantees}
 use Rattle.plan_book.specs.Serial.{serial_bound}
+use Rattle.plan_book.proofs.BestLemmas.{book_row, row_entry}
 use Rattle.plan_book.proofs.BookLemmas.{best_range}
 use Rattle.plan_book.proofs.ExpectedLemmas.{is_same, is_other}
 use Rattle.plan_book.proofs.SheetLemmas.{sheet_guarantees}
@@ -28,8 +30,9 @@ use Rattle.certificate.specs.declared.report.Report.{Report}
 use Rattle.certificate.specs.Outcomes.{gap_of, Allows}
 use Rattle.certificate.specs.Ranges.{Within, Between, IsAskInRange, IsPositionInRange, IsSheetInRange, IsInRange}
 use Rattle.matrix_game.specs.Budget.{Budget}
+use Rattle.shared_board.specs.Closing.{HasKey, IsKeptRow}
 use Rattle.shared_board.specs.declared.close.Kept.{Kept}
-use Rattle.lazy_workers.specs.Keeping.{HasLimit, spent_of, AreOwed}
+use Rattle.lazy_workers.specs.Keeping.{HasLimit, spent_of, IsSheetRowKept, AreOwed}
 use Rattle.lazy_workers.specs.Searched.{root_gap, HasKeysIn, IsFar, HasRoom, HasVisits, TooFewTurns, IsSearched}
 use Rattle.lazy_workers.specs.Solutions.{IsOutcomeFor, IsOfAsk, IsSolution, IsSolvedGame}
 use Rattle.lazy_workers.proofs.SummaryLemmas.{root_is, rows_few, sheet_in_range, abs_small, scaled_low, scaled_high}
@@ -135,8 +138,28 @@ module _ {S : Type 0} (m : GameModel S) (game : IsGame m) (ask : Ask) (asks : Is
   pure_high : HasRoom m ask → HasVisits m ask → r.upper ≤ℤ serial_bound m Two m.root
   pure_high has many = subst (λ (x : ℤ). x ≤ℤ serial_bound m Two m.root) (sym upper_is) (searched.pure has many Two)
 
-  guaranteed : (side : Side) (sheet : Sheet) → sheet.side ≡ side → IsLawful m sheet → (bound : ℤ) → bound ≡ root_bound m sheet → Guarantees m side (plan_of sheet) bound
-  guaranteed side sheet is lawful bound at = subst (λ (of : Side). Guarantees m of (plan_of sheet) bound) is (subst (Guarantees m sheet.side (plan_of sheet)) (sym at) (sheet_guarantees m game sheet lawful))
+  -- the rows of a sheet are those of the board
+  sheet_kept : (side : Side) (sheet : Sheet) → IsBestSheet m side entries sheet.rows → All (IsSheetRowKept side kept) sheet.rows
+  sheet_kept side sheet best = All-weaker _ (IsSheetRowKept side kept) by sheet.rows best.only where
+    by : (x : SheetRow) → (s : S) × IsReached m side (best_row side entries) s × (m.key s ≡ x.key) × (best_row side entries x.key ≡ Some x) → IsSheetRowKept side kept x
+    by x only =
+        let behind = row_entry (λ e. HasKey kept e.key) side entries x.key x searched.entered only.3 in
+        let held : HasKey kept x.key = subst (HasKey kept) behind.1.is_key behind.1.holds in
+        let row : IsKeptRow m entries held.row = All-contains (IsKeptRow m entries) kept held.row searched.best held.is_kept in
+        let t = row.named.state in
+        let goes_on = row.named.goes_on in
+        let at : m.key t ≡ x.key = row.named.is_key ∙ held.is_key in
+        let found : best_row side entries (m.key t) ≡ Some x = ap (best_row side entries) at ∙ only.3 in
+        let on = is_other (m.rank t) 0 (λ e. absurd (omega arith)) in
+        let posted : book_bound m entries side t ≡ best_posted m entries side (m.key t) = rw on refl in
+        let booked = book_row m game ask.weight (IsBooked m entries) entries searched.closed side t row.named.reachable in
+        record {
+          held = held;
+          bound = row.best side ∙ ap (best_posted m entries side) (sym row.named.is_key) ∙ sym posted ∙ booked ∙ ap (bound_or m side t) found;
+        }
+
+  guaranteed : (side : Side) (sheet : Sheet) → sheet.side ≡ side → sheet.total ≡ ask.weight → IsLawful m sheet → (bound : ℤ) → bound ≡ root_bound m sheet → Guarantees m side (plan_of sheet) bound
+  guaranteed side sheet is total lawful bound at = subst (λ (of : Side). Guarantees m of (plan_of sheet) bound) is (subst (Guarantees m sheet.side (plan_of sheet)) (sym at) (sheet_guarantees m game sheet lawful (omega (arith, total, asks.weight.0))))
 
   in_range : IsInRange r
   in_range = record {
@@ -163,8 +186,8 @@ module _ {S : Type 0} (m : GameModel S) (game : IsGame m) (ask : Ask) (asks : Is
     two_lawful = lawful_two;
     lower = lower;
     upper = upper;
-    lower_guaranteed = guaranteed One r.one is_one lawful_one r.lower lower;
-    upper_guaranteed = guaranteed Two r.two is_two lawful_two r.upper upper;
+    lower_guaranteed = guaranteed One r.one is_one total_one lawful_one r.lower lower;
+    upper_guaranteed = guaranteed Two r.two is_two total_two lawful_two r.upper upper;
     one_few = few_rows m game ask.weight entries searched.closed One r.one is_one total_one best_one ask.rows searched.held;
     two_few = few_rows m game ask.weight entries searched.closed Two r.two is_two total_two best_two ask.rows searched.held;
     full = λ is. (full_by r.outcome is ends).1;
@@ -181,5 +204,7 @@ module _ {S : Type 0} (m : GameModel S) (game : IsGame m) (ask : Ask) (asks : Is
     solution = solution;
     within = searched.within;
     spent = counts;
+    one_kept = sheet_kept One r.one best_one;
+    two_kept = sheet_kept Two r.two best_two;
     left = record { rows = searched.rows; full = λ is. (full_by r.outcome is ends).0; spent = λ is. (spent_by r.outcome is ends).1 };
   }

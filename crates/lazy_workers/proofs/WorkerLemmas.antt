@@ -15,13 +15,14 @@ use Rattle.plan_book.specs.Serial.{tree_size}
 use Rattle.plan_book.proofs.ExpectedLemmas.{is_same}
 use Rattle.serial_ab.proofs.ValueLemmas.{serial_end}
 use Rattle.matrix_game.specs.Budget.{Budget, left_of}
-use Rattle.bounds_board.specs.Views.{BoardView, WasFull}
+use Rattle.bounds_board.specs.Views.{BoardView}
 use Rattle.bounds_board.proofs.FullLemmas.{rows_too_few}
 use Rattle.serial_ab.specs.Counts.{VisitsView, left_on}
 use Rattle.oracle_search.specs.declared.ends.SearchEnd.{SearchEnd}
 use Rattle.oracle_search.specs.declared.ends.SearchEnd.TheVariants.{Reached, Settled, Spent, Full}
 use Rattle.oracle_search.specs.Finished.{FinishedView, IsFinished, AreFinished, IsWithin, rank_gap}
-use Rattle.oracle_search.specs.Searches.{WorkView, IsWorked, Ends, TakesTurns, HasTaken, open_states, IsPureTight, HasVisits as Whole}
+use Rattle.oracle_search.specs.Searches.{IsWorked, IsBoardFull, Ends, TakesTurns, HasTaken, IsPureTight, HasVisits as Whole}
+use Rattle.oracle_search.specs.Workers.{WorkView}
 use Rattle.certificate.specs.declared.report.Ask.{Ask}
 use Rattle.lazy_workers.specs.Workers.{Rows, KnowsEach, IsFinishedKey, AreOwedTo, IsSpent, HasFound}
 use Rattle.lazy_workers.specs.Keeping.{HasLimit}
@@ -46,7 +47,7 @@ module _ {S : Type 0} (m : GameModel S) (game : IsGame m) where
   module _ {G N : Type 0} (ask : Ask) (start last : WorkView G N) (end : SearchEnd)
       (rows : last.board.rows ≡ ask.rows) (total : last.board.total ≡ ask.weight) (weight : 1 ≤ ask.weight) (goes_on : 1 ≤ m.rank m.root)
       (none : start.settled ≡ record { keys = []; was_full = false }) (turns : start.turns ≡ record { limit = ask.turns; spent = 0 })
-      (worked : IsWorked m (m.rank m.root) start last) (ends : Ends m m.root ask.gap last end) (takes : HasTaken (open_states (m.rank m.root) end) (m.rank m.root) start last) where
+      (worked : IsWorked m m.root start last) (ends : Ends m m.root ask.gap last end) (takes : HasTaken m m.root end start last) where
     has_row : Rows
     has_row row key = last.board.key_at row ≡ Some key
 
@@ -55,9 +56,9 @@ module _ {S : Type 0} (m : GameModel S) (game : IsGame m) where
     unfolding has_row
     full_board was = ⊎_elim
         (λ (before : start.settled.was_full ≡ true). let no = ap (λ (f : FinishedView). f.was_full) none in let wrong : false ≡ true = sym no ∙ before in absurd (cc))
-        (λ (full : WasFull m last.board). (
+        (λ (full : IsBoardFull m m.root last.board). (
           λ row l. let it = full.full.others row (omega (arith, rows)) in (it.0, it.1),
-          λ has. let few = rows_too_few m last.board full.asked full.full ask.rows has in absurd (omega (arith, few, rows)),
+          λ has. let few = rows_too_few m last.board (m.key full.state) full.full ask.rows has in absurd (omega (arith, few, rows)),
         ))
         (worked.cause was)
 
@@ -83,7 +84,7 @@ module _ {S : Type 0} (m : GameModel S) (game : IsGame m) where
           let beyond = far.resolution (rank_gap m stage (m.rank m.root)) (record { gap = stage; is_gap = subst (λ (w : ℕ). IsStageGap m w stage) total is; sums = refl }) in
           absurd (omega (arith, ints))
 
-      spent_by : (e : SearchEnd) → (e ≡ Full → ⊥) → Ends m m.root ask.gap last e → HasTaken (open_states (m.rank m.root) e) (m.rank m.root) start last → (last.turns.spent ≡ ask.turns) × IsSpent m ask last.board.seen has_row
+      spent_by : (e : SearchEnd) → (e ≡ Full → ⊥) → Ends m m.root ask.gap last e → HasTaken m m.root e start last → (last.turns.spent ≡ ask.turns) × IsSpent m ask last.board.seen has_row
       unfolding has_row
       spent_by Reached not ends takes = absurd (not_reached (ends goes_on))
       spent_by Settled not ends takes = let stage = stage_exists last.board.total (subst (λ (w : ℕ). 1 ≤ w) (sym total) weight) in absurd (not_settled stage.0 stage.1 (ends.2 stage.0 stage.1))
@@ -93,14 +94,14 @@ module _ {S : Type 0} (m : GameModel S) (game : IsGame m) where
           let none_left = ends.2 in
           let all : last.turns.spent ≡ ask.turns = omega arith in
           (all, (too_few all takes, by all takes last.settled.was_full refl)) where
-            taken : last.turns.spent ≡ ask.turns → HasTaken (m.rank m.root) (m.rank m.root) start last → last.settled.was_full ≡ false → ask.turns ≤ 63 * (length last.settled.keys + m.rank m.root)
+            taken : last.turns.spent ≡ ask.turns → HasTaken m m.root Spent start last → last.settled.was_full ≡ false → ask.turns ≤ 63 * (length last.settled.keys + m.rank m.root)
             taken all takes quiet =
                 let none_spent : start.turns.spent ≡ 0 = ap (λ (t : Budget). t.spent) turns in
                 let none = keys_none in
-                let so : TakesTurns (m.rank m.root) start last = ⊎_elim (λ (a : TakesTurns (m.rank m.root) start last). a) (λ (b : (left_of last.turns ≡ 0) × TakesTurns (m.rank m.root) start last). b.1) (takes quiet) in
+                let so : TakesTurns (m.rank m.root) start last = ⊎_elim (λ (a : TakesTurns (m.rank m.root) start last). a) (λ (b : (left_of last.turns ≡ 0) × TakesTurns (m.rank m.root) start last). b.1) (takes.unless_full quiet) in
                 omega arith
 
-            too_few : last.turns.spent ≡ ask.turns → HasTaken (m.rank m.root) (m.rank m.root) start last → TooFewTurns m ask
+            too_few : last.turns.spent ≡ ask.turns → HasTaken m m.root Spent start last → TooFewTurns m ask
             too_few all takes n has few =
                 let wide : HasRoom m ask = record { few = λ count states reach apart. let less = has.few count states reach apart in omega arith } in
                 let keys = keys_few last.board.total last.board last.settled.keys worked.finished n has in
@@ -115,7 +116,7 @@ module _ {S : Type 0} (m : GameModel S) (game : IsGame m) where
               close = λ stage is. subst (λ (k : ℕ). IsWithin last.board k (pos (rank_gap m stage (m.rank f.state)))) f.is_key (f.close stage (subst (λ (w : ℕ). IsStageGap m w stage) (sym total) is));
             }
 
-            by : last.turns.spent ≡ ask.turns → HasTaken (m.rank m.root) (m.rank m.root) start last → (b : Bool) → last.settled.was_full ≡ b → KnowsEach ask.rows has_row ⊎ AreOwedTo m ask last.board.seen has_row
+            by : last.turns.spent ≡ ask.turns → HasTaken m m.root Spent start last → (b : Bool) → last.settled.was_full ≡ b → KnowsEach ask.rows has_row ⊎ AreOwedTo m ask last.board.seen has_row
             by all takes true e = inl (full_board e).0
             by all takes false e = inr (record {
               keys = last.settled.keys;
@@ -142,7 +143,7 @@ module _ {S : Type 0} (m : GameModel S) (game : IsGame m) where
       unfolding has_row
       found = record {
         within = let limit = worked.turns.limit ∙ ap (λ (t : Budget). t.limit) turns in record { limit = limit; spent = subst (λ (n : ℕ). last.turns.spent ≤ n) limit within };
-        full = λ e. full_board (subst (Ends m m.root ask.gap last) e ends);
+        full = λ e. full_board (subst (Ends m m.root ask.gap last) e ends).0;
         all_spent = λ not far. all_spent far not;
         pure = λ has many side. pure (whole many) (room has) side;
         at_once = λ has many near. ap (λ (t : Budget). t.spent) (at_once (whole many) (room has) near).1 ∙ ap (λ (t : Budget). t.spent) turns;
@@ -154,6 +155,8 @@ nothing_searched m game ask end low turns count fresh = record {
   closed = All-nil _;
   held = record { key_at = λ _. None; held = All-nil _ };
   rows = record { none = λ _. refl; few = omega arith; distinct = tt; each = All-nil _ };
+  entered = All-nil _;
+  best = All-nil _;
   workers = count;
   within = All-weaker (λ t. t ≡ record { limit = ask.turns; spent = 0 }) (HasLimit ask) (λ t e. rw e (record { limit = refl; spent = omega arith })) turns fresh;
   full = λ e. absurd (cc);

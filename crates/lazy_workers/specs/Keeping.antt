@@ -4,7 +4,9 @@ use Rattle.sim_game.specs.Model.{GameModel, IsEnd}
 use Rattle.bounds_board.specs.Views.{IsInnerKey, IsEnclosure}
 use Rattle.matrix_game.specs.Budget.{Budget}
 use Rattle.shared_board.specs.declared.close.Kept.{Kept}
-use Rattle.shared_board.specs.Closing.{IsDistinct}
+use Rattle.shared_board.specs.Closing.{IsDistinct, HasKey, kept_bound}
+use Rattle.plan_book.specs.declared.SheetRow.{SheetRow}
+use Rattle.sim_game.specs.declared.Side.{Side}
 use Rattle.certificate.specs.declared.report.Ask.{Ask}
 use Rattle.certificate.specs.declared.report.Outcome.TheVariants.{Spent, Full}
 use Rattle.certificate.specs.declared.report.Report.{Report}
@@ -17,6 +19,11 @@ pub record HasLimit (ask : Ask) (t : Budget) : Type 0 where
 -- how many turns each worker has spent
 abbrev pub spent_of : List Budget → List ℕ
 spent_of turns = map (λ t. t.spent) turns
+
+-- a row of the sheet is kept: its key has a row, with its bound on its side
+pub record IsSheetRowKept (side : Side) (kept : List Kept) (r : SheetRow) : Type 0 where
+  pub held : HasKey kept r.key
+  pub bound : kept_bound side held.row ≡ r.bound
 
 module _ {S : Type 0} (m : GameModel S) where
   -- the key is that of a reachable state that is no end, at which both bounds are backed and lie in the range of payoffs

@@ -9,6 +9,7 @@ use Rattle.plan_book.specs.declared.Entry.{Entry}
 use Rattle.plan_book.specs.Books.{IsClosed, book_bound}
 use Rattle.plan_book.specs.Serial.{serial_bound, tree_size}
 use Rattle.matrix_game.specs.Budget.{Budget}
+use Rattle.shared_board.specs.Closing.{HasKey, IsKeptRow}
 use Rattle.shared_board.specs.declared.close.Kept.{Kept}
 use Rattle.certificate.specs.declared.report.Ask.{Ask}
 use Rattle.lazy_workers.specs.Keeping.{HasLimit, AreOwed, AreRows}
@@ -48,6 +49,8 @@ pub record IsSearched {S : Type 0} (m : GameModel S) (ask : Ask) (entries : List
   pub closed : IsClosed m ask.weight entries
   pub held : HasKeysIn ask.rows entries
   pub rows : AreRows m ask.rows kept
+  pub entered : All (λ e. HasKey kept e.key) entries
+  pub best : All (IsKeptRow m entries) kept
   pub workers : length turns ≡ ask.workers
   pub within : All (HasLimit ask) turns
   pub full : was_full ≡ true → (length kept ≡ ask.rows) × (HasRoom m ask → ⊥)

@@ -14,7 +14,7 @@ use Rattle.certificate.specs.declared.report.Report.{Report}
 use Rattle.certificate.specs.Outcomes.{IsAllowed}
 use Rattle.certificate.specs.Ranges.{IsInRange}
 use Rattle.lazy_workers.specs.declared.summary.Solved.{Solved}
-use Rattle.lazy_workers.specs.Keeping.{HasLimit, spent_of, IsLeft}
+use Rattle.lazy_workers.specs.Keeping.{HasLimit, spent_of, IsSheetRowKept, IsLeft}
 use Rattle.lazy_workers.specs.Searched.{HasRoom, HasVisits, IsPureClose, TooFewTurns}
 
 -- which outcome tells of a gap
@@ -60,4 +60,6 @@ pub record IsSolvedGame {S : Type 0} (m : GameModel S) (text : PositionText) (as
   pub within : All (HasLimit ask) x.turns
   -- the report tells how many of its turns each worker has spent
   pub spent : x.report.spent ≡ spent_of x.turns
+  pub one_kept : All (IsSheetRowKept One x.kept) x.report.one.rows
+  pub two_kept : All (IsSheetRowKept Two x.kept) x.report.two.rows
   pub left : IsLeft m ask x.report x.kept

@@ -7,7 +7,7 @@ ghost use Rattle.lazy_workers.specs.Workers.{IsBoardFor, IsLead, IsJob, IsDone, 
 
 use certificate::Ask;
 use matrix_game::Turns;
-use oracle_search::{Gate, SearchEnd, Settled, search};
+use oracle_search::{Gate, SearchEnd, Setup, Worker, search};
 use serial_ab::Visits;
 use shared_board::{BarePass, Board, Desk, Pass};
 use sim_game::{Game, NoMemory};
@@ -72,24 +72,18 @@ pub(crate) fn work<G: Game, T: Gate>(
 {
     let Job { pass, worker } = job;
     let mut desk = Desk::new(board, Pass::from_bare(pass));
-    let mut turns = Turns::new(ask.turns);
-    let mut visits = Visits::new(ask.visits);
-    let mut settled = Settled::new(alloc);
-    let end = search(
+    let setup = Setup {
         alloc,
-        g,
-        g.root(),
-        ask.gap,
+        game: g,
         worker,
         gate,
-        &mut turns,
-        &mut visits,
-        &mut settled,
-        &mut desk,
-    )?;
+    };
+    let turns = Turns::new(ask.turns);
+    let mut state = Worker::new(alloc, turns, Visits::new(ask.visits));
+    let end = search(&setup, g.root(), ask.gap, &mut state, &mut desk)?;
     Ok(Done {
         pass: desk.into_pass().into_bare(),
-        turns,
+        turns: state.into_turns(),
         end,
     })
 }

@@ -5,13 +5,13 @@ use Rattle.std.proofs.lemmas.Bool.{cases_lt}
 use Rattle.std.proofs.lemmas.List.{length-append, get_or_append_left, get_or-append_right}
 use Rattle.std.proofs.lemmas.List.Elements.{All-contains, All-from_get_or, All-nil, All-push, Contains-get_or, Contains-append_cases}
 use Rattle.sim_game.specs.declared.Side.TheVariants.{One, Two}
-use Rattle.sim_game.specs.Model.{GameModel, IsGame, IsTurn, Reachable}
+use Rattle.sim_game.specs.Model.{GameModel, IsGame, IsTurn, LeadsTo, Reachable}
 use Rattle.sim_game.specs.Resolution.{IsStageGap}
-use Rattle.sim_game.proofs.ReachLemmas.{reachable_turn}
+use Rattle.sim_game.proofs.ReachLemmas.{reachable_turn, leads_turn}
 use Rattle.plan_book.specs.Books.{Grows}
 use Rattle.plan_book.specs.Entries.{IsLawfulEntry}
 use Rattle.matrix_game.specs.Budget.{Budget, left_of, after_turn}
-use Rattle.bounds_board.specs.Views.{BoardView, IsLater, WasFull}
+use Rattle.bounds_board.specs.Views.{BoardView, IsLater}
 use Rattle.bounds_board.proofs.ViewLemmas.{later_refl, later_trans}
 use Rattle.restricted_game.specs.declared.held.StepEnd.{StepEnd}
 use Rattle.restricted_game.specs.declared.held.StepEnd.TheVariants.{Grown, Done}
@@ -22,16 +22,16 @@ use Rattle.oracle_search.specs.declared.ends.SearchEnd.{SearchEnd}
 use Rattle.oracle_search.specs.declared.ends.SearchEnd.TheVariants.{Reached, Settled, Spent, Full}
 use Rattle.oracle_search.specs.declared.ends.Stop.{Stop}
 use Rattle.oracle_search.specs.declared.ends.Stop.TheVariants as stops
-use Rattle.oracle_search.specs.Searches.{WorkView, IsBetter, IsWorked, HasVisited, HasTurned, TakesTurns, HasTaken, Ends, open_states, IsStop, stop_of, IsStoppedAs, IsDone, AreDone}
-use Rattle.serial_ab.proofs.KeptLemmas.{grows_none, grows_after}
+use Rattle.oracle_search.specs.Searches.{IsBetter, IsWorked, IsWorkedBelow, HasVisited, HasTurned, TakesTurns, TakesAtMost, HasTaken, HasTurn, HasFinished, Ends, open_states, IsBoardFull, IsStop, stop_of, IsStoppedAs, IsDone, AreDone}
+use Rattle.oracle_search.specs.Workers.{WorkerView, WorkView, at_work, with_full, with_key}
 use Rattle.oracle_search.proofs.BetterLemmas.{better_quiet}
 use Rattle.std.proofs.Math.Nat.{mul-le-mul_right}
-use Rattle.oracle_search.proofs.WorkLemmas.{visited_none, turned_none, worked_by, worked_none, worked_after, within_later, extended_after}
+use Rattle.oracle_search.proofs.WorkLemmas.{visited_none, turned_none, worked_by, worked_none, worked_after, full_kept, full_below, within_later, extended_after}
 
 -- what was kept, that no turn was taken but at states that were finished, and what is done
-pub record IsPassed {S G N : Type 0} (m : GameModel S) (limit : ℕ) (old new : WorkView G N) (Known : Type 0) : Type 0 where
-  pub worked : IsWorked m limit old new
-  pub turns : HasTaken 0 (limit - 1) old new
+pub record IsPassed {S G N : Type 0} (m : GameModel S) (s : S) (limit : ℕ) (old new : WorkView G N) (Known : Type 0) : Type 0 where
+  pub worked : IsWorkedBelow m s limit old new
+  pub turns : TakesAtMost 0 (limit - 1) old new
   pub done : Known
 
 -- turns of one state, with a turn left over for each move that may still be added
@@ -40,7 +40,7 @@ TakesGrowing most held old new = new.settled.was_full ≡ false → (new.turns.s
 
 -- a restricted game that grows
 pub record IsGrowing {S G N : Type 0} (m : GameModel S) (s : S) (old new : WorkView G N) (held : HeldMoves) : Type 0 where
-  pub worked : IsWorked m (m.rank s) old new
+  pub worked : IsWorked m s old new
   pub turns : TakesGrowing (m.rank s) held old new
   pub few : count_held held ≤ 64
   pub rows : held.most_rows ≡ m.moves One s
@@ -66,33 +66,64 @@ one_rank r k some = let is : r ≡ (r - 1) + 1 = omega arith in let more : ((r -
 
 module _ {S : Type 0} (m : GameModel S) (game : IsGame m) (s : S) (r : Reachable m s) where
   -- a state after a move of each side and a draw
-  pub drawn_below : (one two draw : ℕ) (child : S) → one < m.moves One s → two < m.moves Two s → draw < m.draws s one two → child ≡ m.drawn s one two draw → Reachable m child × (m.rank child < m.rank s)
+  pub drawn_below : (one two draw : ℕ) (child : S) → one < m.moves One s → two < m.moves Two s → draw < m.draws s one two → child ≡ m.drawn s one two draw
+      → Reachable m child × (m.rank child < m.rank s) × ((t : S) → LeadsTo m child t → LeadsTo m s t)
   drawn_below one two draw child one_below two_below draw_below is =
-      let turn : IsTurn m s (record { one = one; two = two; draw = draw }) = record { one_below = one_below; two_below = two_below; draw_below = draw_below } in
-      (subst (Reachable m) (sym is) (reachable_turn m s (record { one = one; two = two; draw = draw }) r turn), subst (λ (t : S). m.rank t < m.rank s) (sym is) (game.rank_falls s (record { one = one; two = two; draw = draw }) r turn))
+      let turn : IsTurn m s (record { one = one; two = two; draw = draw }) = record { one_below = one_below; two_below = two_below; draw_below = draw_below } in (
+        subst (Reachable m) (sym is) (reachable_turn m s (record { one = one; two = two; draw = draw }) r turn),
+        subst (λ (t : S). m.rank t < m.rank s) (sym is) (game.rank_falls s (record { one = one; two = two; draw = draw }) r turn),
+        λ t leads. leads_turn m s (record { one = one; two = two; draw = draw }) t turn (subst (λ (u : S). LeadsTo m u t) is leads),
+      )
 
 module _ {G N : Type 0} where
-  pub taken_none : (most : ℕ) (v : WorkView G N) → HasTaken 0 most v v
-  taken_none most v not = inl (omega arith)
+  pub taken_none : (most : ℕ) (v : WorkView G N) → TakesAtMost 0 most v v
+  taken_none most v = record { unless_full = λ not. inl (omega arith) }
 
-  pub taken_by : (states most : ℕ) (u v : WorkView G N) → TakesTurns states u v → HasTaken states most u v
-  taken_by states most u v takes not = inl takes
+  pub taken_by : (states most : ℕ) (u v : WorkView G N) → TakesTurns states u v → TakesAtMost states most u v
+  taken_by states most u v takes = record { unless_full = λ not. inl takes }
+
+  -- a turn that was not taken
+  pub turned_no_more : (most : ℕ) (v board : BoardView G N) (w new : WorkerView) → new.turns ≡ w.turns → new ≡ record w { turns = new.turns } → TakesAtMost most most (at_work v w) (at_work board new)
+  turned_no_more most v board w new turns is = record {
+    unless_full = λ not.
+        let spent : new.turns.spent ≡ w.turns.spent = ap (λ (t : Budget). t.spent) turns in
+        let keys : length new.settled.keys ≡ length w.settled.keys = ap (λ (x : WorkerView). length x.settled.keys) is in
+        inl (omega arith);
+  }
+
+  -- turns are counted alike from any board
+  pub taken_on : (states most : ℕ) (v board : BoardView G N) (w : WorkerView) (x : WorkView G N) → TakesAtMost states most (at_work board w) x → TakesAtMost states most (at_work v w) x
+  taken_on states most v board w x taken = record { unless_full = taken.unless_full }
+
+  -- visits alone change no count of turns
+  pub same_taken : (states most : ℕ) (v board : BoardView G N) (w new : WorkerView) (x : WorkView G N) → new ≡ record w { visits = new.visits } → TakesAtMost states most (at_work board new) x → TakesAtMost states most (at_work v w) x
+  same_taken states most v board w new x is taken = record {
+    unless_full = λ not.
+        let spent : new.turns.spent ≡ w.turns.spent = ap (λ (y : WorkerView). y.turns.spent) is in
+        let keys : length new.settled.keys ≡ length w.settled.keys = ap (λ (y : WorkerView). length y.settled.keys) is in
+        ⊎_elim
+        (λ (a : TakesTurns states (at_work board new) x). inl (omega arith))
+        (λ (b : (left_of x.turns ≡ 0) × TakesTurns most (at_work board new) x). let b1 = b.1 in inr (b.0, omega arith))
+        (taken.unless_full not);
+  }
 
 module _ {S G N : Type 0} (m : GameModel S) where
   longer : (total limit : ℕ) (v : BoardView G N) (x y : FinishedView) → IsExtended m total v limit x y → length x.keys ≤ length y.keys
   longer total limit v x y more = rw (more.joins, length-append x.keys more.more) (omega arith)
 
-  pub taken_after : (limit states other most : ℕ) (u v w : WorkView G N) → IsWorked m limit v w → other ≤ most → HasTaken 0 most u v → HasTaken states other v w → HasTaken states most u w
-  taken_after limit states other most u v w worked few p q not =
-      let more = longer w.board.total limit w.board v.settled w.settled worked.settled in
-      let left : left_of v.turns ≡ 0 → left_of w.turns ≡ 0 = λ e. let same = worked.turns.none e in let same_limit = worked.turns.limit in omega arith in
-      ⊎_elim
-      (λ (a : TakesTurns 0 u v). ⊎_elim
-      (λ (b : TakesTurns states v w). inl (omega arith))
-      (λ (b : (left_of w.turns ≡ 0) × TakesTurns other v w). let b1 = b.1 in inr (b.0, omega arith))
-      (q not))
-      (λ (a : (left_of v.turns ≡ 0) × TakesTurns most u v). let a1 = a.1 in let same = worked.turns.none a.0 in inr (left a.0, omega arith))
-      (p (not_before v.settled.was_full w.settled.was_full worked.settled.full not))
+  pub taken_after : (s : S) (limit states other most : ℕ) (u v w : WorkView G N) → IsWorkedBelow m s limit v w → other ≤ most → TakesAtMost 0 most u v → TakesAtMost states other v w → TakesAtMost states most u w
+  taken_after s limit states other most u v w worked few p q = record {
+    unless_full = λ not.
+        let more = longer w.board.total limit w.board v.settled w.settled worked.settled in
+        let left : left_of v.turns ≡ 0 → left_of w.turns ≡ 0 = λ e. let same = worked.turns.none e in let same_limit = worked.turns.limit in omega arith in
+        ⊎_elim
+        (λ (a : TakesTurns 0 u v). ⊎_elim
+        (λ (b : TakesTurns states v w). inl (omega arith))
+        (λ (b : (left_of w.turns ≡ 0) × TakesTurns other v w). let b1 = b.1 in inr (b.0, omega arith))
+        (q.unless_full not))
+        (λ (a : (left_of v.turns ≡ 0) × TakesTurns most u v). let a1 = a.1 in let same = worked.turns.none a.0 in inr (left a.0, omega arith))
+        (p.unless_full (not_before v.settled.was_full w.settled.was_full worked.settled.full not));
+  }
 
   -- ---- what is done stays done
   pub done_later : (s : S) (v w : BoardView G N) → IsLater v w → IsDone m v s → IsDone m w s
@@ -106,25 +137,28 @@ module _ {S G N : Type 0} (m : GameModel S) where
   done_within s v within goes_on stage is = omega (arith, ints)
 
   -- ---- one part after another
-  pub passed_none : (limit : ℕ) (v : WorkView G N) (Known : Type 0) → AreFinished m v.board.total v.board v.settled.keys → Known → IsPassed m limit v v Known
-  passed_none limit v Known finished done = record { worked = worked_none m limit v finished; turns = taken_none (limit - 1) v; done = done }
+  pub passed_none : (s : S) (limit : ℕ) (v : WorkView G N) (Known : Type 0) → AreFinished m v.board.total v.board v.settled.keys → Known → IsPassed m s limit v v Known
+  passed_none s limit v Known finished done = record { worked = worked_none m s limit v finished; turns = taken_none (limit - 1) v; done = done }
 
-  pub passed_after : (limit other : ℕ) (u v w : WorkView G N) (Known More : Type 0) → other ≤ limit → IsPassed m limit u v Known → IsWorked m other v w → HasTaken 0 (other - 1) v w → (IsLater v.board w.board → Known → More) → IsPassed m limit u w More
-  passed_after limit other u v w Known More few p worked taken more = record {
-    worked = worked_after m limit other limit u v w (omega arith) few p.worked worked;
-    turns = taken_after other 0 (other - 1) (limit - 1) u v w worked (omega arith) p.turns taken;
+  pub passed_after : (s : S) (limit other below : ℕ) (u v w : WorkView G N) (Known More : Type 0) → other ≤ limit → below ≤ limit - 1 → IsPassed m s limit u v Known → IsWorkedBelow m s other v w → TakesAtMost 0 below v w
+      → (IsLater v.board w.board → Known → More) → IsPassed m s limit u w More
+  passed_after s limit other below u v w Known More few low p worked taken more = record {
+    worked = worked_after m s limit other limit u v w (omega arith) few p.worked worked;
+    turns = taken_after s other 0 below (limit - 1) u v w worked low p.turns taken;
     done = more worked.board.later p.done;
   }
 
   -- the part that stops
-  pub stopped_worked : (limit other : ℕ) (u v w : WorkView G N) (Known : Type 0) → other ≤ limit → IsPassed m limit u v Known → IsWorked m other v w → IsWorked m limit u w
-  stopped_worked limit other u v w Known few p worked = worked_after m limit other limit u v w (omega arith) few p.worked worked
+  pub stopped_worked : (s : S) (limit other : ℕ) (u v w : WorkView G N) (Known : Type 0) → other ≤ limit → IsPassed m s limit u v Known → IsWorkedBelow m s other v w → IsWorkedBelow m s limit u w
+  stopped_worked s limit other u v w Known few p worked = worked_after m s limit other limit u v w (omega arith) few p.worked worked
 
-  pub stopped_taken : (limit other : ℕ) (u v w : WorkView G N) (Known : Type 0) → other ≤ limit → IsPassed m limit u v Known → IsWorked m other v w → HasTaken (other - 1) (other - 1) v w → HasTaken (limit - 1) (limit - 1) u w
-  stopped_taken limit other u v w Known few p worked taken not = ⊎_elim
-      (λ (a : TakesTurns (other - 1) u w). inl (omega arith))
-      (λ (b : (left_of w.turns ≡ 0) × TakesTurns (limit - 1) u w). inr b)
-      (taken_after other (other - 1) (other - 1) (limit - 1) u v w worked (omega arith) p.turns taken not)
+  pub stopped_taken : (s : S) (limit other below : ℕ) (u v w : WorkView G N) (Known : Type 0) → below ≤ limit - 1 → IsPassed m s limit u v Known → IsWorkedBelow m s other v w → TakesAtMost below below v w → TakesAtMost (limit - 1) (limit - 1) u w
+  stopped_taken s limit other below u v w Known low p worked taken = record {
+    unless_full = λ not. ⊎_elim
+        (λ (a : TakesTurns below u w). inl (omega arith))
+        (λ (b : (left_of w.turns ≡ 0) × TakesTurns (limit - 1) u w). inr b)
+        ((taken_after s other below below (limit - 1) u v w worked low p.turns taken).unless_full not);
+  }
 
   -- ---- the states that were finished
   module _ (game : IsGame m) (s : S) (r : Reachable m s) where
@@ -162,39 +196,39 @@ module _ {S G N : Type 0} (m : GameModel S) (game : IsGame m) (s : S) (r : Reach
   finished_now total limit v row held below close = record { state = s; reachable = r; goes_on = goes_on; below = below; is_key = refl; row = row; held = held; close = close }
 
   -- a search that finished its state, whose key was added
-  pub added_worked : (u v : WorkView G N) (new : FinishedView) (row : ℕ) → v.board.key_at row ≡ Some (m.key s) → IsWorked m (m.rank s) u v → new ≡ record v.settled { keys = v.settled.keys ++ m.key s ∷ [] }
-      → (Contains v.settled.keys (m.key s) → ⊥) → IsClose m v.board.total v.board s → IsWorked m (m.rank s + 1) u (record v { settled = new })
-  added_worked u v new row held worked is not close =
+  pub added_worked : (u : WorkView G N) (board : BoardView G N) (w new : WorkerView) (row : ℕ) → board.key_at row ≡ Some (m.key s) → IsWorked m s u (at_work board w) → new ≡ with_key w (m.key s)
+      → (Contains w.settled.keys (m.key s) → ⊥) → IsClose m board.total board s → IsWorkedBelow m s (m.rank s + 1) u (at_work board new)
+  added_worked u board w new row held worked is not close =
       let key = m.key s in
-      let total = v.board.total in
-      let keys : new.keys ≡ v.settled.keys ++ key ∷ [] = ap (λ (f : FinishedView). f.keys) is in
+      let total = board.total in
       let high = game.rank_high s r in
-      let more : IsExtended m total v.board (m.rank s + 1) v.settled new = record {
+      let more : IsExtended m total board (m.rank s + 1) w.settled (with_key w key).settled = record {
         more = key ∷ [];
-        joins = keys;
-        each = All-push (IsFinished m total v.board (m.rank s + 1)) [] key (All-nil (IsFinished m total v.board (m.rank s + 1))) (finished_now total (m.rank s + 1) v.board row held (omega arith) close);
-        full = λ e. ap (λ (f : FinishedView). f.was_full) is ∙ e;
+        joins = refl;
+        each = All-push (IsFinished m total board (m.rank s + 1)) [] key (All-nil (IsFinished m total board (m.rank s + 1))) (finished_now total (m.rank s + 1) board row held (omega arith) close);
+        full = λ e. e;
       } in
-      record {
+      subst (λ (x : WorkerView). IsWorkedBelow m s (m.rank s + 1) u (at_work board x)) (sym is) (record {
         board = worked.board;
         turns = worked.turns;
         visits = worked.visits;
-        settled = extended_after m total (m.rank s) (m.rank s + 1) (m.rank s + 1) v.board v.board u.settled v.settled new (later_refl v.board) (omega arith) (omega arith) worked.settled more;
-        finished = subst (λ (l : List ℕ). AreFinished m total v.board l) (sym keys) (record {
-          each = All-push (IsFinished m total v.board 32) v.settled.keys key worked.finished.each (finished_now total 32 v.board row held (omega arith) close);
-          apart = apart_more v.settled.keys key worked.finished.apart not;
-        });
-        cause = λ e. worked.cause (sym (ap (λ (f : FinishedView). f.was_full) is) ∙ e);
-      }
+        settled = extended_after m total (m.rank s) (m.rank s + 1) (m.rank s + 1) board board u.settled w.settled (with_key w key).settled (later_refl board) (omega arith) (omega arith) worked.settled more;
+        finished = record {
+          each = All-push (IsFinished m total board 32) w.settled.keys key worked.finished.each (finished_now total 32 board row held (omega arith) close);
+          apart = apart_more w.settled.keys key worked.finished.apart not;
+        };
+        cause = worked.cause;
+      })
 
-  pub added_taken : (u v : WorkView G N) (new : FinishedView) → new ≡ record v.settled { keys = v.settled.keys ++ m.key s ∷ [] } → HasTaken 1 (m.rank s) u v → HasTaken 0 (m.rank s) u (record v { settled = new })
-  added_taken u v new is takes not =
-      let keys : new.keys ≡ v.settled.keys ++ m.key s ∷ [] = ap (λ (f : FinishedView). f.keys) is in
-      let count : length new.keys ≡ length v.settled.keys + 1 = ap length keys ∙ length-append v.settled.keys (m.key s ∷ []) in
-      ⊎_elim
-      (λ (a : TakesTurns 1 u v). inl (omega arith))
-      (λ (b : (left_of v.turns ≡ 0) × TakesTurns (m.rank s) u v). let b1 = b.1 in inr (b.0, omega arith))
-      (takes (sym (ap (λ (f : FinishedView). f.was_full) is) ∙ not))
+  pub added_taken : (u : WorkView G N) (board : BoardView G N) (w new : WorkerView) → new ≡ with_key w (m.key s) → TakesAtMost 1 (m.rank s) u (at_work board w) → TakesAtMost 0 (m.rank s) u (at_work board new)
+  added_taken u board w new is takes = subst (λ (x : WorkerView). TakesAtMost 0 (m.rank s) u (at_work board x)) (sym is) (record {
+    unless_full = λ not.
+        let count = length-append w.settled.keys (m.key s ∷ []) in
+        ⊎_elim
+        (λ (a : TakesTurns 1 u (at_work board w)). inl (omega arith))
+        (λ (b : (left_of w.turns ≡ 0) × TakesTurns (m.rank s) u (at_work board w)). let b1 = b.1 in inr (b.0, omega arith))
+        (takes.unless_full not);
+  })
 
 pub step_turned : (old new : Budget) → (left_of old ≡ 0 → new ≡ old) → (new ≡ old) ⊎ (new ≡ after_turn old) → HasTurned old new
 step_turned old new none one = ⊎_elim
@@ -210,35 +244,35 @@ step_turned old new none one = ⊎_elim
     one
 
 -- ---- the parts of a search that finish no state
-module _ {S G N : Type 0} (m : GameModel S) (limit : ℕ) (v : WorkView G N) (finished : AreFinished m v.board.total v.board v.settled.keys) where
-  pub worked_step : (board : BoardView G N) (turns : Budget) → IsLater v.board board → Grows (IsLawfulEntry m v.board.total) v.board.entries board.entries → HasTurned v.turns turns
-      → IsWorked m limit v (record v { board = board; turns = turns })
-  worked_step board turns later posted turned = worked_by m limit v (record v { board = board; turns = turns }) (record { later = later; posted = posted }) turned (visited_none v.visits) refl (λ e. e) finished (λ e. inl e)
+module _ {S G N : Type 0} (m : GameModel S) (s : S) (limit : ℕ) (v : BoardView G N) (w : WorkerView) (finished : HasFinished m (at_work v w)) where
+  pub worked_quiet : (board : BoardView G N) → IsLater v board → board.entries ≡ v.entries → IsWorkedBelow m s limit (at_work v w) (at_work board w)
+  worked_quiet board later same = worked_by m s limit (at_work v w) (at_work board w) (better_quiet m v.total v board later same) (turned_none w.turns) (visited_none w.visits) refl (λ e. e) finished (λ e. inl e)
 
-  pub worked_quiet : (board : BoardView G N) → IsLater v.board board → board.entries ≡ v.board.entries → IsWorked m limit v (record v { board = board })
-  worked_quiet board later same = worked_step board v.turns later (grows_none (IsLawfulEntry m v.board.total) v.board.entries board.entries same) (turned_none v.turns)
+  pub worked_twice : (x y : BoardView G N) → IsLater v x → x.entries ≡ v.entries → IsLater x y → y.entries ≡ x.entries → IsWorkedBelow m s limit (at_work v w) (at_work y w)
+  worked_twice x y later same next next_same = worked_quiet y (later_trans v x y later next) (next_same ∙ same)
 
-  pub worked_twice : (x y : BoardView G N) → IsLater v.board x → x.entries ≡ v.board.entries → IsLater x y → y.entries ≡ x.entries → IsWorked m limit v (record v { board = y })
-  worked_twice x y later same next next_same = worked_quiet y (later_trans v.board x y later next) (next_same ∙ same)
+  -- a turn
+  pub worked_turn : (board : BoardView G N) (new : WorkerView) → IsLater v board → Grows (IsLawfulEntry m v.total) v.entries board.entries → (left_of w.turns ≡ 0 → new.turns ≡ w.turns) → (new.turns ≡ w.turns) ⊎ (new.turns ≡ after_turn w.turns)
+      → new ≡ record w { turns = new.turns } → IsWorkedBelow m s limit (at_work v w) (at_work board new)
+  worked_turn board new later posted none one is = subst (λ (x : WorkerView). IsWorkedBelow m s limit (at_work v w) (at_work board x)) (sym is)
+      (worked_by m s limit (at_work v w) (at_work board (record w { turns = new.turns })) (record { later = later; posted = posted }) (step_turned w.turns new.turns none one) (visited_none w.visits) refl (λ e. e) finished (λ e. inl e))
 
-  -- a turn, and a reading after it
-  pub worked_turn : (x : BoardView G N) (turns : Budget) (y : BoardView G N) → IsLater v.board x → Grows (IsLawfulEntry m v.board.total) v.board.entries x.entries → (left_of v.turns ≡ 0 → turns ≡ v.turns) → (turns ≡ v.turns) ⊎ (turns ≡ after_turn v.turns)
-      → IsLater x y → y.entries ≡ x.entries → IsWorked m limit v (record v { board = y; turns = turns })
-  worked_turn x turns y later posted none one next same =
-      let more : Grows (IsLawfulEntry m v.board.total) x.entries y.entries = grows_none (IsLawfulEntry m v.board.total) x.entries y.entries same in
-      worked_step y turns (later_trans v.board x y later next) (grows_after (IsLawfulEntry m v.board.total) v.board.entries x.entries y.entries posted more) (step_turned v.turns turns none one)
+  -- searches by pure plans
+  pub worked_pure : (board : BoardView G N) (new : WorkerView) → IsBetter m v.total v board → HasVisited w.visits new.visits → new ≡ record w { visits = new.visits } → IsWorkedBelow m s limit (at_work v w) (at_work board new)
+  worked_pure board new better visited is = subst (λ (x : WorkerView). IsWorkedBelow m s limit (at_work v w) (at_work board x)) (sym is)
+      (worked_by m s limit (at_work v w) (at_work board (record w { visits = new.visits })) better (turned_none w.turns) visited refl (λ e. e) finished (λ e. inl e))
 
   -- a claim that was full
-  pub worked_full : (board : BoardView G N) (settled : FinishedView) → IsLater v.board board → board.entries ≡ v.board.entries → settled ≡ record v.settled { was_full = true } → WasFull m board
-      → IsWorked m limit v (record v { board = board; settled = settled })
-  worked_full board settled later same is was = worked_by m limit v (record v { board = board; settled = settled }) (better_quiet m v.board.total v.board board later same) (turned_none v.turns) (visited_none v.visits)
-      (ap (λ (f : FinishedView). f.keys) is) (λ _. ap (λ (f : FinishedView). f.was_full) is) finished (λ _. inr was)
+  pub worked_full : (board : BoardView G N) (new : WorkerView) → IsLater v board → board.entries ≡ v.entries → new ≡ with_full w → IsBoardFull m s board → IsWorkedBelow m s limit (at_work v w) (at_work board new)
+  worked_full board new later same is was = subst (λ (x : WorkerView). IsWorkedBelow m s limit (at_work v w) (at_work board x)) (sym is)
+      (worked_by m s limit (at_work v w) (at_work board (with_full w)) (better_quiet m v.total v board later same) (turned_none w.turns) (visited_none w.visits) refl (λ _. refl) finished (λ _. inr was))
 
--- a part that bounds a state, after another
-pub bounded_worked : {S G N : Type 0} (m : GameModel S) (limit : ℕ) (u b d : WorkView G N) → IsWorked m limit u b → IsBetter m b.board.total b.board d.board → d.turns ≡ b.turns → HasVisited b.visits d.visits → d.settled ≡ b.settled → IsWorked m limit u d
-bounded_worked m limit u b d p better turns visited settled = worked_after m limit limit limit u b d (omega arith) (omega arith) p
-    (worked_by m limit b d better (subst (λ (t : Budget). HasTurned b.turns t) (sym turns) (turned_none b.turns)) visited (ap (λ (f : FinishedView). f.keys) settled) (λ e. ap (λ (f : FinishedView). f.was_full) settled ∙ e) p.finished
-    (λ e. inl (sym (ap (λ (f : FinishedView). f.was_full) settled) ∙ e)))
+-- a claim that was full, and its turns
+pub full_stop : {S G N : Type 0} (m : GameModel S) (s : S) (board : BoardView G N) (w new : WorkerView) → new ≡ with_full w → IsBoardFull m s board → IsStop m s (at_work board new) stops.Full
+full_stop m s board w new is was = (ap (λ (x : WorkerView). x.settled.was_full) is, was)
+
+pub full_taken : {G N : Type 0} (states most : ℕ) (u : WorkView G N) (board : BoardView G N) (w new : WorkerView) → new ≡ with_full w → TakesAtMost states most u (at_work board new)
+full_taken states most u board w new is = record { unless_full = λ not. let why : new.settled.was_full ≡ true = ap (λ (x : WorkerView). x.settled.was_full) is in let wrong : false ≡ true = sym not ∙ why in absurd (cc) }
 
 -- ---- how the search of one of the states ended
 module _ {S G N : Type 0} (m : GameModel S) (s : S) where
@@ -248,28 +282,32 @@ module _ {S G N : Type 0} (m : GameModel S) (s : S) where
   ended_close v Spent goes_on is ends stage stage_is = absurd (cc)
   ended_close v Full goes_on is ends stage stage_is = absurd (cc)
 
-  pub ended_one : (rank : ℕ) (u v : WorkView G N) (end : SearchEnd) → stop_of end ≡ None → HasTaken (open_states rank end) rank u v → HasTaken 1 rank u v
+  pub ended_one : (rank : ℕ) (u v : WorkView G N) (end : SearchEnd) → stop_of end ≡ None → TakesAtMost (open_states rank end) rank u v → TakesAtMost 1 rank u v
   ended_one rank u v Reached is taken = taken
   ended_one rank u v Settled is taken = taken
   ended_one rank u v Spent is taken = absurd (cc)
   ended_one rank u v Full is taken = absurd (cc)
 
-  pub ended_stop : (v : WorkView G N) (end : SearchEnd) (target : ℤ) (stop : Stop) → stop_of end ≡ Some stop → Ends m s target v end → IsStop v stop
+  pub ended_stop : (v : WorkView G N) (end : SearchEnd) (target : ℤ) (stop : Stop) → stop_of end ≡ Some stop → Ends m s target v end → IsStop m s v stop
   ended_stop v Reached target stop is ends = absurd (cc)
   ended_stop v Settled target stop is ends = absurd (cc)
-  ended_stop v Spent target stop is ends = let same : stops.Spent ≡ stop = cc in subst (λ (x : Stop). IsStop v x) same ends.2
-  ended_stop v Full target stop is ends = let same : stops.Full ≡ stop = cc in subst (λ (x : Stop). IsStop v x) same ends
+  ended_stop v Spent target stop is ends = let same : stops.Spent ≡ stop = cc in subst (λ (x : Stop). IsStop m s v x) same ends.2
+  ended_stop v Full target stop is ends = let same : stops.Full ≡ stop = cc in subst (λ (x : Stop). IsStop m s v x) same ends
 
-  pub ended_open : (rank : ℕ) (u v : WorkView G N) (end : SearchEnd) (stop : Stop) → stop_of end ≡ Some stop → HasTaken (open_states rank end) rank u v → HasTaken rank rank u v
+  pub ended_open : (rank : ℕ) (u v : WorkView G N) (end : SearchEnd) (stop : Stop) → stop_of end ≡ Some stop → TakesAtMost (open_states rank end) rank u v → TakesAtMost rank rank u v
   ended_open rank u v Reached stop is taken = absurd (cc)
   ended_open rank u v Settled stop is taken = absurd (cc)
   ended_open rank u v Spent stop is taken = taken
   ended_open rank u v Full stop is taken = taken
 
--- why a search stops does not hang on the board
-pub stop_kept : {G N : Type 0} (v w : WorkView G N) (stop : Stop) → w.turns ≡ v.turns → w.settled ≡ v.settled → IsStop v stop → IsStop w stop
-stop_kept v w stops.Spent turns settled is = ap left_of turns ∙ is
-stop_kept v w stops.Full turns settled is = ap (λ (f : FinishedView). f.was_full) settled ∙ is
+-- why a search stops, on a later board and for the state before
+pub stop_kept : {S G N : Type 0} (m : GameModel S) (s : S) (v board : BoardView G N) (w : WorkerView) (stop : Stop) → IsLater v board → IsStop m s (at_work v w) stop → IsStop m s (at_work board w) stop
+stop_kept m s v board w stops.Spent later is = is
+stop_kept m s v board w stops.Full later is = (is.0, full_kept m s v board later is.1)
+
+pub stop_under : {S G N : Type 0} (m : GameModel S) (s child : S) (v : WorkView G N) (stop : Stop) → ((t : S) → LeadsTo m child t → LeadsTo m s t) → IsStop m child v stop → IsStop m s v stop
+stop_under m s child v stops.Spent leads is = is
+stop_under m s child v stops.Full leads is = (is.0, full_below m s child v.board leads is.1)
 
 -- ---- a restricted game that grows
 pub after_rows : (h : HeldMoves) (end : StepEnd) → (held_after h end).most_rows ≡ h.most_rows
@@ -282,39 +320,41 @@ after_cols h (Done lower upper) = refl
 
 module _ {S G N : Type 0} (m : GameModel S) (s : S) (goes_on : 1 ≤ m.rank s) where
   pub growing_none : (v : WorkView G N) (held : HeldMoves) → AreFinished m v.board.total v.board v.settled.keys → count_held held ≡ 2 → held.most_rows ≡ m.moves One s → held.most_cols ≡ m.moves Two s → IsGrowing m s v v held
-  growing_none v held finished two rows cols = record { worked = worked_none m (m.rank s) v finished; turns = λ _. inl (omega arith); few = omega arith; rows = rows; cols = cols }
+  growing_none v held finished two rows cols = record { worked = worked_none m s (m.rank s) v finished; turns = λ _. inl (omega arith); few = omega arith; rows = rows; cols = cols }
 
   -- what a restricted game and the states after its moves took, wherever these stopped
-  pub growing_taken : (u v w : WorkView G N) (held : HeldMoves) → IsGrowing m s u v held → IsWorked m (m.rank s) v w → HasTaken (m.rank s - 1) (m.rank s - 1) v w → HasTaken (m.rank s) (m.rank s) u w
-  growing_taken u v w held g worked taken not =
-      let more = longer m w.board.total (m.rank s) w.board v.settled w.settled worked.settled in
-      let few = g.few in
-      ⊎_elim
-      (λ (a : v.turns.spent + 63 * length u.settled.keys + 2 ≤ u.turns.spent + 63 * length v.settled.keys + count_held held). ⊎_elim
-      (λ (b : TakesTurns (m.rank s - 1) v w). inl (omega arith))
-      (λ (b : (left_of w.turns ≡ 0) × TakesTurns (m.rank s - 1) v w). let b1 = b.1 in inl (omega arith))
-      (taken not))
-      (λ (a : (left_of v.turns ≡ 0) × TakesTurns (m.rank s) u v). let a1 = a.1 in let same = worked.turns.none a.0 in inl (omega arith))
-      (g.turns (not_before v.settled.was_full w.settled.was_full worked.settled.full not))
+  pub growing_taken : (u v w : WorkView G N) (held : HeldMoves) → IsGrowing m s u v held → IsWorked m s v w → TakesAtMost (m.rank s - 1) (m.rank s - 1) v w → TakesAtMost (m.rank s) (m.rank s) u w
+  growing_taken u v w held g worked taken = record {
+    unless_full = λ not.
+        let more = longer m w.board.total (m.rank s) w.board v.settled w.settled worked.settled in
+        let few = g.few in
+        ⊎_elim
+        (λ (a : v.turns.spent + 63 * length u.settled.keys + 2 ≤ u.turns.spent + 63 * length v.settled.keys + count_held held). ⊎_elim
+        (λ (b : TakesTurns (m.rank s - 1) v w). inl (omega arith))
+        (λ (b : (left_of w.turns ≡ 0) × TakesTurns (m.rank s - 1) v w). let b1 = b.1 in inl (omega arith))
+        (taken.unless_full not))
+        (λ (a : (left_of v.turns ≡ 0) × TakesTurns (m.rank s) u v). let a1 = a.1 in let same = worked.turns.none a.0 in inl (omega arith))
+        (g.turns (not_before v.settled.was_full w.settled.was_full worked.settled.full not));
+  }
 
   -- what follows the states after held moves
-  pub growing_worked : (u v w y : WorkView G N) (held : HeldMoves) → IsGrowing m s u v held → IsWorked m (m.rank s) v w → IsWorked m (m.rank s) w y → IsWorked m (m.rank s) u y
+  pub growing_worked : (u v w y : WorkView G N) (held : HeldMoves) → IsGrowing m s u v held → IsWorked m s v w → IsWorked m s w y → IsWorked m s u y
   growing_worked u v w y held g below after =
-      worked_after m (m.rank s) (m.rank s) (m.rank s) u v y (omega arith) (omega arith) g.worked (worked_after m (m.rank s) (m.rank s) (m.rank s) v w y (omega arith) (omega arith) below after)
+      worked_after m s (m.rank s) (m.rank s) (m.rank s) u v y (omega arith) (omega arith) g.worked (worked_after m s (m.rank s) (m.rank s) (m.rank s) v w y (omega arith) (omega arith) below after)
 
   -- the states after held moves, all done
-  pub growing_passed : (u v w : WorkView G N) (held : HeldMoves) → IsGrowing m s u v held → IsWorked m (m.rank s) v w → HasTaken 0 (m.rank s - 1) v w → IsGrowing m s u w held
+  pub growing_passed : (u v w : WorkView G N) (held : HeldMoves) → IsGrowing m s u v held → IsWorked m s v w → TakesAtMost 0 (m.rank s - 1) v w → IsGrowing m s u w held
   growing_passed u v w held g worked taken =
       let more = longer m w.board.total (m.rank s) w.board v.settled w.settled worked.settled in
       let few = g.few in
       let left : left_of v.turns ≡ 0 → left_of w.turns ≡ 0 = λ e. let same = worked.turns.none e in let same_limit = worked.turns.limit in omega arith in
       record {
-        worked = worked_after m (m.rank s) (m.rank s) (m.rank s) u v w (omega arith) (omega arith) g.worked worked;
+        worked = worked_after m s (m.rank s) (m.rank s) (m.rank s) u v w (omega arith) (omega arith) g.worked worked;
         turns = λ not. ⊎_elim
             (λ (a : v.turns.spent + 63 * length u.settled.keys + 2 ≤ u.turns.spent + 63 * length v.settled.keys + count_held held). ⊎_elim
             (λ (b : TakesTurns 0 v w). inl (omega arith))
             (λ (b : (left_of w.turns ≡ 0) × TakesTurns (m.rank s - 1) v w). let b1 = b.1 in inr (b.0, omega arith))
-            (taken not))
+            (taken.unless_full not))
             (λ (a : (left_of v.turns ≡ 0) × TakesTurns (m.rank s) u v). let a1 = a.1 in let same = worked.turns.none a.0 in inr (left a.0, omega arith))
             (g.turns (not_before v.settled.was_full w.settled.was_full worked.settled.full not));
         few = g.few;
@@ -323,27 +363,29 @@ module _ {S G N : Type 0} (m : GameModel S) (s : S) (goes_on : 1 ≤ m.rank s) w
       }
 
   -- one turn, of a game that may grow no more
-  pub growing_turn : (u v w : WorkView G N) (held : HeldMoves) → IsGrowing m s u v held → (left_of v.turns ≡ 0 → ⊥) → w.turns ≡ after_turn v.turns → w.settled ≡ v.settled → HasTaken 1 (m.rank s) u w
-  growing_turn u v w held g some turn same not =
-      let spent : w.turns.spent ≡ v.turns.spent + 1 = ap (λ (t : Budget). t.spent) turn in
-      let keys : length w.settled.keys ≡ length v.settled.keys = ap (λ (f : FinishedView). length f.keys) same in
-      let few = g.few in
-      ⊎_elim
-      (λ (a : v.turns.spent + 63 * length u.settled.keys + 2 ≤ u.turns.spent + 63 * length v.settled.keys + count_held held). inl (omega arith))
-      (λ (a : (left_of v.turns ≡ 0) × TakesTurns (m.rank s) u v). absurd (some a.0))
-      (g.turns (sym (ap (λ (f : FinishedView). f.was_full) same) ∙ not))
+  pub growing_turn : (u v w : WorkView G N) (held : HeldMoves) → IsGrowing m s u v held → HasTurn v.turns w.turns → w.settled ≡ v.settled → TakesAtMost 1 (m.rank s) u w
+  growing_turn u v w held g turn same = record {
+    unless_full = λ not.
+        let spent : w.turns.spent ≡ v.turns.spent + 1 = ap (λ (t : Budget). t.spent) turn.1 in let left = turn.0 in
+        let keys : length w.settled.keys ≡ length v.settled.keys = ap (λ (f : FinishedView). length f.keys) same in
+        let few = g.few in
+        ⊎_elim
+        (λ (a : v.turns.spent + 63 * length u.settled.keys + 2 ≤ u.turns.spent + 63 * length v.settled.keys + count_held held). inl (omega arith))
+        (λ (a : (left_of v.turns ≡ 0) × TakesTurns (m.rank s) u v). let none = a.0 in absurd (omega arith))
+        (g.turns (sym (ap (λ (f : FinishedView). f.was_full) same) ∙ not));
+  }
 
   -- one turn, with a move added
-  pub growing_more : (u v w : WorkView G N) (held new : HeldMoves) → IsGrowing m s u v held → (left_of v.turns ≡ 0 → ⊥) → IsWorked m (m.rank s) v w → w.turns ≡ after_turn v.turns → w.settled ≡ v.settled
+  pub growing_more : (u v w : WorkView G N) (held new : HeldMoves) → IsGrowing m s u v held → IsWorked m s v w → HasTurn v.turns w.turns → w.settled ≡ v.settled
       → count_held held < count_held new → count_held new ≤ 64 → new.most_rows ≡ held.most_rows → new.most_cols ≡ held.most_cols → IsGrowing m s u w new
-  growing_more u v w held new g some worked turn same rises few rows cols =
-      let spent : w.turns.spent ≡ v.turns.spent + 1 = ap (λ (t : Budget). t.spent) turn in
+  growing_more u v w held new g worked turn same rises few rows cols =
+      let spent : w.turns.spent ≡ v.turns.spent + 1 = ap (λ (t : Budget). t.spent) turn.1 in let left = turn.0 in
       let keys : length w.settled.keys ≡ length v.settled.keys = ap (λ (f : FinishedView). length f.keys) same in
       record {
-        worked = worked_after m (m.rank s) (m.rank s) (m.rank s) u v w (omega arith) (omega arith) g.worked worked;
+        worked = worked_after m s (m.rank s) (m.rank s) (m.rank s) u v w (omega arith) (omega arith) g.worked worked;
         turns = λ not. ⊎_elim
             (λ (a : v.turns.spent + 63 * length u.settled.keys + 2 ≤ u.turns.spent + 63 * length v.settled.keys + count_held held). inl (omega arith))
-            (λ (a : (left_of v.turns ≡ 0) × TakesTurns (m.rank s) u v). absurd (some a.0))
+            (λ (a : (left_of v.turns ≡ 0) × TakesTurns (m.rank s) u v). let none = a.0 in absurd (omega arith))
             (g.turns (sym (ap (λ (f : FinishedView). f.was_full) same) ∙ not));
         few = few;
         rows = rows ∙ g.rows;
@@ -351,15 +393,15 @@ module _ {S G N : Type 0} (m : GameModel S) (s : S) (goes_on : 1 ≤ m.rank s) w
       }
 
   -- ---- how a search ends that stopped
-  pub stopped_ends : (w : WorkView G N) (target : ℤ) (stop : Stop) (end : SearchEnd) → IsStop w stop → IsStoppedAs w.board (m.key s) target stop end → Ends m s target w end
+  pub stopped_ends : (w : WorkView G N) (target : ℤ) (stop : Stop) (end : SearchEnd) → IsStop m s w stop → IsStoppedAs w.board (m.key s) target stop end → Ends m s target w end
   stopped_ends w target stop Reached why is = λ _. is
   stopped_ends w target stop Settled why is = absurd is
-  stopped_ends w target stop Spent why is = (goes_on, is.0, subst (λ (x : Stop). IsStop w x) is.1 why)
-  stopped_ends w target stop Full why is = subst (λ (x : Stop). IsStop w x) is.1 why
+  stopped_ends w target stop Spent why is = (goes_on, is.0, subst (λ (x : Stop). IsStop m s w x) is.1 why)
+  stopped_ends w target stop Full why is = subst (λ (x : Stop). IsStop m s w x) is.1 why
 
-  pub stopped_open : (u w : WorkView G N) (target : ℤ) (stop : Stop) (end : SearchEnd) → IsStop w stop → IsStoppedAs w.board (m.key s) target stop end → HasTaken (m.rank s) (m.rank s) u w → HasTaken (open_states (m.rank s) end) (m.rank s) u w
-  stopped_open u w target stops.Spent Reached why is taken = λ not. inr (why, ⊎_elim (λ (a : TakesTurns (m.rank s) u w). a) (λ (b : (left_of w.turns ≡ 0) × TakesTurns (m.rank s) u w). b.1) (taken not))
-  stopped_open u w target stops.Full Reached why is taken = λ not. let wrong : false ≡ true = sym not ∙ why in absurd (cc)
+  pub stopped_open : (u w : WorkView G N) (target : ℤ) (stop : Stop) (end : SearchEnd) → IsStop m s w stop → IsStoppedAs w.board (m.key s) target stop end → TakesAtMost (m.rank s) (m.rank s) u w → HasTaken m s end u w
+  stopped_open u w target stops.Spent Reached why is taken = record { unless_full = λ not. inr (why, ⊎_elim (λ (a : TakesTurns (m.rank s) u w). a) (λ (b : (left_of w.turns ≡ 0) × TakesTurns (m.rank s) u w). b.1) (taken.unless_full not)) }
+  stopped_open u w target stops.Full Reached why is taken = record { unless_full = λ not. let wrong : false ≡ true = sym not ∙ why.0 in absurd (cc) }
   stopped_open u w target stop Settled why is taken = absurd is
   stopped_open u w target stop Spent why is taken = taken
   stopped_open u w target stop Full why is taken = taken
@@ -368,7 +410,7 @@ module _ {S G N : Type 0} (m : GameModel S) (s : S) (goes_on : 1 ≤ m.rank s) w
   pub close_after : (game : IsGame m) (r : Reachable m s) (v w : BoardView G N) (held : HeldMoves) (lower upper : ℤ) → w.total ≡ v.total
       → ((one : ℕ) → Contains held.rows one → one < m.moves One s) → ((two : ℕ) → Contains held.cols two → two < m.moves Two s)
       → ((one two : ℕ) → Contains held.rows one → Contains held.cols two → AreDone m v s one two)
-      → HasStepGap m v w s v.total held (Done lower upper) → IsClose m w.total w s
+      → HasStepGap m v w s held (Done lower upper) → IsClose m w.total w s
   close_after game r v w held lower upper same rows cols done step stage is =
       let each = stage + 1 + cond m.chance_free 0 1 in
       let gap = rank_gap m stage (m.rank s - 1) in

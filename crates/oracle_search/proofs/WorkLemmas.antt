@@ -1,17 +1,18 @@
 -- What one part of a search after another keeps.
-use Rattle.std.proofs.Common.{◌≡◌, ◌⊎◌, inl, inr, ⊎_elim, ℕ, ◌≤◌, ℤ, pos, ◌+ℤ◌, ◌≤ℤ◌, true, List, [], ◌++◌, refl, sym, ap, subst, ◌∙◌, append_assoc, append-nil, arith}
+use Rattle.std.proofs.Common.{◌≡◌, ◌⊎◌, inl, inr, ⊎_elim, ℕ, ◌≤◌, ℤ, pos, ◌≤ℤ◌, true, List, [], ◌++◌, refl, sym, ap, subst, ◌∙◌, append_assoc, append-nil, arith}
 use Rattle.std.proofs.lemmas.Int.{ints}
 use Rattle.std.proofs.lemmas.List.Elements.{All-append, All-nil, All-weaker}
 use Rattle.sim_game.specs.declared.Side.TheVariants.{One, Two}
-use Rattle.sim_game.specs.Model.{GameModel}
+use Rattle.sim_game.specs.Model.{GameModel, LeadsTo}
 use Rattle.sim_game.proofs.SideLemmas.{looser_trans}
 use Rattle.plan_book.specs.Serial.{serial_bound}
 use Rattle.matrix_game.specs.Budget.{Budget, left_of}
-use Rattle.bounds_board.specs.Views.{BoardView, IsLater, WasFull}
-use Rattle.bounds_board.proofs.FullLemmas.{full_later}
+use Rattle.bounds_board.specs.Views.{BoardView, IsLater}
+use Rattle.bounds_board.proofs.FullLemmas.{full_later, full_weaker}
 use Rattle.serial_ab.specs.Counts.{VisitsView}
 use Rattle.oracle_search.specs.Finished.{FinishedView, IsWithin, IsBeyond, IsFinished, AreFinished, IsExtended, rank_gap}
-use Rattle.oracle_search.specs.Searches.{IsBetter, HasVisited, HasTurned, WorkView, IsWorked, IsPureTight}
+use Rattle.oracle_search.specs.Searches.{IsBetter, HasVisited, HasTurned, IsBoardFull, IsWorkedBelow, IsPureTight, IsPureWithin}
+use Rattle.oracle_search.specs.Workers.{WorkView}
 use Rattle.oracle_search.proofs.BetterLemmas.{better_refl, better_trans}
 
 pub visited_none : (v : VisitsView) → HasVisited v v
@@ -62,7 +63,7 @@ module _ {S G N : Type 0} (m : GameModel S) where
   pure_later s v w later pure side = looser_trans side (serial_bound m side s) (v.seen side (m.key s)) (w.seen side (m.key s)) (pure side) (later.seen side (m.key s))
 
   -- bounds as tight as pure plans make them are no further apart than these
-  pub pure_within : (s : S) (v : BoardView G N) (target : ℤ) → IsPureTight m s v → serial_bound m Two s ≤ℤ (serial_bound m One s +ℤ target) → IsWithin v (m.key s) target
+  pub pure_within : (s : S) (v : BoardView G N) (target : ℤ) → IsPureTight m s v → IsPureWithin m s target → IsWithin v (m.key s) target
   pure_within s v target pure near =
       let low : serial_bound m One s ≤ℤ v.seen One (m.key s) = pure One in
       let high : v.seen Two (m.key s) ≤ℤ serial_bound m Two s = pure Two in
@@ -70,6 +71,13 @@ module _ {S G N : Type 0} (m : GameModel S) where
 
   pub within_not_beyond : (v : BoardView G N) (key : ℕ) (gap : ℤ) → IsWithin v key gap → IsBeyond v key gap → ⊥
   within_not_beyond v key gap near far = absurd (omega (arith, ints))
+
+  pub full_kept : (s : S) (v w : BoardView G N) → IsLater v w → IsBoardFull m s v → IsBoardFull m s w
+  full_kept s v w later was = full_later m v w (LeadsTo m s) later was
+
+  -- a full board that the search of a state after it met
+  pub full_below : (s child : S) (v : BoardView G N) → ((t : S) → LeadsTo m child t → LeadsTo m s t) → IsBoardFull m child v → IsBoardFull m s v
+  full_below s child v leads was = full_weaker m v (LeadsTo m child) (LeadsTo m s) leads was
 
   -- ---- what is kept
   extended_none : (total limit : ℕ) (v : BoardView G N) (old new : FinishedView) → new.keys ≡ old.keys → (old.was_full ≡ true → new.was_full ≡ true) → IsExtended m total v limit old new
@@ -86,10 +94,10 @@ module _ {S G N : Type 0} (m : GameModel S) where
   }
 
   -- a part that finishes no state
-  pub worked_by : (limit : ℕ) (old new : WorkView G N) → IsBetter m old.board.total old.board new.board → HasTurned old.turns new.turns → HasVisited old.visits new.visits
+  pub worked_by : (s : S) (limit : ℕ) (old new : WorkView G N) → IsBetter m old.board.total old.board new.board → HasTurned old.turns new.turns → HasVisited old.visits new.visits
       → new.settled.keys ≡ old.settled.keys → (old.settled.was_full ≡ true → new.settled.was_full ≡ true)
-      → AreFinished m old.board.total old.board old.settled.keys → (new.settled.was_full ≡ true → old.settled.was_full ≡ true ⊎ WasFull m new.board) → IsWorked m limit old new
-  worked_by limit old new better turned visited same full finished cause = record {
+      → AreFinished m old.board.total old.board old.settled.keys → (new.settled.was_full ≡ true → old.settled.was_full ≡ true ⊎ IsBoardFull m s new.board) → IsWorkedBelow m s limit old new
+  worked_by s limit old new better turned visited same full finished cause = record {
     board = better;
     turns = turned;
     visits = visited;
@@ -99,11 +107,11 @@ module _ {S G N : Type 0} (m : GameModel S) where
     cause = cause;
   }
 
-  pub worked_none : (limit : ℕ) (v : WorkView G N) → AreFinished m v.board.total v.board v.settled.keys → IsWorked m limit v v
-  worked_none limit v finished = worked_by limit v v (better_refl m v.board.total v.board) (turned_none v.turns) (visited_none v.visits) refl (λ e. e) finished (λ e. inl e)
+  pub worked_none : (s : S) (limit : ℕ) (v : WorkView G N) → AreFinished m v.board.total v.board v.settled.keys → IsWorkedBelow m s limit v v
+  worked_none s limit v finished = worked_by s limit v v (better_refl m v.board.total v.board) (turned_none v.turns) (visited_none v.visits) refl (λ e. e) finished (λ e. inl e)
 
-  pub worked_after : (a b c : ℕ) (u v w : WorkView G N) → a ≤ c → b ≤ c → IsWorked m a u v → IsWorked m b v w → IsWorked m c u w
-  worked_after a b c u v w wide wider p q = record {
+  pub worked_after : (s : S) (a b c : ℕ) (u v w : WorkView G N) → a ≤ c → b ≤ c → IsWorkedBelow m s a u v → IsWorkedBelow m s b v w → IsWorkedBelow m s c u w
+  worked_after s a b c u v w wide wider p q = record {
     board = better_trans m u.board.total u.board v.board w.board p.board (subst (λ (total : ℕ). IsBetter m total v.board w.board) p.board.later.total q.board);
     turns = turned_after u.turns v.turns w.turns p.turns q.turns;
     visits = visited_after u.visits v.visits w.visits p.visits q.visits;
@@ -111,6 +119,17 @@ module _ {S G N : Type 0} (m : GameModel S) where
         (subst (λ (total : ℕ). IsExtended m total v.board a u.settled v.settled) (sym q.board.later.total) p.settled) q.settled;
     finished = q.finished;
     cause = λ e. ⊎_elim
-        (λ (before : v.settled.was_full ≡ true). ⊎_elim (λ (first : u.settled.was_full ≡ true). inl first) (λ (was : WasFull m v.board). inr (full_later m v.board w.board q.board.later was)) (p.cause before))
-        (λ (was : WasFull m w.board). inr was) (q.cause e);
+        (λ (before : v.settled.was_full ≡ true). ⊎_elim (λ (first : u.settled.was_full ≡ true). inl first) (λ (was : IsBoardFull m s v.board). inr (full_kept s v.board w.board q.board.later was)) (p.cause before))
+        (λ (was : IsBoardFull m s w.board). inr was) (q.cause e);
+  }
+
+  -- what the search of a state after it keeps
+  pub worked_under : (s child : S) (limit : ℕ) (v w : WorkView G N) → ((t : S) → LeadsTo m child t → LeadsTo m s t) → IsWorkedBelow m child limit v w → IsWorkedBelow m s limit v w
+  worked_under s child limit v w leads p = record {
+    board = p.board;
+    turns = p.turns;
+    visits = p.visits;
+    settled = p.settled;
+    finished = p.finished;
+    cause = λ e. ⊎_elim (λ (before : v.settled.was_full ≡ true). inl before) (λ (was : IsBoardFull m child w.board). inr (full_below s child w.board leads was)) (p.cause e);
   }

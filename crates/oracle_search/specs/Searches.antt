@@ -1,19 +1,21 @@
 -- What a search keeps, and how it ends.
-use Rattle.std.specs.Prelude.{◌≡◌, ◌⊎◌, ℕ, ◌+◌, ◌*◌, ◌<◌, ◌≤◌, ℤ, true, false, Option, None, Some, length}
+use Rattle.std.specs.Prelude.{◌≡◌, ◌⊎◌, ℕ, ◌+◌, ◌*◌, ◌<◌, ◌≤◌, ℤ, ◌+ℤ◌, ◌≤ℤ◌, true, false, Option, None, Some, length}
 use Rattle.sim_game.specs.declared.Side.{Side}
-use Rattle.sim_game.specs.Model.{GameModel}
+use Rattle.sim_game.specs.declared.Side.TheVariants.{One, Two}
+use Rattle.sim_game.specs.Model.{GameModel, LeadsTo}
 use Rattle.sim_game.specs.Sides.{IsNoTighter}
 use Rattle.plan_book.specs.Entries.{IsLawfulEntry}
 use Rattle.plan_book.specs.Books.{Grows}
 use Rattle.plan_book.specs.Serial.{serial_bound, tree_size}
-use Rattle.matrix_game.specs.Budget.{Budget, left_of}
+use Rattle.matrix_game.specs.Budget.{Budget, left_of, after_turn}
 use Rattle.bounds_board.specs.Views.{BoardView, IsLater, WasFull}
 use Rattle.serial_ab.specs.Counts.{VisitsView, spent_on, left_on}
 use Rattle.oracle_search.specs.declared.ends.SearchEnd.{SearchEnd}
 use Rattle.oracle_search.specs.declared.ends.SearchEnd.TheVariants.{Reached, Settled, Spent, Full}
 use Rattle.oracle_search.specs.declared.ends.Stop.{Stop}
 use Rattle.oracle_search.specs.declared.ends.Stop.TheVariants as stops
-use Rattle.oracle_search.specs.Finished.{FinishedView, IsWithin, IsBeyond, IsClose, AreFinished, IsExtended}
+use Rattle.oracle_search.specs.Workers.{WorkView}
+use Rattle.oracle_search.specs.Finished.{IsWithin, IsBeyond, IsClose, AreFinished, IsExtended}
 
 -- the board knows no less, and only lawful entries were posted
 pub record IsBetter {S G N : Type 0} (m : GameModel S) (total : ℕ) (old new : BoardView G N) : Type 0 where
@@ -32,39 +34,44 @@ pub record HasTurned (old new : Budget) : Type 0 where
   pub within : old.spent ≤ old.limit → new.spent ≤ new.limit
   pub none : left_of old ≡ 0 → new.spent ≡ old.spent
 
--- what a worker works on
-pub record WorkView (G N : Type 0) : Type 0 where
-  pub board : BoardView G N
-  pub turns : Budget
-  pub visits : VisitsView
-  pub settled : FinishedView
+-- a turn was left, and one was taken
+abbrev pub HasTurn : Budget → Budget → Type 0
+HasTurn old new = (1 ≤ left_of old) × (new ≡ after_turn old)
 
-abbrev pub at_work : {G N : Type 0} → BoardView G N → Budget → VisitsView → FinishedView → WorkView G N
-at_work board turns visits settled = record { board = board; turns = turns; visits = visits; settled = settled }
+-- a claim of the key of a state that a history from this one leads to found the board full
+abbrev pub IsBoardFull : {S G N : Type 0} → GameModel S → S → BoardView G N → Type 0
+IsBoardFull m s v = WasFull m v (LeadsTo m s)
 
--- what each part of a search keeps; the states that it finishes have ranks below the limit
-pub record IsWorked {S G N : Type 0} (m : GameModel S) (limit : ℕ) (old new : WorkView G N) : Type 0 where
+-- what each part of the search of a state keeps; the states that it finishes have ranks below the limit
+pub record IsWorkedBelow {S G N : Type 0} (m : GameModel S) (s : S) (limit : ℕ) (old new : WorkView G N) : Type 0 where
   pub board : IsBetter m old.board.total old.board new.board
   pub turns : HasTurned old.turns new.turns
   pub visits : HasVisited old.visits new.visits
   pub settled : IsExtended m new.board.total new.board limit old.settled new.settled
   pub finished : AreFinished m new.board.total new.board new.settled.keys
-  pub cause : new.settled.was_full ≡ true → old.settled.was_full ≡ true ⊎ WasFull m new.board
+  pub cause : new.settled.was_full ≡ true → old.settled.was_full ≡ true ⊎ IsBoardFull m s new.board
+
+abbrev pub IsWorked : {S G N : Type 0} → GameModel S → S → WorkView G N → WorkView G N → Type 0
+IsWorked m s old new = IsWorkedBelow m s (m.rank s) old new
+
+-- each settled key is that of a finished state, and none stands twice
+abbrev pub HasFinished : {S G N : Type 0} → GameModel S → WorkView G N → Type 0
+HasFinished m v = AreFinished m v.board.total v.board v.settled.keys
 
 -- how a search of a state with a target may end; an end of the game has no gap
 abbrev pub Ends : {S G N : Type 0} → GameModel S → S → ℤ → WorkView G N → SearchEnd → Type 0
 Ends m s target v Reached = 1 ≤ m.rank s → IsWithin v.board (m.key s) target
 Ends m s target v Settled = (1 ≤ m.rank s) × IsBeyond v.board (m.key s) target × IsClose m v.board.total v.board s
 Ends m s target v Spent = (1 ≤ m.rank s) × IsBeyond v.board (m.key s) target × (left_of v.turns ≡ 0)
-Ends m s target v Full = v.settled.was_full ≡ true
+Ends m s target v Full = (v.settled.was_full ≡ true) × IsBoardFull m s v.board
 
 -- at most 63 turns for each of so many states, besides those that were finished
 abbrev pub TakesTurns : {G N : Type 0} → ℕ → WorkView G N → WorkView G N → Type 0
 TakesTurns states old new = new.turns.spent + 63 * length old.settled.keys ≤ old.turns.spent + 63 * (length new.settled.keys + states)
 
 -- as long as no claim was full: so many turns, or no turn is left and there were no more than for the most states
-abbrev pub HasTaken : {G N : Type 0} → ℕ → ℕ → WorkView G N → WorkView G N → Type 0
-HasTaken states most old new = new.settled.was_full ≡ false → TakesTurns states old new ⊎ ((left_of new.turns ≡ 0) × TakesTurns most old new)
+pub record TakesAtMost {G N : Type 0} (states most : ℕ) (old new : WorkView G N) : Type 0 where
+  pub unless_full : new.settled.was_full ≡ false → TakesTurns states old new ⊎ ((left_of new.turns ≡ 0) × TakesTurns most old new)
 
 -- how many states a search that ended so may have taken turns at, itself included, that are not finished
 abbrev pub open_states : ℕ → SearchEnd → ℕ
@@ -72,6 +79,14 @@ open_states rank Reached = 1
 open_states rank Settled = 1
 open_states rank Spent = rank
 open_states rank Full = rank
+
+-- the turns of a search of the state that ended so
+abbrev pub HasTaken : {S G N : Type 0} → GameModel S → S → SearchEnd → WorkView G N → WorkView G N → Type 0
+HasTaken m s end old new = TakesAtMost (open_states (m.rank s) end) (m.rank s) old new
+
+pub record HasEnded {S G N : Type 0} (m : GameModel S) (s : S) (target : ℤ) (old new : WorkView G N) (end : SearchEnd) : Type 0 where
+  pub ends : Ends m s target new end
+  pub turns : HasTaken m s end old new
 
 -- ---- pure plans
 -- each side has as many visits left as the tree below the state has nodes
@@ -82,11 +97,15 @@ HasVisits m s visits = (side : Side) → tree_size m s ≤ left_on side visits
 abbrev pub IsPureTight : {S G N : Type 0} → GameModel S → S → BoardView G N → Type 0
 IsPureTight m s v = (side : Side) → IsNoTighter side (serial_bound m side s) (v.seen side (m.key s))
 
+-- pure plans alone bring the bounds as close as the target
+abbrev pub IsPureWithin : {S : Type 0} → GameModel S → S → ℤ → Type 0
+IsPureWithin m s target = serial_bound m Two s ≤ℤ (serial_bound m One s +ℤ target)
+
 -- ---- the states after held moves
 -- why not all of them were finished
-abbrev pub IsStop : {G N : Type 0} → WorkView G N → Stop → Type 0
-IsStop v stops.Spent = left_of v.turns ≡ 0
-IsStop v stops.Full = v.settled.was_full ≡ true
+abbrev pub IsStop : {S G N : Type 0} → GameModel S → S → WorkView G N → Stop → Type 0
+IsStop m s v stops.Spent = left_of v.turns ≡ 0
+IsStop m s v stops.Full = (v.settled.was_full ≡ true) × IsBoardFull m s v.board
 
 -- why the search of a state ends that of the states among which it is, if it does
 abbrev pub stop_of : SearchEnd → Option Stop
@@ -103,9 +122,10 @@ IsDone m v s = 1 ≤ m.rank s → IsClose m v.total v s
 abbrev pub AreDone : {S G N : Type 0} → GameModel S → BoardView G N → S → ℕ → ℕ → Type 0
 AreDone m v s one two = (draw : ℕ) → draw < m.draws s one two → IsDone m v (m.drawn s one two draw)
 
-abbrev pub open_after : ℕ → Option Stop → ℕ
-open_after states None = 0
-open_after states (Some stop) = states
+-- how the searches of states of at most this rank end: all is known, or one of them stopped
+abbrev pub HasSearched : {S G N : Type 0} → GameModel S → S → ℕ → Type 0 → WorkView G N → WorkView G N → Option Stop → Type 0
+HasSearched m s rank Known old new None = Known × TakesAtMost 0 rank old new
+HasSearched m s rank Known old new (Some stop) = IsStop m s new stop × TakesAtMost rank rank old new
 
 -- how a search ends that stopped: it is reached all the same where the bounds seen are within the target
 abbrev pub IsStoppedAs : {G N : Type 0} → BoardView G N → ℕ → ℤ → Stop → SearchEnd → Type 0

@@ -1,53 +1,44 @@
 //! The searches of the states after held moves.
 
-ghost use Rattle.std.specs.Prelude.{◌≡◌, ◌+◌, ◌-◌, ◌<◌, ◌≤◌, ℕ, None, Some, Ok, All, Contains, IfOk};
+ghost use Rattle.std.specs.Prelude.{◌≡◌, ◌+◌, ◌-◌, ◌<◌, ◌≤◌, ℕ, All, Contains, IfOk};
 ghost use Rattle.sim_game.specs.declared.Side.{Side};
 ghost use Rattle.sim_game.specs.Model.{Reachable};
-ghost use Rattle.oracle_search.specs.declared.ends.Stop.{Stop};
-ghost use Rattle.oracle_search.specs.Finished.{AreFinished};
-ghost use Rattle.oracle_search.specs.Searches.{IsWorked, HasTaken, at_work, IsStop, IsDone, AreDone, open_after};
+ghost use Rattle.oracle_search.specs.Workers.{at_work};
+ghost use Rattle.oracle_search.specs.Searches.{HasFinished, IsWorked, IsWorkedBelow, HasSearched, IsDone, AreDone};
 
 use crate::ends::Stop;
-use crate::finished::Settled;
 use crate::gap::gap_at;
 use crate::gate::Gate;
-use crate::state::search;
+use crate::state::search_state;
+use crate::worker::{Setup, Worker};
 use bounds_board::Bounds;
-use matrix_game::Turns;
-use serial_ab::Visits;
 use sim_game::{Game, NoMemory};
-use std::alloc::Global;
 
 /// Searches the states after held moves of both sides, row by row, up to the first that stops.
 #[cycle(search)]
 pub(crate) fn search_children<G: Game, B: Bounds<G>, T: Gate>(
-    alloc: Global,
-    g: G,
+    setup: &Setup<'_, G, T>,
     s: G::State,
     rows: &[u32],
     cols: &[u32],
-    worker: u32,
-    gate: &T,
-    turns: &mut Turns,
-    visits: &mut Visits,
-    settled: &mut Settled,
+    worker: &mut Worker,
     board: &mut B,
 ) -> Result<Option<Stop>, NoMemory>
-    requires game { (B.view board.old).game ≡ g }
-    requires reachable { Reachable (G.model g) s }
-    requires goes_on { 1 ≤ (G.model g).rank s }
-    requires rows { All (λ one. one < (G.model g).moves Side.One s) rows.now }
-    requires cols { All (λ two. two < (G.model g).moves Side.Two s) cols.now }
-    requires finished { AreFinished (G.model g) (B.view board.old).total (B.view board.old) settled.old.keys }
-    ensures worked { IsWorked (G.model g) ((G.model g).rank s) (at_work (B.view board.old) turns.old visits.old settled.old) (at_work (B.view board.new) turns.new visits.new settled.new) }
-    ensures done { result ≡ Ok None → (one two : ℕ) → Contains rows.now one → Contains cols.now two → AreDone (G.model g) (B.view board.new) s one two }
-    ensures stopped { (stop : Stop) → result ≡ Ok (Some stop) → IsStop (at_work (B.view board.new) turns.new visits.new settled.new) stop }
-    ensures turns { IfOk result (λ o. HasTaken (open_after ((G.model g).rank s - 1) o) ((G.model g).rank s - 1) (at_work (B.view board.old) turns.old visits.old settled.old) (at_work (B.view board.new) turns.new visits.new settled.new)) }
+    requires game { (B.view board.old).game ≡ setup.now.game }
+    requires reachable { Reachable (G.model setup.now.game) s }
+    requires goes_on { 1 ≤ (G.model setup.now.game).rank s }
+    requires rows { All (λ one. one < (G.model setup.now.game).moves Side.One s) rows.now }
+    requires cols { All (λ two. two < (G.model setup.now.game).moves Side.Two s) cols.now }
+    requires finished { HasFinished (G.model setup.now.game) (at_work (B.view board.old) worker.old) }
+    ensures worked { IsWorked (G.model setup.now.game) s
+        (at_work (B.view board.old) worker.old) (at_work (B.view board.new) worker.new) }
+    ensures searched { IfOk result (HasSearched (G.model setup.now.game) s ((G.model setup.now.game).rank s - 1)
+        ((one two : ℕ) → Contains rows.now one → Contains cols.now two
+        → AreDone (G.model setup.now.game) (B.view board.new) s one two)
+        (at_work (B.view board.old) worker.old) (at_work (B.view board.new) worker.new)) }
 {
     for one in rows {
-        match search_row_children(
-            alloc, g, s, *one, cols, worker, gate, turns, visits, settled, board,
-        ) {
+        match search_row_children(setup, s, *one, cols, worker, board) {
             Ok(None) => {}
             Ok(Some(stop)) => return Ok(Some(stop)),
             Err(_) => return Err(NoMemory),
@@ -59,33 +50,27 @@ pub(crate) fn search_children<G: Game, B: Bounds<G>, T: Gate>(
 /// Those after one move of One.
 #[cycle(search)]
 fn search_row_children<G: Game, B: Bounds<G>, T: Gate>(
-    alloc: Global,
-    g: G,
+    setup: &Setup<'_, G, T>,
     s: G::State,
     one: u32,
     cols: &[u32],
-    worker: u32,
-    gate: &T,
-    turns: &mut Turns,
-    visits: &mut Visits,
-    settled: &mut Settled,
+    worker: &mut Worker,
     board: &mut B,
 ) -> Result<Option<Stop>, NoMemory>
-    requires game { (B.view board.old).game ≡ g }
-    requires reachable { Reachable (G.model g) s }
-    requires goes_on { 1 ≤ (G.model g).rank s }
-    requires one { one < (G.model g).moves Side.One s }
-    requires cols { All (λ two. two < (G.model g).moves Side.Two s) cols.now }
-    requires finished { AreFinished (G.model g) (B.view board.old).total (B.view board.old) settled.old.keys }
-    ensures worked { IsWorked (G.model g) ((G.model g).rank s) (at_work (B.view board.old) turns.old visits.old settled.old) (at_work (B.view board.new) turns.new visits.new settled.new) }
-    ensures done { result ≡ Ok None → (two : ℕ) → Contains cols.now two → AreDone (G.model g) (B.view board.new) s one two }
-    ensures stopped { (stop : Stop) → result ≡ Ok (Some stop) → IsStop (at_work (B.view board.new) turns.new visits.new settled.new) stop }
-    ensures turns { IfOk result (λ o. HasTaken (open_after ((G.model g).rank s - 1) o) ((G.model g).rank s - 1) (at_work (B.view board.old) turns.old visits.old settled.old) (at_work (B.view board.new) turns.new visits.new settled.new)) }
+    requires game { (B.view board.old).game ≡ setup.now.game }
+    requires reachable { Reachable (G.model setup.now.game) s }
+    requires goes_on { 1 ≤ (G.model setup.now.game).rank s }
+    requires one { one < (G.model setup.now.game).moves Side.One s }
+    requires cols { All (λ two. two < (G.model setup.now.game).moves Side.Two s) cols.now }
+    requires finished { HasFinished (G.model setup.now.game) (at_work (B.view board.old) worker.old) }
+    ensures worked { IsWorked (G.model setup.now.game) s
+        (at_work (B.view board.old) worker.old) (at_work (B.view board.new) worker.new) }
+    ensures searched { IfOk result (HasSearched (G.model setup.now.game) s ((G.model setup.now.game).rank s - 1)
+        ((two : ℕ) → Contains cols.now two → AreDone (G.model setup.now.game) (B.view board.new) s one two)
+        (at_work (B.view board.old) worker.old) (at_work (B.view board.new) worker.new)) }
 {
     for two in cols {
-        match search_draws(
-            alloc, g, s, one, *two, worker, gate, turns, visits, settled, board,
-        ) {
+        match search_draws(setup, s, one, *two, worker, board) {
             Ok(None) => {}
             Ok(Some(stop)) => return Ok(Some(stop)),
             Err(_) => return Err(NoMemory),
@@ -97,32 +82,28 @@ fn search_row_children<G: Game, B: Bounds<G>, T: Gate>(
 /// Those after a move of each side.
 #[cycle(search)]
 fn search_draws<G: Game, B: Bounds<G>, T: Gate>(
-    alloc: Global,
-    g: G,
+    setup: &Setup<'_, G, T>,
     s: G::State,
     one: u32,
     two: u32,
-    worker: u32,
-    gate: &T,
-    turns: &mut Turns,
-    visits: &mut Visits,
-    settled: &mut Settled,
+    worker: &mut Worker,
     board: &mut B,
 ) -> Result<Option<Stop>, NoMemory>
-    requires game { (B.view board.old).game ≡ g }
-    requires reachable { Reachable (G.model g) s }
-    requires goes_on { 1 ≤ (G.model g).rank s }
-    requires one { one < (G.model g).moves Side.One s }
-    requires two { two < (G.model g).moves Side.Two s }
-    requires finished { AreFinished (G.model g) (B.view board.old).total (B.view board.old) settled.old.keys }
-    ensures worked { IsWorked (G.model g) ((G.model g).rank s) (at_work (B.view board.old) turns.old visits.old settled.old) (at_work (B.view board.new) turns.new visits.new settled.new) }
-    ensures done { result ≡ Ok None → AreDone (G.model g) (B.view board.new) s one two }
-    ensures stopped { (stop : Stop) → result ≡ Ok (Some stop) → IsStop (at_work (B.view board.new) turns.new visits.new settled.new) stop }
-    ensures turns { IfOk result (λ o. HasTaken (open_after ((G.model g).rank s - 1) o) ((G.model g).rank s - 1) (at_work (B.view board.old) turns.old visits.old settled.old) (at_work (B.view board.new) turns.new visits.new settled.new)) }
+    requires game { (B.view board.old).game ≡ setup.now.game }
+    requires reachable { Reachable (G.model setup.now.game) s }
+    requires goes_on { 1 ≤ (G.model setup.now.game).rank s }
+    requires one { one < (G.model setup.now.game).moves Side.One s }
+    requires two { two < (G.model setup.now.game).moves Side.Two s }
+    requires finished { HasFinished (G.model setup.now.game) (at_work (B.view board.old) worker.old) }
+    ensures worked { IsWorked (G.model setup.now.game) s
+        (at_work (B.view board.old) worker.old) (at_work (B.view board.new) worker.new) }
+    ensures searched { IfOk result (HasSearched (G.model setup.now.game) s ((G.model setup.now.game).rank s - 1)
+        (AreDone (G.model setup.now.game) (B.view board.new) s one two)
+        (at_work (B.view board.old) worker.old) (at_work (B.view board.new) worker.new)) }
 {
+    let g = setup.game;
     for draw in 0..g.draws(s, one, two) {
-        let child = g.drawn(s, one, two, draw);
-        match search_child(alloc, g, child, worker, gate, turns, visits, settled, board) {
+        match search_child(setup, g.drawn(s, one, two, draw), worker, board) {
             Ok(None) => {}
             Ok(Some(stop)) => return Ok(Some(stop)),
             Err(_) => return Err(NoMemory),
@@ -134,29 +115,26 @@ fn search_draws<G: Game, B: Bounds<G>, T: Gate>(
 /// Finishes a state, unless it is an end, is finished, or has no gap.
 #[cycle(search)]
 fn search_child<G: Game, B: Bounds<G>, T: Gate>(
-    alloc: Global,
-    g: G,
+    setup: &Setup<'_, G, T>,
     s: G::State,
-    worker: u32,
-    gate: &T,
-    turns: &mut Turns,
-    visits: &mut Visits,
-    settled: &mut Settled,
+    worker: &mut Worker,
     board: &mut B,
 ) -> Result<Option<Stop>, NoMemory>
-    requires game { (B.view board.old).game ≡ g }
-    requires reachable { Reachable (G.model g) s }
-    requires finished { AreFinished (G.model g) (B.view board.old).total (B.view board.old) settled.old.keys }
-    ensures worked { IsWorked (G.model g) ((G.model g).rank s + 1) (at_work (B.view board.old) turns.old visits.old settled.old) (at_work (B.view board.new) turns.new visits.new settled.new) }
-    ensures done { result ≡ Ok None → IsDone (G.model g) (B.view board.new) s }
-    ensures stopped { (stop : Stop) → result ≡ Ok (Some stop) → IsStop (at_work (B.view board.new) turns.new visits.new settled.new) stop }
-    ensures turns { IfOk result (λ o. HasTaken (open_after ((G.model g).rank s) o) ((G.model g).rank s) (at_work (B.view board.old) turns.old visits.old settled.old) (at_work (B.view board.new) turns.new visits.new settled.new)) }
+    requires game { (B.view board.old).game ≡ setup.now.game }
+    requires reachable { Reachable (G.model setup.now.game) s }
+    requires finished { HasFinished (G.model setup.now.game) (at_work (B.view board.old) worker.old) }
+    ensures worked { IsWorkedBelow (G.model setup.now.game) s ((G.model setup.now.game).rank s + 1)
+        (at_work (B.view board.old) worker.old) (at_work (B.view board.new) worker.new) }
+    ensures searched { IfOk result (HasSearched (G.model setup.now.game) s ((G.model setup.now.game).rank s)
+        (IsDone (G.model setup.now.game) (B.view board.new) s)
+        (at_work (B.view board.old) worker.old) (at_work (B.view board.new) worker.new)) }
 {
+    let g = setup.game;
     if g.rank(s) == 0 {
         return Ok(None);
     }
     let key = g.key(s);
-    if settled.has(key) {
+    if worker.has(key) {
         return Ok(None);
     }
     match board.claim(key) {
@@ -166,16 +144,16 @@ fn search_child<G: Game, B: Bounds<G>, T: Gate>(
             }
         }
         Err(_) => {
-            settled.note_full();
+            worker.note_full();
             return Ok(Some(Stop::Full));
         }
     }
-    let end = match search(alloc, g, s, 0, worker, gate, turns, visits, settled, board) {
+    let end = match search_state(setup, s, 0, worker, board) {
         Ok(end) => end,
         Err(_) => return Err(NoMemory),
     };
     match end.stop() {
-        None => match settled.add(key) {
+        None => match worker.add(key) {
             Ok(()) => Ok(None),
             Err(_) => Err(NoMemory),
         },

@@ -1,6 +1,6 @@
 //! The states that a worker has finished.
 
-ghost use Rattle.std.specs.Prelude.{◌≡◌, ◌++◌, ◌∷◌, [], true, false, length, slice_get, MatchBool, OnOk, OnErr};
+ghost use Rattle.std.specs.Prelude.{◌≡◌, ◌++◌, ◌∷◌, [], false, length, slice_get, MatchBool, OnOk, OnErr};
 ghost use Rattle.std.specs.List.{Contains};
 
 use indexmap::IndexSet;
@@ -12,7 +12,7 @@ use std::marker::Model;
 #[derive(Drop)]
 pub struct Settled {
     keys: IndexSet<u64>,
-    // Whether some claim of this worker found the board full.
+    // Whether some claim of the search found the board full.
     was_full: bool,
 }
 
@@ -25,8 +25,7 @@ impl Model for Settled {
 }
 
 impl Settled {
-    /// Takes no memory.
-    pub fn new(alloc: Global) -> Settled
+    pub(crate) fn new(alloc: Global) -> Settled
         ensures { result ≡ record { keys = []; was_full = false } }
     {
         Settled {
@@ -66,10 +65,15 @@ impl Settled {
         }
     }
 
-    /// Keeps in mind that a claim found the board full.
-    pub(crate) fn note_full(&mut self)
-        ensures { self.new ≡ record self.old { was_full = true } }
+    pub(crate) fn was_full(&self) -> bool
+        ensures { result ≡ self.now.was_full }
     {
-        self.was_full = true;
+        self.was_full
+    }
+
+    pub(crate) fn set_full(&mut self, was_full: bool)
+        ensures { self.new ≡ record self.old { was_full = was_full } }
+    {
+        self.was_full = was_full;
     }
 }

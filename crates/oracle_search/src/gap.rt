@@ -18,8 +18,10 @@ pub(crate) fn gap_at<G: Game, B: Bounds<G>>(g: G, s: G::State, row: Row, board: 
     requires row { (B.view board.old).key_at row ≡ Some ((G.model g).key s) }
     ensures later { IsLater (B.view board.old) (B.view board.new) }
     ensures entries { (B.view board.new).entries ≡ (B.view board.old).entries }
-    ensures gap { result ≡ (B.view board.new).seen Two ((G.model g).key s) -ℤ (B.view board.new).seen One ((G.model g).key s) }
-    ensures enclosed { IsEnclosure (G.model g) ((B.view board.new).seen One ((G.model g).key s)) ((B.view board.new).seen Two ((G.model g).key s)) s }
+    ensures gap { result ≡
+        (B.view board.new).seen Two ((G.model g).key s) -ℤ (B.view board.new).seen One ((G.model g).key s) }
+    ensures enclosed { IsEnclosure (G.model g)
+        ((B.view board.new).seen One ((G.model g).key s)) ((B.view board.new).seen Two ((G.model g).key s)) s }
 {
     let enclosure = board.read(row);
     enclosure.upper - enclosure.lower
@@ -38,7 +40,8 @@ pub(crate) fn is_within<G: Game, B: Bounds<G>>(
     requires row { (B.view board.old).key_at row ≡ Some ((G.model g).key s) }
     ensures later { IsLater (B.view board.old) (B.view board.new) }
     ensures entries { (B.view board.new).entries ≡ (B.view board.old).entries }
-    ensures within { MatchBool result (IsWithin (B.view board.new) ((G.model g).key s) target) (IsBeyond (B.view board.new) ((G.model g).key s) target) }
+    ensures within { MatchBool result (IsWithin (B.view board.new) ((G.model g).key s) target)
+        (IsBeyond (B.view board.new) ((G.model g).key s) target) }
 {
     gap_at(g, s, row, board) <= target
 }

@@ -9,8 +9,10 @@ mod gate;
 mod growth;
 mod serial_bounds;
 mod state;
+mod worker;
 
 pub use ends::SearchEnd;
 pub use finished::Settled;
 pub use gate::{Gate, OpenGate};
 pub use state::search;
+pub use worker::{Setup, Worker};

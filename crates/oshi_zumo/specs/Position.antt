@@ -1,8 +1,15 @@
 -- Which positions of Oshi-Zumo are played, and the first fault of the others.
-use Rattle.std.specs.Prelude.{◌≤◌, unsigned_abs, ◌||◌, ◌==◌, nat_lt, if◌then◌else◌, Option, Some, None}
+use Rattle.std.specs.Prelude.{◌≡◌, ℕ, ◌≤◌, ℤ, unsigned_abs, ◌||◌, ◌==◌, nat_lt, if◌then◌else◌, Option, Some, None}
 use Rattle.oshi_zumo.specs.declared.Setting.{Setting}
 use Rattle.oshi_zumo.specs.declared.OshiError.{OshiError}
 use Rattle.oshi_zumo.specs.declared.OshiError.TheVariants.{SizeRange, CoinRange, LeastRange, PlaceRange}
+
+abbrev pub setting_of : ℕ → ℕ → ℕ → ℕ → ℤ → Setting
+setting_of size one two least place = record { size = size; one = one; two = two; least = least; place = place }
+
+-- the setting holds these numbers
+abbrev pub IsSettingOf : ℕ → ℕ → ℕ → ℕ → ℤ → Setting → Type 0
+IsSettingOf size one two least place g = g ≡ setting_of size one two least place
 
 -- the first rule that is broken
 abbrev pub first_fault : Setting → Option OshiError

@@ -4,9 +4,12 @@
 ghost use Rattle.std.specs.Prelude.{◌≡◌, ◌<◌, ◌≤◌, length, slice_index, unsigned_abs, MatchResult};
 ghost use Rattle.oshi_zumo.specs.declared.Setting.{Setting};
 ghost use Rattle.oshi_zumo.specs.Laws.{oshi_zumo_is_game};
-ghost use Rattle.oshi_zumo.specs.Position.{first_fault, IsPosition};
+ghost use Rattle.oshi_zumo.specs.Position.{first_fault, setting_of, IsPosition, IsSettingOf};
 ghost use Rattle.oshi_zumo.specs.Rules.{bids_from, coins_of, is_off, is_over, oshi_zumo_game, push_of, KeepsRules};
 
+mod refusals;
+
+pub use refusals::position_has_one_game;
 use sim_game::{CHANCE, Game, Side};
 use state_key::{Key, put};
 use thiserror::Error;
@@ -54,9 +57,9 @@ impl OshiZumo {
     /// The position with these numbers. An error names the first rule that is broken: the size is at most 8; each
     /// side has at most 31 coins; the least bid is 1 to 31; the place is -size to size.
     pub fn new(size: u8, one: u8, two: u8, least: u8, place: i8) -> Result<OshiZumo, OshiError>
-        ensures { let g : Setting = record { size = size; one = one; two = two; least = least; place = place } in
+        ensures { let g = setting_of size one two least place in
             MatchResult result
-            (λ game. (first_fault g ≡ None) × (game.setting ≡ g))
+            (λ game. (first_fault g ≡ None) × IsSettingOf size one two least place game.setting)
             (λ fault. first_fault g ≡ Some fault) }
     {
         if size > 8 {

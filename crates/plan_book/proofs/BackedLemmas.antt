@@ -20,11 +20,10 @@ use Rattle.plan_book.proofs.StepLemmas.{looser_rounded}
 use Rattle.plan_book.proofs.TreeSums.{replies_first}
 
 -- ---- guarantees
-pub guarantees_meet : {S : Type 0} (m : GameModel S) (one two : Plan) (lower upper : ℤ) → 1 ≤ one.total → 1 ≤ two.total
-    → Guarantees m One one lower → Guarantees m Two two upper → lower ≤ℤ upper
-guarantees_meet m one two lower upper p q g h =
-    let some : 1 ≤ one.total * two.total * whole_chance = one-le-mul (one-le-mul p q) (omega arith) in
-    times_cancel (whole one two ^ m.rank m.root) lower upper (one-le-pow (m.rank m.root) _ some) (int_le_trans _ _ _ (g.against two q) (h.against one p))
+pub guarantees_meet : {S : Type 0} (m : GameModel S) (one two : Plan) (lower upper : ℤ) → Guarantees m One one lower → Guarantees m Two two upper → lower ≤ℤ upper
+guarantees_meet m one two lower upper g h =
+    let some : 1 ≤ one.total * two.total * whole_chance = one-le-mul (one-le-mul g.some h.some) (omega arith) in
+    times_cancel (whole one two ^ m.rank m.root) lower upper (one-le-pow (m.rank m.root) _ some) (int_le_trans _ _ _ (g.against two h.some) (h.against one g.some))
 
 -- ---- steps
 -- the weights of a step, one a move

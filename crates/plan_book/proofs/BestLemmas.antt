@@ -10,7 +10,7 @@ use Rattle.sim_game.specs.Model.{GameModel, Turn, IsGame, Reachable, after_turn,
 use Rattle.plan_book.specs.declared.Entry.{Entry}
 use Rattle.plan_book.specs.declared.Sheet.{Sheet}
 use Rattle.plan_book.specs.declared.SheetRow.{SheetRow}
-use Rattle.plan_book.specs.Books.{AreFit, same_side, beats, better_entry, best_entry, row_of, best_row, best_posted, book_bound, IsBooked, IsClosed, IsBestSheet}
+use Rattle.plan_book.specs.Books.{same_side, beats, better_entry, best_entry, row_of, best_row, best_posted, book_bound, IsBooked, IsClosed, IsBestSheet}
 use Rattle.plan_book.specs.Entries.{IsEntry}
 use Rattle.plan_book.specs.Sheets.{row_at, bound_or, IsKeptTurn, IsKeptHistory, IsReached, IsLawfulRow, IsLawful}
 use Rattle.sim_game.specs.Sides.{other_side, IsNoTighter, end_bound, own_move, turn_of, draws_of, child_of}
@@ -112,15 +112,6 @@ book_row {S} m game total Known entries each side s r = go (best_entry side entr
         let goes_on : 1 ≤ m.rank s = subst (λ (x : S). 1 ≤ m.rank x) same it.holds.step.goes_on in
         ap (λ (b : Bool). cond b (end_bound m s) (best_posted m entries side (m.key s))) (is_other (m.rank s) 0 (λ z. absurd (omega arith)))
         ∙ best (Some e) is ∙ sym (here (Some e) is)
-
--- the best entries of lawful ones have one weight a move
-pub entry_fit : {S : Type 0} (m : GameModel S) → IsGame m → (side : Side) (entries : List Entry) (total : ℕ) (Known : Side → S → ℤ → Type 0) → All (IsEntry m total Known) entries → AreFit m side entries
-entry_fit m game side entries total Known each = record {
-  one_each = λ s e r h.
-      let it = best_found (IsEntry m total Known) side entries (m.key s) e (recursion_from_All (IsEntry m total Known) entries each) h in
-      let same = game.same_key it.holds.state s it.holds.reachable r (it.holds.is_key ∙ it.is_key) in
-      it.holds.step.one_each ∙ ap (λ (x : Side). m.moves x it.holds.state) it.is_side ∙ ap (m.moves side) same;
-}
 
 -- ---- the best sheet
 own_move_is : (side : Side) (own reply draw : ℕ) → own_move side (turn_of side own reply draw) ≡ own

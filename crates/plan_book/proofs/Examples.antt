@@ -7,6 +7,9 @@ use Rattle.plan_book.specs.Books.{best_row}
 use Rattle.plan_book.specs.Entries.{reads_of}
 use Rattle.plan_book.specs.Expected.{expected, whole}
 use Rattle.plan_book.specs.Plans.{Plan, AtKey, AtHistory, weights_at}
+use Rattle.plan_book.specs.PlainBounds.{plain_value}
+use Rattle.plan_book.specs.PlainGames.{plain_size}
+use Rattle.plan_book.specs.PlainPlans.{OfMoves, plain_sum, without_draws}
 use Rattle.plan_book.specs.Serial.{serial_bound, tree_size}
 use Rattle.plan_book.specs.Sheets.{bound_at}
 use Rattle.sim_game.specs.Sides.{child_of}
@@ -112,6 +115,23 @@ wheel_expected = refl
 
 wheel_size : tree_size wheel 0 ≡ 4
 wheel_size = refl
+
+-- ---- the stage without draws
+-- a row for a history in which another draw was made is dropped
+abbrev late : Plan
+late = record { total = 2; rows = record { place = AtHistory (record { one = 0; two = 0; draw = 1 } ∷ []); weights = 2 ∷ [] } ∷ record { place = AtHistory (record { one = 0; two = 1; draw = 0 } ∷ []); weights = 1 ∷ 1 ∷ [] } ∷ [] }
+
+late_without : without_draws late ≡ record { total = 2; rows = record { place = OfMoves (record { one = 0; two = 1 } ∷ []); weights = 1 ∷ 1 ∷ [] } ∷ [] }
+late_without = refl
+
+plain_stage : plain_sum stage (without_draws first) (without_draws even) 1 0 [] ≡ neg_ℤ (pos 3)
+plain_stage = refl
+
+plain_one : plain_value stage One 0 ≡ neg_ℤ (pos 1)
+plain_one = refl
+
+plain_nodes : plain_size stage 0 ≡ 5
+plain_nodes = refl
 
 -- ---- entries
 abbrev entry : ℤ → List ℕ → Entry

@@ -10,12 +10,7 @@ use Rattle.sim_game.specs.Model.{GameModel, Turn}
 use Rattle.sums.specs.Sums.{sum_below, count_below}
 use Rattle.sums.proofs.CountLemmas.{count_list}
 use Rattle.sums.proofs.SumLemmas.{sum_first, sum_same, sum_none}
-use Rattle.plan_book.specs.Plans.{Plan, PlanRow, is_place, one_move, row_weights, weights_at}
-
--- the weights are one a move and sum to the total
-pub record AreWeights (count total : ℕ) (weights : List ℕ) : Type 0 where
-  pub one_each : length weights ≡ count
-  pub sums : sum weights ≡ total
+use Rattle.plan_book.specs.Plans.{Plan, PlanRow, AreWeights, is_place, one_move, row_weights, weights_at}
 
 none : (x : ℤ) → pos 0 *ℤ x ≡ pos 0
 none x = omega (arith, ints)

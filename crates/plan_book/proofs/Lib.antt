@@ -7,6 +7,10 @@ pub mod FoundLemmas
 pub mod GatherLemmas
 pub mod GuaranteeLemmas
 pub mod LookupLemmas
+pub mod PlainBoundLemmas
+pub mod PlainPlanLemmas
+pub mod PlainStateLemmas
+pub mod PlayedLemmas
 pub mod WalkLemmas
 pub mod SerialLemmas
 pub mod SheetLemmas

@@ -26,8 +26,8 @@ key_of [] k d h = absurd (omega arith)
 key_of (r ∷ rows) zero d h = refl
 key_of (r ∷ rows) (suc k) d h = key_of rows k d (omega arith)
 
--- a number below a later one
-rises : (xs : List ℕ) → IsStrictlyIncreasing xs → (i j : ℕ) → i < j → j < length xs → get_or xs i 0 < get_or xs j 0
+-- a number is below a later one
+pub rises : (xs : List ℕ) → IsStrictlyIncreasing xs → (i j : ℕ) → i < j → j < length xs → get_or xs i 0 < get_or xs j 0
 rises xs up i zero h p = absurd (omega arith)
 rises xs up i (suc j) h p =
     let step : get_or xs j 0 < get_or xs (suc j) 0 = rw add-one at (up j (omega arith)) in

@@ -1,5 +1,5 @@
 -- A lawful sheet guarantees its bound.
-use Rattle.std.proofs.Common.{◌≡◌, ℕ, zero, suc, ◌<◌, Bool, true, false, cond, ◌&&◌, eqb, ℤ, Option, None, Some, List, [], ◌∷◌, map, length, sum, drop, slice_get, get_or, inl, inr, refl, sym, ap, subst, ◌∙◌, arith}
+use Rattle.std.proofs.Common.{◌≡◌, ℕ, zero, suc, ◌<◌, ◌≤◌, Bool, true, false, cond, eqb, ℤ, Option, None, Some, List, [], ◌∷◌, length, drop, slice_get, get_or, inl, inr, refl, sym, ap, subst, ◌∙◌, arith}
 use Rattle.std.specs.List.{All, AllByRecursion}
 use Rattle.std.proofs.lemmas.Bool.{cases_eq, eqb-true}
 use Rattle.std.proofs.lemmas.List.Elements.{recursion_from_All}
@@ -9,11 +9,12 @@ use Rattle.sim_game.proofs.ReachLemmas.{reachable_root}
 use Rattle.plan_book.specs.declared.Sheet.{Sheet}
 use Rattle.plan_book.specs.declared.SheetRow.{SheetRow}
 use Rattle.plan_book.specs.Expected.{Guarantees}
-use Rattle.plan_book.specs.Plans.{Plan, PlanRow, AtKey, row_weights, weights_at}
+use Rattle.plan_book.specs.Plans.{Plan, weights_at}
 use Rattle.plan_book.specs.Sheets.{row_at, bound_or, bound_at, IsKeptHistory, IsReached, IsLawfulRow, IsLawful, plan_of, root_bound}
 use Rattle.sim_game.specs.Sides.{opening_bound, end_bound, child_of}
 use Rattle.plan_book.specs.Steps.{IsStep}
 use Rattle.plan_book.proofs.ExpectedLemmas.{is_same, is_other}
+use Rattle.plan_book.proofs.PlayedLemmas.{plays_row}
 use Rattle.plan_book.proofs.GuaranteeLemmas.{IsGuaranteed, IsKept, at_end, by_step, known, guaranteed, opening_guaranteed, stakes_are}
 use Rattle.sim_game.proofs.SideLemmas.{looser_refl, looser_left}
 
@@ -30,23 +31,6 @@ found_by P (r ∷ rows) key row all e = found_here P (eqb r.key key) r row (row_
 -- the row found is one of the rows, and has the key
 pub found : (P : SheetRow → Type 0) (rows : List SheetRow) (key : ℕ) (row : SheetRow) → All P rows → row_at rows key ≡ Some row → P row × (row.key ≡ key)
 found P rows key row all e = found_by P rows key row (recursion_from_All P rows all) e
-
--- the plan of the rows has the weights of the row found
-abbrev plan_rows : List SheetRow → List PlanRow
-plan_rows rows = map (λ r. record { place = AtKey r.key; weights = r.weights }) rows
-
-played_here : (b : Bool) (r row : SheetRow) (rest : Option SheetRow) (others : List ℕ) (count total : ℕ) → length row.weights ≡ count → sum row.weights ≡ total → (rest ≡ Some row → others ≡ row.weights)
-    → cond b (Some r) rest ≡ Some row → cond (b && (eqb (length r.weights) count && eqb (sum r.weights) total)) r.weights others ≡ row.weights
-played_here true r row rest others count total p q below e =
-    let it : r ≡ row = cc in
-    rw (it, is_same (length row.weights) count p, is_same (sum row.weights) total q) refl
-played_here false r row rest others count total p q below e = below e
-
-played : (rows : List SheetRow) (key : ℕ) (history : List Turn) (count total : ℕ) (row : SheetRow) → row_at rows key ≡ Some row → length row.weights ≡ count → sum row.weights ≡ total
-    → row_weights (plan_rows rows) key history count total ≡ row.weights
-played [] key history count total row e p q = absurd (cc)
-played (r ∷ rows) key history count total row e p q =
-    played_here (eqb r.key key) r row (row_at rows key) _ count total p q (λ e'. played rows key history count total row e' p q) e
 
 -- a row of the key is the first from its place on
 pub row_from : (rows : List SheetRow) (i key : ℕ) (item : SheetRow) → i < length rows → item ≡ get_or rows i item → item.key ≡ key → row_at (drop i rows) key ≡ slice_get rows i
@@ -89,11 +73,12 @@ module _ {S : Type 0} (m : GameModel S) (game : IsGame m) (sheet : Sheet) (lawfu
       let step = row_step s row r e in
       let here : bound_at m sheet.side sheet.rows s ≡ row.bound = ap (bound_or m sheet.side s) e in
       let weights : weights_at m sheet.side (plan_of sheet) s history ≡ row.weights =
-      played sheet.rows (m.key s) history (m.moves sheet.side s) sheet.total row e step.one_each step.sums in
+      plays_row m sheet.side sheet s history lawful.rising row e (record { one_each = step.one_each; sums = step.sums }) in
       by_step s history step.goes_on (λ q p. rw (here, weights) (step.proves q p))
 
-  pub sheet_guarantees : Guarantees m sheet.side (plan_of sheet) (root_bound m sheet)
-  sheet_guarantees = record {
+  pub sheet_guarantees : 1 ≤ sheet.total → Guarantees m sheet.side (plan_of sheet) (root_bound m sheet)
+  sheet_guarantees weighs = record {
+    some = weighs;
     against = λ reply some. rw (stakes_are sheet.side (plan_of sheet) reply)
         (guaranteed m game sheet.side (plan_of sheet) reply (bound_at m sheet.side sheet.rows) (λ s history r. kept_row reply s history r (row_at sheet.rows (m.key s)) refl)
         (m.rank m.root) m.root [] (reachable_root m) (omega arith));

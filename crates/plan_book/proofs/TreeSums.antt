@@ -13,7 +13,7 @@ use Rattle.plan_book.proofs.StepLemmas.{looser_rounded}
 pub sum_scaled : (n k : ℕ) (f g : ℕ → ℤ) → ((i : ℕ) → i < n → pos k *ℤ f i ≡ g i) → pos k *ℤ sum_below n f ≡ sum_below n g
 sum_scaled n k f g h = sym (sum_times n k f) ∙ sum_same n (λ i. pos k *ℤ f i) g h
 
-times_swap : (j k : ℕ) (x : ℤ) → pos j *ℤ (pos k *ℤ x) ≡ pos k *ℤ (pos j *ℤ x)
+pub times_swap : (j k : ℕ) (x : ℤ) → pos j *ℤ (pos k *ℤ x) ≡ pos k *ℤ (pos j *ℤ x)
 times_swap j k x = times_times j k x ∙ ap (λ (n : ℕ). pos n *ℤ x) (omega arith) ∙ sym (times_times k j x)
 
 regroup : (k w v c : ℕ) (x : ℤ) → pos k *ℤ (pos (w * v * c) *ℤ x) ≡ pos w *ℤ (pos v *ℤ (pos c *ℤ (pos k *ℤ x)))

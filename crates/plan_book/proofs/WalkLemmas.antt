@@ -39,17 +39,17 @@ same_item [] k d e h = absurd (omega arith)
 same_item (x ∷ xs) zero d e h = refl
 same_item (x ∷ xs) (suc k) d e h = same_item xs k d e (omega arith)
 
-abbrev reply_move : Side → Turn → ℕ
+abbrev pub reply_move : Side → Turn → ℕ
 reply_move One t = t.two
 reply_move Two t = t.one
 
-record AreParts {S : Type 0} (m : GameModel S) (side : Side) (s : S) (t : Turn) : Type 0 where
-  own_below : own_move side t < m.moves side s
-  reply_below : reply_move side t < m.moves (other_side side) s
-  draw_below : t.draw < draws_of m side s (own_move side t) (reply_move side t)
-  is : after_turn m s t ≡ child_of m side s (own_move side t) (reply_move side t) t.draw
+pub record AreParts {S : Type 0} (m : GameModel S) (side : Side) (s : S) (t : Turn) : Type 0 where
+  pub own_below : own_move side t < m.moves side s
+  pub reply_below : reply_move side t < m.moves (other_side side) s
+  pub draw_below : t.draw < draws_of m side s (own_move side t) (reply_move side t)
+  pub is : after_turn m s t ≡ child_of m side s (own_move side t) (reply_move side t) t.draw
 
-turn_parts : {S : Type 0} (m : GameModel S) (side : Side) (s : S) (t : Turn) → IsTurn m s t → AreParts m side s t
+pub turn_parts : {S : Type 0} (m : GameModel S) (side : Side) (s : S) (t : Turn) → IsTurn m s t → AreParts m side s t
 turn_parts m One s t h = record { own_below = h.one_below; reply_below = h.two_below; draw_below = h.draw_below; is = refl }
 turn_parts m Two s t h = record { own_below = h.two_below; reply_below = h.one_below; draw_below = h.draw_below; is = refl }
 
@@ -58,7 +58,7 @@ pub record IsBelow {S : Type 0} (m : GameModel S) (side : Side) (rows : ℕ → 
   pub reached : IsReached m side rows child
   pub lower : m.rank child < m.rank s
 
-own_move_is : (side : Side) (own reply draw : ℕ) → own_move side (turn_of side own reply draw) ≡ own
+pub own_move_is : (side : Side) (own reply draw : ℕ) → own_move side (turn_of side own reply draw) ≡ own
 own_move_is One own reply draw = refl
 own_move_is Two own reply draw = refl
 

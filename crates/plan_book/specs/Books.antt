@@ -3,7 +3,7 @@ use Rattle.std.specs.Prelude.{◌≡◌, ℕ, ◌<◌, ℤ, int_lt, nat_eq, Bool
 use Rattle.std.specs.List.Sorted.{IsStrictlyIncreasing}
 use Rattle.sim_game.specs.declared.Side.{Side}
 use Rattle.sim_game.specs.declared.Side.TheVariants.{One, Two}
-use Rattle.sim_game.specs.Model.{GameModel, Reachable}
+use Rattle.sim_game.specs.Model.{GameModel}
 use Rattle.sim_game.specs.Sides.{IsNoTighter, better, opening_bound, end_bound}
 use Rattle.plan_book.specs.declared.Entry.{Entry}
 use Rattle.plan_book.specs.declared.SheetRow.{SheetRow}
@@ -82,7 +82,3 @@ pub record IsBestSheet {S : Type 0} (m : GameModel S) (side : Side) (entries : L
 pub record ArePlaces (side : Side) (entries : List Entry) (places : ℕ → Option ℕ) : Type 0 where
   pub within : (key : ℕ) → IfSome (places key) (λ i. i < length entries)
   pub best : (key : ℕ) → option_and_then (slice_get entries) (places key) ≡ best_entry side entries key
-
--- the best entry of a reachable state has one weight a move
-pub record AreFit {S : Type 0} (m : GameModel S) (side : Side) (entries : List Entry) : Type 0 where
-  pub one_each : (s : S) (e : Entry) → Reachable m s → best_entry side entries (m.key s) ≡ Some e → length e.weights ≡ m.moves side s

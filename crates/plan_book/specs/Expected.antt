@@ -30,8 +30,9 @@ abbrev pub plan_of_two : Side → Plan → Plan → Plan
 plan_of_two One own reply = reply
 plan_of_two Two own reply = own
 
--- against every plan of the other side the expected payoff is as good as the bound
+-- the plan weighs something, and against every plan of the other side the expected payoff is as good as the bound
 pub record Guarantees {S : Type 0} (m : GameModel S) (side : Side) (own : Plan) (bound : ℤ) : Type 0 where
+  pub some : 1 ≤ own.total
   pub against : (reply : Plan) → 1 ≤ reply.total →
       let one = plan_of_one side own reply in
       let two = plan_of_two side own reply in

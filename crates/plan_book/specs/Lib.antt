@@ -1,9 +1,13 @@
 pub mod Backed
 pub mod Books
+pub mod ChanceFree
 pub mod Children
 pub mod Entries
 pub mod Expected
 pub mod Gathered
+pub mod PlainBounds
+pub mod PlainGames
+pub mod PlainPlans
 pub mod Plans
 pub mod Serial
 pub mod Sheets

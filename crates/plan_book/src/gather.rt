@@ -1,17 +1,15 @@
 //! The states that the best entries of a book reach.
 
-ghost use Rattle.std.specs.Prelude.{◌≡◌, ◌<◌, ◌≤◌, ◌++◌, ◌&&◌, length, IfOk, OnOk, option_and_then, slice_get};
+ghost use Rattle.std.specs.Prelude.{◌≡◌, ◌<◌, ◌&&◌, length, IfOk, OnOk, option_and_then, slice_get};
 ghost use Rattle.std.specs.Option.{ForSome};
 ghost use Rattle.std.specs.Ordering.{nat_cmp};
 ghost use Rattle.std.specs.BTreeMap.{get, keys, IsOrdered};
 ghost use Rattle.std.specs.List.{filter_map};
-ghost use Rattle.sim_game.specs.Model.{Reachable};
-ghost use Rattle.plan_book.specs.Children.{children_of_pair, children_of_move, children_of};
-ghost use Rattle.plan_book.specs.Books.{ArePlaces, AreFit, is_tighter, same_side, beats, best_row, row_of, IsBestSheet};
+ghost use Rattle.plan_book.specs.Books.{ArePlaces, is_tighter, same_side, beats, best_row, row_of, IsBestSheet};
 ghost use Rattle.plan_book.specs.Gathered.{IsGathered};
 ghost use Rattle.plan_book.specs.Sheets.{IsReached};
-ghost use Rattle.sim_game.specs.Sides.{other_side};
 
+use crate::follow::children;
 use crate::{Entry, Sheet, SheetRow};
 use seq::Seq;
 use sim_game::{Game, NoMemory, Side};
@@ -59,67 +57,6 @@ pub fn best_places(
     Ok(best)
 }
 
-/// Adds the states after an own move and a reply.
-fn add_pair<G: Game>(
-    g: G,
-    side: Side,
-    s: G::State,
-    own: u32,
-    reply: u32,
-    children: &mut Vec<G::State>,
-) -> Result<(), NoMemory>
-    requires reachable { Reachable (G.model g) s }
-    requires own { own < (G.model g).moves side s }
-    requires reply { reply < (G.model g).moves (other_side side) s }
-    ensures { IfOk result (λ _. children.new.items ≡ children.old.items ++ children_of_pair (G.model g) side s own reply) }
-{
-    let a = side.move_of_one(own, reply);
-    let b = side.move_of_two(own, reply);
-    for d in 0..g.draws(s, a, b) {
-        children.push(g.drawn(s, a, b, d))?;
-    }
-    Ok(())
-}
-
-/// Adds the states after an own move.
-fn add_move<G: Game>(
-    g: G,
-    side: Side,
-    s: G::State,
-    own: u32,
-    children: &mut Vec<G::State>,
-) -> Result<(), NoMemory>
-    requires reachable { Reachable (G.model g) s }
-    requires own { own < (G.model g).moves side s }
-    ensures { IfOk result (λ _. children.new.items ≡ children.old.items ++ children_of_move (G.model g) side s own) }
-{
-    for reply in 0..g.moves(side.other(), s) {
-        add_pair(g, side, s, own, reply, children)?;
-    }
-    Ok(())
-}
-
-/// The states after the own moves of positive weight.
-fn children<G: Game>(
-    alloc: Global,
-    g: G,
-    side: Side,
-    weights: &[u32],
-    s: G::State,
-) -> Result<Vec<G::State>, NoMemory>
-    requires reachable { Reachable (G.model g) s }
-    requires weights { length weights.now ≡ (G.model g).moves side s }
-    ensures { IfOk result (λ children. children.items ≡ children_of (G.model g) side weights.now s) }
-{
-    let mut children = Vec::new(alloc);
-    for own in 0..g.moves(side, s) {
-        if weights[own as usize] > 0 {
-            add_move(g, side, s, own, &mut children)?;
-        }
-    }
-    Ok(children)
-}
-
 /// Finds the states with a row that the best entries reach from a state.
 pub fn gather<G: Game>(
     alloc: Global,
@@ -131,7 +68,6 @@ pub fn gather<G: Game>(
     found: &mut BTreeMap<u64, usize>,
 ) -> Result<(), NoMemory>
     requires reached { IsReached (G.model g) side (best_row side entries.now) s }
-    requires fit { AreFit (G.model g) side entries.now }
     requires places { ArePlaces side entries.now (get nat_cmp best.now) }
     ensures { IfOk result (λ _. IsGathered (G.model g) side (best_row side entries.now) s (get nat_cmp found.old) (get nat_cmp found.new)) }
 {
@@ -191,7 +127,6 @@ pub fn best_sheet<G: Game>(
     total: u32,
     entries: &[Entry],
 ) -> Result<Sheet, NoMemory>
-    requires { AreFit (G.model g) side entries.now }
     ensures side { IfOk result (λ sheet. sheet.side ≡ side) }
     ensures total { IfOk result (λ sheet. sheet.total ≡ total) }
     ensures best { IfOk result (λ sheet. IsBestSheet (G.model g) side entries.now sheet.rows) }

@@ -11,14 +11,20 @@ ghost use Rattle.plan_book.specs.Sheets.{IsLawful, bound_at, plan_of, root_bound
 
 mod book;
 mod bounds;
+mod chance_free;
 mod crossing;
+mod follow;
 mod gather;
+mod weights;
 
 pub use book::Book;
 pub use bounds::{bound_of, place_of};
+pub use chance_free::chance_free_games;
 pub use crossing::crosses;
+pub use follow::children;
 use seq::Seq;
 use sim_game::{Game, Side};
+pub use weights::{is_whole, weights_of};
 
 /// A bound of a side at the state of a key, in millionths of a payoff, with what proves it: the weights of the own
 /// moves, and the numbers at the children.
@@ -52,7 +58,8 @@ pub struct Sheet {
 
 /// A lawful sheet guarantees its bound at the root against every plan of the other side.
 pub fn sheet_guarantees<G: Game>(_g: &G, _sheet: &Sheet)
-    requires { IsLawful (G.model _g.now) _sheet.now }
+    requires lawful { IsLawful (G.model _g.now) _sheet.now }
+    requires some { 1 ≤ _sheet.now.total }
     ensures { let m = G.model _g.now in
         Guarantees m _sheet.now.side (plan_of _sheet.now) (root_bound m _sheet.now) }
 {}
@@ -60,7 +67,7 @@ pub fn sheet_guarantees<G: Game>(_g: &G, _sheet: &Sheet)
 /// What a plan of One guarantees is at most what a plan of Two guarantees.
 pub fn guarantees_meet<G: Game>(_g: &G)
     ensures { let m = G.model _g.now in
-        (one two : Plan) (lower upper : ℤ) → 1 ≤ one.total → 1 ≤ two.total → Guarantees m Side.One one lower → Guarantees m Side.Two two upper → lower ≤ℤ upper }
+        (one two : Plan) (lower upper : ℤ) → Guarantees m Side.One one lower → Guarantees m Side.Two two upper → lower ≤ℤ upper }
 {}
 
 /// A backed bound of One is at most a backed bound of Two.

@@ -1,3 +1,4 @@
 pub mod SourceLemmas
 pub mod ValueLemmas
 pub mod JsonLemmas
+pub mod GameLemmas

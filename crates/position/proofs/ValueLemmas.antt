@@ -10,8 +10,8 @@ use Rattle.serde_json.specs.Data.{Data}
 use Rattle.serde_json.specs.View.{view, items_view, members_view}
 use Rattle.serde_json.specs.declared.value.Value.{Value}
 use Rattle.position.specs.declared.error.InputError.TheVariants.{Kind, Range, Unknown}
-use Rattle.position.specs.declared.field.Field.{Field}
-use Rattle.position.specs.Position.{list_of, names_of, is_known, is_whole, is_byte, byte_of, byte_in, whole_in, bytes_in, members_at, known_at}
+use Rattle.position.specs.declared.error.Field.{Field}
+use Rattle.position.specs.Objects.{list_of, names_of, is_known, is_whole, is_byte, byte_of, byte_in, whole_in, bytes_in, members_at, known_at}
 
 pub list_of-items_view : (vs : List Value) → list_of (items_view vs) ≡ map view vs
 list_of-items_view [] = refl
@@ -26,10 +26,10 @@ filter_map-map f g [] = refl
 filter_map-map {A} {B} {C} f g (x ∷ xs) = rw (filter_map-map f g xs) refl
 
 -- what the tests on the items decide
-pub bytes_in-view : (field : Field) (vs : List Value) (whole small : Bool) → whole ≡ list_all (λ v. is_whole (view v)) vs → small ≡ (nat_le (length vs) 255 && list_all (λ v. is_byte (view v)) vs)
-    → bytes_in field (map view vs) ≡ cond whole (cond small (Ok (filter_map (λ v. byte_in (view v)) vs)) (Err (Range field))) (Err (Kind field))
+pub bytes_in-view : (field : Field) (most : ℕ) (vs : List Value) (whole small : Bool) → whole ≡ list_all (λ v. is_whole (view v)) vs → small ≡ (nat_le (length vs) most && list_all (λ v. is_byte (view v)) vs)
+    → bytes_in field most (map view vs) ≡ cond whole (cond small (Ok (filter_map (λ v. byte_in (view v)) vs)) (Err (Range field))) (Err (Kind field))
 unfolding bytes_in
-bytes_in-view field vs whole small w s = rw (w, s, list_all-map is_whole view vs, list_all-map is_byte view vs, length-map vs view, filter_map-map byte_in view vs) refl
+bytes_in-view field most vs whole small w s = rw (w, s, list_all-map is_whole view vs, list_all-map is_byte view vs, length-map vs view, filter_map-map byte_in view vs) refl
 
 pub known_at-view : (known : List Field) (d : Data) (ms : List (String Global × Value)) (all : Bool) → members_at d ≡ Ok (members_view ms) → all ≡ list_all (λ k. is_known known (string_bytes k)) (keys_of ms)
     → known_at known d ≡ cond all (Ok tt) (Err Unknown)

@@ -1,7 +1,17 @@
--- What a whole read takes from a source, and what a whole write leaves in a sink.
+-- What sources and sinks tell, what a whole read takes from a source, and what a whole write leaves in a sink.
 use Rattle.std.specs.Prelude.{◌≡◌, ℕ, ◌<◌, ◌≤◌, List, length, take}
 use Rattle.std.specs.declared.option.Option.{Option}
 use Rattle.std.specs.Io.KnownBytes.{Consumes, Appends}
+
+-- the bytes still to come, where the source tells them, and how often a call failed; the count stands still at its last value
+pub record SourceState : Type 0 where
+  pub left : Option (List ℕ)
+  pub faults : ℕ
+
+-- the bytes written so far, where the sink tells them, and how often a call failed
+pub record SinkState : Type 0 where
+  pub written : Option (List ℕ)
+  pub faults : ℕ
 
 -- n bytes were taken
 abbrev pub Takes : Option (List ℕ) → Option (List ℕ) → ℕ → Type 0

@@ -1,15 +1,75 @@
-//! Why bytes are no position.
+//! Why bytes are no position, and the fields of a position.
 
-ghost use Rattle.std.specs.Prelude.{◌≡◌};
-ghost use Rattle.position.specs.Codes.{goofspiel_number, oshi_number, tron_number, code_of};
+ghost use Rattle.std.specs.Prelude.{◌≡◌, ◌++◌, OnOk};
+ghost use Rattle.text.specs.Texts.{Adds};
+ghost use Rattle.position.specs.Refusals.{name_of, code_of, words_of};
 ghost use Rattle.position.specs.declared.error.InputError.TheVariants.{NoMemory};
 
-use crate::Field;
 use goofspiel::GoofspielError;
 use oshi_zumo::OshiError;
+use pursuit::PursuitError;
+use sim_game::NoMemory;
 use std::alloc::{AllocError, AllocFailed};
+use text::Text;
 use thiserror::Error;
 use tron::TronError;
+
+/// A field of the object.
+#[derive(Clone, Copy, Debug, PartialEq, Eq)]
+pub enum Field {
+    Game,
+    One,
+    Two,
+    Prizes,
+    Score,
+    Pay,
+    Size,
+    Least,
+    Place,
+    Height,
+    Width,
+    Walls,
+    Nodes,
+    Edges,
+    Rounds,
+    Gap,
+    Weight,
+    Turns,
+    Visits,
+    Rows,
+    Workers,
+}
+
+impl Field {
+    /// The field's name in the object.
+    pub fn name(self) -> &'static str
+        ensures { result.now ≡ name_of self }
+    {
+        match self {
+            Field::Game => "game",
+            Field::One => "one",
+            Field::Two => "two",
+            Field::Prizes => "prizes",
+            Field::Score => "score",
+            Field::Pay => "pay",
+            Field::Size => "size",
+            Field::Least => "least",
+            Field::Place => "place",
+            Field::Height => "height",
+            Field::Width => "width",
+            Field::Walls => "walls",
+            Field::Nodes => "nodes",
+            Field::Edges => "edges",
+            Field::Rounds => "rounds",
+            Field::Gap => "gap",
+            Field::Weight => "weight",
+            Field::Turns => "turns",
+            Field::Visits => "visits",
+            Field::Rows => "rows",
+            Field::Workers => "workers",
+        }
+    }
+}
 
 /// The first refusal of the bytes.
 #[derive(Clone, Copy, Debug, PartialEq, Eq, Error)]
@@ -42,6 +102,8 @@ pub enum InputError {
     OshiZumo(OshiError),
     #[error(transparent)]
     Tron(TronError),
+    #[error(transparent)]
+    Pursuit(PursuitError),
     /// There are more bytes than a position may have.
     #[error("too long")]
     TooLong,
@@ -50,8 +112,8 @@ pub enum InputError {
 }
 
 impl InputError {
-    /// The number of the refusal: 10 to 16 and 50 for bytes, 21 to 25, 31 to 34 and 41 to 44 for the rules of
-    /// Goofspiel, Oshi-Zumo and Tron, and 0 where there was no memory.
+    /// The number of the refusal: 10 to 16 and 50 for bytes, the game's own number for a rule of the game, and 0 where
+    /// there was no memory.
     pub fn code(&self) -> u32
         ensures { result ≡ code_of self.now }
     {
@@ -63,47 +125,42 @@ impl InputError {
             InputError::Kind { .. } => 14,
             InputError::Range { .. } => 15,
             InputError::GameName => 16,
-            InputError::Goofspiel(error) => 20 + goofspiel_number(error),
-            InputError::OshiZumo(error) => 30 + oshi_number(error),
-            InputError::Tron(error) => 40 + tron_number(error),
+            InputError::Goofspiel(error) => error.number(),
+            InputError::OshiZumo(error) => error.number(),
+            InputError::Tron(error) => error.number(),
+            InputError::Pursuit(error) => error.number(),
             InputError::TooLong => 50,
             InputError::NoMemory => 0,
         }
     }
-}
 
-fn goofspiel_number(error: &GoofspielError) -> u32
-    ensures { result ≡ goofspiel_number error.now }
-{
-    match error {
-        GoofspielError::CardRange { .. } => 1,
-        GoofspielError::CardTwice { .. } => 2,
-        GoofspielError::Lengths { .. } => 3,
-        GoofspielError::PrizeRange { .. } => 4,
-        GoofspielError::ScoreRange => 5,
+    /// Adds the words of the refusal to the text; those of a game's rule are the game's.
+    pub fn tell(&self, text: &mut Text) -> Result<(), NoMemory>
+        ensures { OnOk result (Adds text.old text.new (words_of self.now)) }
+    {
+        match self {
+            InputError::NotJson => text.word(b"not json"),
+            InputError::NotObject => text.word(b"not an object"),
+            InputError::Missing { field } => tell_field(text, b"missing ", *field),
+            InputError::Unknown => text.word(b"unknown field"),
+            InputError::Kind { field } => tell_field(text, b"kind of ", *field),
+            InputError::Range { field } => tell_field(text, b"range of ", *field),
+            InputError::GameName => text.word(b"game name"),
+            InputError::Goofspiel(error) => error.tell(text),
+            InputError::OshiZumo(error) => error.tell(text),
+            InputError::Tron(error) => error.tell(text),
+            InputError::Pursuit(error) => error.tell(text),
+            InputError::TooLong => text.word(b"too long"),
+            InputError::NoMemory => text.word(b""),
+        }
     }
 }
 
-fn oshi_number(error: &OshiError) -> u32
-    ensures { result ≡ oshi_number error.now }
+fn tell_field(text: &mut Text, words: &[u8], field: Field) -> Result<(), NoMemory>
+    ensures { OnOk result (Adds text.old text.new (words.now ++ name_of field)) }
 {
-    match error {
-        OshiError::SizeRange => 1,
-        OshiError::CoinRange => 2,
-        OshiError::LeastRange => 3,
-        OshiError::PlaceRange => 4,
-    }
-}
-
-fn tron_number(error: &TronError) -> u32
-    ensures { result ≡ tron_number error.now }
-{
-    match error {
-        TronError::GridRange => 1,
-        TronError::CellRange { .. } => 2,
-        TronError::HeadInWall => 3,
-        TronError::HeadsMeet => 4,
-    }
+    text.word(words)?;
+    text.word(field.name().as_bytes())
 }
 
 impl From<AllocError> for InputError {

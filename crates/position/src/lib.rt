@@ -1,9 +1,8 @@
 //! Positions read from bytes, and the sources and sinks of bytes.
 #![tactic(auto)]
 
-mod building;
 mod error;
-mod field;
+mod games;
 mod memory_sink;
 mod memory_source;
 mod object;
@@ -14,9 +13,8 @@ mod sink;
 mod source;
 mod standard;
 
-pub use building::{AnyGame, build};
-pub use error::InputError;
-pub use field::Field;
+pub use error::{Field, InputError};
+pub use games::{AnyGame, GameVisitor, build, position_has_one_game};
 pub use memory_sink::MemorySink;
 pub use memory_source::MemorySource;
 pub use plain::{PlainSink, PlainSource};

@@ -14,6 +14,7 @@ use std::marker::Model;
 #[derive(Drop)]
 pub struct MemorySink {
     bytes: Vec<u8>,
+    room: usize,
     chunk: u32,
     failing: Vec<u32>,
     calls: u64,
@@ -22,13 +23,13 @@ pub struct MemorySink {
 
 impl Model for MemorySink {
     ghost use Rattle.position.specs.Memory.{Store};
-    ghost use Rattle.std.specs.Prelude.{◌<◌, vec_capacity};
+    ghost use Rattle.std.specs.Prelude.{◌<◌, ◌≤◌, length, vec_capacity};
 
     ghost Value = { Store };
 
-    ghost view = { λ s. record { written = s.bytes.items; room = vec_capacity s.bytes; chunk = s.chunk; failing = s.failing.items; calls = s.calls; faults = s.faults } };
+    ghost view = { λ s. record { written = s.bytes.items; room = s.room; chunk = s.chunk; failing = s.failing.items; calls = s.calls; faults = s.faults } };
 
-    ghost invariant = { λ s. 0 < s.chunk };
+    ghost invariant = { λ s. 0 < s.chunk × length s.bytes.items ≤ s.room × s.room ≤ vec_capacity s.bytes };
 }
 
 impl MemorySink {
@@ -38,6 +39,7 @@ impl MemorySink {
         ensures { result ≡ record { written = []; room = vec_capacity room; chunk = chunk; failing = fail.items; calls = 0; faults = 0 } }
     {
         MemorySink {
+            room: room.capacity(),
             bytes: room,
             chunk,
             failing: fail,
@@ -62,9 +64,7 @@ impl MemorySink {
 }
 
 impl Sink for MemorySink {
-    ghost written = { λ s. Some s.written };
-
-    ghost faults = { λ s. s.faults };
+    ghost state = { λ s. record { written = Some s.written; faults = s.faults } };
 
     fn write(&mut self, piece: &[u8]) -> Result<usize, Failed>
         requires { 0 < length piece.now }
@@ -75,13 +75,18 @@ impl Sink for MemorySink {
         // The calls in the list fail, and so does one that finds no room. Others take what they can.
         ensures fails { IsErr result ↔ (Contains self.old.failing self.old.calls ⊎ (room_left self.old ≡ 0)) }
         ensures takes { IfOk result (λ n. n ≡ min (min (length piece.now) (room_left self.old)) self.old.chunk) }
+        // Each call is counted, up to the last value of the type. The list, the chunk and the room stay.
+        ensures counted { self.new.calls ≡ min (self.old.calls + 1) (2 ^ 64 - 1) }
+        ensures listed { self.new.failing ≡ self.old.failing }
+        ensures chunk { self.new.chunk ≡ self.old.chunk }
+        ensures room { self.new.room ≡ self.old.room }
     {
         let number = self.calls;
         self.calls = self.calls.saturating_add(1);
         if is_listed(&self.failing, number) {
             return Err(self.count_fault());
         }
-        let room = self.bytes.capacity() - self.bytes.len();
+        let room = self.room - self.bytes.len();
         let n = piece.len().min(room).min(self.chunk as usize);
         if n == 0 {
             return Err(self.count_fault());

@@ -1,6 +1,6 @@
 //! A source over bytes in memory whose chosen calls fail.
 
-ghost use Rattle.std.specs.Prelude.{◌≡◌, ◌<◌, ◌≤◌, ◌↔◌, min, length, Some, Contains, IsErr, IfOk};
+ghost use Rattle.std.specs.Prelude.{◌≡◌, ◌<◌, ◌≤◌, ◌+◌, ◌-◌, ◌^◌, ◌↔◌, min, length, Some, Contains, IsErr, IfOk};
 ghost use Rattle.std.specs.Io.KnownBytes.{ReadConsumes};
 ghost use Rattle.position.specs.Causes.{HasCause};
 
@@ -44,9 +44,7 @@ impl MemorySource {
 }
 
 impl Source for MemorySource {
-    ghost left = { λ s. Some s.left };
-
-    ghost faults = { λ s. s.faults };
+    ghost state = { λ s. record { left = Some s.left; faults = s.faults } };
 
     fn read(&mut self, into: &mut [u8]) -> Result<usize, Failed>
         requires { 0 < length into.old }
@@ -56,6 +54,9 @@ impl Source for MemorySource {
         // The calls in the list fail, and others give as much as the piece has room for.
         ensures fails { IsErr result ↔ Contains self.old.failing self.old.calls }
         ensures fills { IfOk result (λ n. n ≡ min (length into.old) (length self.old.left)) }
+        // Each call is counted, up to the last value of the type, and the list stays.
+        ensures counted { self.new.calls ≡ min (self.old.calls + 1) (2 ^ 64 - 1) }
+        ensures listed { self.new.failing ≡ self.old.failing }
     {
         let number = self.calls;
         self.calls = self.calls.saturating_add(1);

@@ -5,7 +5,7 @@ ghost use Rattle.std.specs.List.{list_all, filter_map};
 ghost use Rattle.std.specs.BTreeMap.{keys};
 ghost use Rattle.serde_json.specs.View.{view, items_view, members_view};
 ghost use Rattle.certificate.specs.Ranges.{IsByteList};
-ghost use Rattle.position.specs.Position.{Gives, member_at, whole_at, between, natural, text_at, json_of, byte_in, is_whole, is_byte, bytes_in, bytes_at, is_known, known_at, items_at, members_at};
+ghost use Rattle.position.specs.Objects.{Gives, member_at, whole_at, between, natural, text_at, json_of, byte_in, is_whole, is_byte, bytes_in, bytes_at, is_known, known_at, items_at, members_at};
 
 use crate::{Field, InputError};
 use seq::Seq;
@@ -24,7 +24,7 @@ pub(crate) fn json(alloc: Global, bytes: &[u8]) -> Result<Value, InputError>
     }
 }
 
-#[tactic(auto, unfolding(crate::specs::Position::member_at))]
+#[tactic(auto, unfolding(crate::specs::Objects::member_at))]
 pub(crate) fn member(field: Field, object: &Value) -> Result<&Value, InputError>
     ensures { Gives (λ v. view v.now) result (member_at field (view object.now)) }
 {
@@ -33,7 +33,7 @@ pub(crate) fn member(field: Field, object: &Value) -> Result<&Value, InputError>
         .ok_or(InputError::Missing { field })
 }
 
-#[tactic(auto, unfolding(crate::specs::Position::whole_at))]
+#[tactic(auto, unfolding(crate::specs::Objects::whole_at))]
 fn whole(field: Field, object: &Value) -> Result<i64, InputError>
     ensures { Gives (λ z. z) result (whole_at field (view object.now)) }
 {
@@ -42,7 +42,7 @@ fn whole(field: Field, object: &Value) -> Result<i64, InputError>
 }
 
 /// A whole number from `low` to `high`.
-#[tactic(auto, unfolding(crate::specs::Position::between))]
+#[tactic(auto, unfolding(crate::specs::Objects::between))]
 pub(crate) fn number_between(
     field: Field,
     low: i64,
@@ -61,7 +61,7 @@ pub(crate) fn number_between(
 }
 
 /// A natural number from `low` to `high`.
-#[tactic(auto, unfolding(crate::specs::Position::natural))]
+#[tactic(auto, unfolding(crate::specs::Objects::natural))]
 pub(crate) fn natural_number(
     field: Field,
     low: u64,
@@ -83,7 +83,7 @@ pub(crate) fn natural_number(
     Ok(n)
 }
 
-#[tactic(auto, unfolding(crate::specs::Position::text_at))]
+#[tactic(auto, unfolding(crate::specs::Objects::text_at))]
 pub(crate) fn text(field: Field, object: &Value) -> Result<&str, InputError>
     ensures { Gives (λ s. s.now) result (text_at field (view object.now)) }
 {
@@ -109,10 +109,10 @@ fn all_bytes(items: &[Value]) -> bool
     items.iter().all(|item| byte(item).is_some())
 }
 
-fn are_bytes(items: &[Value]) -> bool
-    ensures { result ≡ (nat_le (length items.now) 255 && list_all (λ v. is_byte (view v)) items.now) }
+fn are_bytes(items: &[Value], most: usize) -> bool
+    ensures { result ≡ (nat_le (length items.now) most && list_all (λ v. is_byte (view v)) items.now) }
 {
-    items.len() <= 255 && all_bytes(items)
+    items.len() <= most && all_bytes(items)
 }
 
 fn bytes_of(alloc: Global, items: &[Value]) -> Result<Vec<u8>, AllocError>
@@ -121,20 +121,25 @@ fn bytes_of(alloc: Global, items: &[Value]) -> Result<Vec<u8>, AllocError>
     items.iter().filter_map(byte).collect(alloc)
 }
 
-fn bytes_from(alloc: Global, field: Field, items: &[Value]) -> Result<Seq<u8>, InputError>
-    ensures exact { Gives (λ s. s) result (bytes_in field (map view items.now)) }
-    ensures in_range { IfOk result IsByteList }
+fn bytes_from(
+    alloc: Global,
+    field: Field,
+    most: usize,
+    items: &[Value],
+) -> Result<Seq<u8>, InputError>
+    ensures exact { Gives (λ s. s) result (bytes_in field most (map view items.now)) }
+    ensures in_range { IfOk result (IsByteList most) }
 {
     if !are_whole(items) {
         return Err(InputError::Kind { field });
     }
-    if !are_bytes(items) {
+    if !are_bytes(items, most) {
         return Err(InputError::Range { field });
     }
     Ok(Seq::from_vec(bytes_of(alloc, items)?))
 }
 
-#[tactic(auto, unfolding(crate::specs::Position::items_at))]
+#[tactic(auto, unfolding(crate::specs::Objects::items_at))]
 fn items(field: Field, object: &Value) -> Result<&Vec<Value>, InputError>
     ensures { Gives (λ v. items_view v.now.items) result (items_at field (view object.now)) }
 {
@@ -142,14 +147,19 @@ fn items(field: Field, object: &Value) -> Result<&Vec<Value>, InputError>
     value.as_array().ok_or(InputError::Kind { field })
 }
 
-/// At most 255 whole numbers from 0 to 255.
-#[tactic(auto, unfolding(crate::specs::Position::bytes_at))]
-pub(crate) fn byte_list(alloc: Global, field: Field, object: &Value) -> Result<Seq<u8>, InputError>
-    ensures exact { Gives (λ s. s) result (bytes_at field (view object.now)) }
-    ensures in_range { IfOk result IsByteList }
+/// At most `most` whole numbers from 0 to 255.
+#[tactic(auto, unfolding(crate::specs::Objects::bytes_at))]
+pub(crate) fn byte_list(
+    alloc: Global,
+    field: Field,
+    most: usize,
+    object: &Value,
+) -> Result<Seq<u8>, InputError>
+    ensures exact { Gives (λ s. s) result (bytes_at field most (view object.now)) }
+    ensures in_range { IfOk result (IsByteList most) }
 {
     let items = items(field, object)?;
-    bytes_from(alloc, field, items)
+    bytes_from(alloc, field, most, items)
 }
 
 fn is_name_of(fields: &[Field], name: &str) -> bool
@@ -164,7 +174,7 @@ fn are_known(fields: &[Field], members: &Map<String, Value>) -> bool
     members.keys().all(|name| is_name_of(fields, name.as_str()))
 }
 
-#[tactic(auto, unfolding(crate::specs::Position::members_at))]
+#[tactic(auto, unfolding(crate::specs::Objects::members_at))]
 fn members(object: &Value) -> Result<&Map<String, Value>, InputError>
     ensures { Gives (λ m. members_view m.now.entries) result (members_at (view object.now)) }
 {
@@ -172,7 +182,7 @@ fn members(object: &Value) -> Result<&Map<String, Value>, InputError>
 }
 
 /// Refuses an object that has a name of another field.
-#[tactic(auto, unfolding(crate::specs::Position::known_at))]
+#[tactic(auto, unfolding(crate::specs::Objects::known_at))]
 pub(crate) fn only_known(fields: &[Field], object: &Value) -> Result<(), InputError>
     ensures { Gives (λ u. u) result (known_at fields.now (view object.now)) }
 {

@@ -34,9 +34,7 @@ impl PlainSource {
 }
 
 impl Source for PlainSource {
-    ghost left = { λ s. Some s };
-
-    ghost faults = { λ _. 0 };
+    ghost state = { λ s. record { left = Some s; faults = 0 } };
 
     fn read(&mut self, into: &mut [u8]) -> Result<usize, Failed> {
         let n = copy_from(&self.bytes, self.at, into);
@@ -75,9 +73,7 @@ impl PlainSink {
 }
 
 impl Sink for PlainSink {
-    ghost written = { λ _. None };
-
-    ghost faults = { λ _. 0 };
+    ghost state = { λ _. record { written = None; faults = 0 } };
 
     fn write(&mut self, piece: &[u8]) -> Result<usize, Failed>
         requires { 0 < length piece.now }

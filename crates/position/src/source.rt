@@ -1,10 +1,9 @@
 //! A source of bytes.
 
-ghost use Rattle.std.specs.Prelude.{◌≡◌, ◌≢◌, ◌<◌, ◌≤◌, ◌+◌, ℕ, List, length, IfOk};
-ghost use Rattle.std.specs.declared.option.Option.{Option};
+ghost use Rattle.std.specs.Prelude.{◌≡◌, ◌≢◌, ◌<◌, ◌≤◌, ◌+◌, length, IfOk};
 ghost use Rattle.std.specs.Io.KnownBytes.{ReadConsumes, Consumes, IsAtEnd};
 ghost use Rattle.position.specs.Causes.{Rose, HasCause};
-ghost use Rattle.position.specs.Taken.{Takes, TakesAtMost};
+ghost use Rattle.position.specs.Taken.{SourceState, Takes, TakesAtMost};
 ghost use Rattle.position.specs.declared.source.ReadError.TheVariants.{NoMemory};
 
 use std::alloc::{AllocError, AllocFailed, Global};
@@ -15,18 +14,15 @@ use thiserror::Error;
 pub struct Failed;
 
 pub trait Source {
-    /// The bytes still to come, where the source tells them.
-    ghost left: { Self → Option (List ℕ) };
-
-    /// How often a call failed. It stands still at its last value.
-    ghost faults: { Self → ℕ };
+    /// The bytes still to come, where the source tells them, and how often a call failed.
+    ghost state: { Self → SourceState };
 
     /// Moves the next bytes into the front of the piece, and says how many. None is the end.
     fn read(&mut self, into: &mut [u8]) -> Result<usize, Failed>
         requires { 0 < length into.old }
         ensures bound { IfOk result (λ n. n ≤ length into.new) }
-        ensures bytes { ReadConsumes (left self.old) (left self.new) result into.new }
-        ensures cause { HasCause (faults self.old) (faults self.new) result };
+        ensures bytes { ReadConsumes (state self.old).left (state self.new).left result into.new }
+        ensures cause { HasCause (state self.old).faults (state self.new).faults result };
 }
 
 /// Why a source was not read to its end.
@@ -73,16 +69,16 @@ const PIECE: usize = 4096;
 
 /// All bytes of a source up to its end, if there are at most `limit`.
 pub fn read_all<S: Source>(alloc: Global, source: &mut S, limit: u64) -> Result<Vec<u8>, ReadError>
-    ensures ok { IfOk result (λ v. Consumes (S.left source.old) (S.left source.new) v.items
-        × IsAtEnd (S.left source.new)) }
+    ensures ok { IfOk result (λ v. Consumes (S.state source.old).left (S.state source.new).left v.items
+        × IsAtEnd (S.state source.new).left) }
     ensures within { IfOk result (λ v. length v.items ≤ limit) }
     // Too long is one byte more than the limit, and with any other answer no more than the limit is taken.
     ensures too_long { result ≡ Err ReadError.TooLong
-        → Takes (S.left source.old) (S.left source.new) (limit + 1) }
+        → Takes (S.state source.old).left (S.state source.new).left (limit + 1) }
     ensures others { result ≢ Err ReadError.TooLong
-        → TakesAtMost (S.left source.old) (S.left source.new) limit }
-    ensures failed { result ≡ Err ReadError.Failed → Rose (S.faults source.old) (S.faults source.new) }
-    ensures later { S.faults source.old ≤ S.faults source.new }
+        → TakesAtMost (S.state source.old).left (S.state source.new).left limit }
+    ensures failed { result ≡ Err ReadError.Failed → Rose (S.state source.old).faults (S.state source.new).faults }
+    ensures later { (S.state source.old).faults ≤ (S.state source.new).faults }
 {
     let mut bytes = Vec::new(alloc);
     let mut piece = [0u8; PIECE];

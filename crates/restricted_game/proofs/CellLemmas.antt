@@ -16,7 +16,7 @@ use Rattle.plan_book.specs.Steps.{rounded}
 use Rattle.plan_book.proofs.StepLemmas.{looser_rounded, rounded_tightest}
 use Rattle.matrix_game.specs.Grid.{IsSmall}
 use Rattle.restricted_game.specs.declared.table.Table.{Table}
-use Rattle.restricted_game.specs.Numbers.{bound_in}
+use Rattle.bounds_board.specs.Views.{bound_in}
 use Rattle.restricted_game.specs.Sizes.{IsSmallEnclosure}
 use Rattle.restricted_game.specs.Tables.{HasShape, enclosure_in, pair_cell, place_of}
 use Rattle.restricted_game.proofs.PlaceLemmas.{place_within}

@@ -1,5 +1,5 @@
 -- How a step ends, and what is held then.
-use Rattle.std.proofs.Common.{◌≡◌, ◌⊎◌, ⊎_elim, ℕ, ◌<◌, ◌≤◌, ℤ, Bool, true, false, IsTrue, Option, None, Some, List, length, refl, sym, subst, arith}
+use Rattle.std.proofs.Common.{◌≡◌, ◌⊎◌, ⊎_elim, ℕ, ◌<◌, ◌≤◌, ℤ, Bool, true, false, IsTrue, Option, None, Some, List, length, refl, sym, ap, subst, ◌∙◌, arith}
 use Rattle.std.specs.Prelude.{IfSome, IsSome, is_some}
 use Rattle.std.specs.Bool.{then_some}
 use Rattle.std.specs.List.{Contains}
@@ -53,13 +53,13 @@ none_from None e = refl
 none_from (Some x) e = absurd (cc)
 
 -- ---- the end
-module _ {S G N : Type 0} (m : GameModel S) (game : IsGame m) (u v : BoardView G N) (s : S) (reach : Reachable m s) (total : ℕ) (h : HeldMoves) (holding : IsHolding h) (is_rows : h.most_rows ≡ m.moves One s) (is_cols : h.most_cols ≡ m.moves Two s)
-    (row col : Option ℕ) (lower upper : ℤ) (run : IsStepRun m u v s total h.rows h.cols row col lower upper) where
+module _ {S G N : Type 0} (m : GameModel S) (game : IsGame m) (u v : BoardView G N) (s : S) (reach : Reachable m s) (h held : HeldMoves) (is : h ≡ held) (holding : IsHolding h)
+    (most_rows : held.most_rows ≡ m.moves One s) (most_cols : held.most_cols ≡ m.moves Two s) (row col : Option ℕ) (lower upper : ℤ) (run : IsStepRun m u v s h.rows h.cols row col lower upper) where
   new_row : IfSome row (IsNew h.most_rows h.rows)
-  new_row = subst (λ (n : ℕ). IfSome row (IsNew n h.rows)) (sym is_rows) (fresh_new m Two s total h.cols h.rows run.col_weights run.two.numbers run.two.plan upper row run.two.planned)
+  new_row = subst (λ (n : ℕ). IfSome row (IsNew n h.rows)) (sym (ap (λ (k : HeldMoves). k.most_rows) is ∙ most_rows)) (fresh_new m Two s u.total h.cols h.rows run.col_weights run.two.numbers run.two.plan upper row run.two.planned)
 
   new_col : IfSome col (IsNew h.most_cols h.cols)
-  new_col = subst (λ (n : ℕ). IfSome col (IsNew n h.cols)) (sym is_cols) (fresh_new m One s total h.rows h.cols run.row_weights run.one.numbers run.one.plan lower col run.one.planned)
+  new_col = subst (λ (n : ℕ). IfSome col (IsNew n h.cols)) (sym (ap (λ (k : HeldMoves). k.most_cols) is ∙ most_cols)) (fresh_new m One s u.total h.rows h.cols run.row_weights run.one.numbers run.one.plan lower col run.one.planned)
 
   pub row_room : (room len : ℕ) → len ≡ length h.rows → h.most_rows ≤ room → IfSome row (λ _. len < room)
   row_room room len = new_room h.most_rows room len h.rows row holding.rows new_row
@@ -75,13 +75,14 @@ module _ {S G N : Type 0} (m : GameModel S) (game : IsGame m) (u v : BoardView G
     few_cols = holding.few_cols;
   }
 
-  pub has_grown : IsSome row ⊎ IsSome col → (count_held h < count_held (held_after h (Grown row col))) × (count_held (held_after h (Grown row col)) ≤ 64)
-  has_grown some = (
+  pub has_grown : IsSome row ⊎ IsSome col → (count_held held < count_held (held_after h (Grown row col))) × (count_held (held_after h (Grown row col)) ≤ 64)
+  has_grown some = subst (λ (k : HeldMoves). (count_held k < count_held (held_after h (Grown row col))) × (count_held (held_after h (Grown row col)) ≤ 64)) is (
     ⊎_elim (λ (r : IsSome row). omega (arith, with_longer h.rows row r, with_length h.cols col)) (λ (k : IsSome col). omega (arith, with_longer h.cols col k, with_length h.rows row)) some,
     held_few (held_after h (Grown row col)) holding_after,
   )
 
-pub end_gap : {S G N : Type 0} (m : GameModel S) (game : IsGame m) (u v : BoardView G N) (s : S) (reach : Reachable m s) (total : ℕ) (h : HeldMoves) (holding : IsHolding h) → h.most_rows ≡ m.moves One s → h.most_cols ≡ m.moves Two s → 8192 ≤ total
-    → (lower upper : ℤ) → IsStepRun m u v s total h.rows h.cols None None lower upper → HasStepGap m u v s total h (Done lower upper)
-end_gap m game u v s reach total h holding is_rows is_cols enough lower upper run = λ gap stage close is_gap.
-    step_close m game u v s reach total enough h lower upper run (subst (λ (n : ℕ). AreMoves n h.rows) is_rows holding.rows) (subst (λ (n : ℕ). AreMoves n h.cols) is_cols holding.cols) gap close stage is_gap
+pub end_gap : {S G N : Type 0} (m : GameModel S) (game : IsGame m) (u v : BoardView G N) (s : S) (reach : Reachable m s) (h held : HeldMoves) → h ≡ held → IsHolding h → held.most_rows ≡ m.moves One s → held.most_cols ≡ m.moves Two s → 8192 ≤ u.total
+    → (lower upper : ℤ) → IsStepRun m u v s h.rows h.cols None None lower upper → HasStepGap m u v s held (Done lower upper)
+end_gap m game u v s reach h held is holding most_rows most_cols enough lower upper run = subst (λ (k : HeldMoves). HasStepGap m u v s k (Done lower upper)) is (λ gap stage close is_gap.
+    step_close m game u v s reach enough h lower upper run (subst (λ (n : ℕ). AreMoves n h.rows) (ap (λ (k : HeldMoves). k.most_rows) is ∙ most_rows) holding.rows)
+    (subst (λ (n : ℕ). AreMoves n h.cols) (ap (λ (k : HeldMoves). k.most_cols) is ∙ most_cols) holding.cols) gap close stage is_gap)

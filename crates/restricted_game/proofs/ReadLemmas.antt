@@ -1,14 +1,15 @@
 -- Numbers that were read at a state: at an end, at a row, and as the views go on.
-use Rattle.std.proofs.Common.{◌≡◌, ⊎_elim, inl, inr, ◌⊎◌, ℕ, zero, suc, ◌≤◌, ℤ, refl, sym, arith}
+use Rattle.std.proofs.Common.{◌≡◌, ⊎_elim, inl, inr, ◌⊎◌, ℕ, zero, suc, ◌≤◌, ℤ, List, refl, sym, subst, arith}
 use Rattle.sim_game.specs.declared.Side.{Side}
 use Rattle.sim_game.specs.declared.Side.TheVariants.{One, Two}
-use Rattle.sim_game.specs.Model.{GameModel, IsGame, IsEnd, Reachable}
+use Rattle.sim_game.specs.Model.{GameModel, IsGame, IsEnd, Reachable, LeadsTo}
 use Rattle.sim_game.specs.Sides.{other_side, IsNoTighter, opening_bound, end_bound}
 use Rattle.sim_game.proofs.SideLemmas.{looser_refl, looser_left, looser_right, looser_trans, end_range}
+use Rattle.sim_game.proofs.ReachLemmas.{leads_none, leads_turn}
 use Rattle.plan_book.specs.Backed.{by_end}
 use Rattle.bounds_board.specs.declared.bounds.Enclosure.{Enclosure}
-use Rattle.bounds_board.specs.Views.{BoardView, IsLater, IsSeenNumber, by_end as end_number, by_seen}
-use Rattle.restricted_game.specs.Numbers.{IsClaimed, IsReadNumber, AreRead, bound_in}
+use Rattle.bounds_board.specs.Views.{BoardView, IsLater, IsSeenNumber, by_end as end_number, by_seen, bound_in}
+use Rattle.restricted_game.specs.Numbers.{IsClaimed, IsReadNumber, AreRead, IsReadChild}
 
 -- the payoff of an end, as a number of either side
 end_number_read : {S G N : Type 0} (m : GameModel S) (v : BoardView G N) (s : S) (x : ℤ) (side : Side) → IsGame m → Reachable m s → IsEnd m s → x ≡ end_bound m s → IsReadNumber m v v side s x
@@ -49,10 +50,17 @@ number_between m t u v w side s x earlier later r = record {
 pub read_between : {S G N : Type 0} (m : GameModel S) (t u v w : BoardView G N) (s : S) (e : Enclosure) → IsLater t u → IsLater v w → AreRead m u v s e → AreRead m t w s e
 read_between m t u v w s e earlier later r = record { number = λ side. number_between m t u v w side s (bound_in side e) earlier later (r.number side) }
 
-cases_rank : (n : ℕ) → (n ≡ 0) ⊎ (1 ≤ n)
+pub cases_rank : (n : ℕ) → (n ≡ 0) ⊎ (1 ≤ n)
 cases_rank zero = inl refl
 cases_rank (suc n) = inr (omega arith)
 
 -- an entry may rest on it
 pub number_seen : {S G N : Type 0} (m : GameModel S) (u v : BoardView G N) (side : Side) (s : S) (x : ℤ) → IsReadNumber m u v side s x → IsSeenNumber m v side s x
 number_seen m u v side s x r = ⊎_elim (λ (e : m.rank s ≡ 0). end_number e (r.at_end e)) (λ (g : 1 ≤ m.rank s). by_seen (r.no_tighter g)) (cases_rank (m.rank s))
+
+-- a state leads to each child that is read
+pub read_child_leads : {S : Type 0} (m : GameModel S) (s : S) (rows cols : List ℕ) (t : S) → IsReadChild m s rows cols t → LeadsTo m s t
+read_child_leads m s rows cols t child =
+    subst (LeadsTo m s) child.drawn.leads
+    (leads_turn m s (record { one = child.one; two = child.two; draw = child.drawn.draw }) _
+    (record { one_below = child.one_below; two_below = child.two_below; draw_below = child.drawn.draw_below }) (leads_none m _))

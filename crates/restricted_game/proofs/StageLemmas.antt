@@ -1,5 +1,5 @@
 -- How close the bounds of a step are where no reply is fresh.
-use Rattle.std.proofs.Common.{◌≡◌, ◌⊎◌, inl, inr, ⊎_elim, ℕ, zero, suc, ◌+◌, ◌*◌, ◌/◌, ◌%◌, ◌<◌, ◌≤◌, ℤ, pos, ◌+ℤ◌, ◌-ℤ◌, ◌*ℤ◌, ◌≤ℤ◌, unsigned_abs, Bool, true, false, cond, None, IsFalse, List, length, get_or, slice_index, slice_index_or, mod-lt, refl, sym, ap, subst, ◌∙◌, arith}
+use Rattle.std.proofs.Common.{◌≡◌, inl, ⊎_elim, ℕ, ◌+◌, ◌*◌, ◌/◌, ◌%◌, ◌<◌, ◌≤◌, ℤ, pos, ◌+ℤ◌, ◌-ℤ◌, ◌*ℤ◌, ◌≤ℤ◌, unsigned_abs, Bool, true, false, cond, None, IsFalse, List, length, get_or, slice_index, slice_index_or, mod-lt, refl, sym, ap, subst, ◌∙◌, arith}
 use Rattle.std.proofs.lemmas.Int.{ints}
 use Rattle.std.proofs.lemmas.Nat.{div-add-mod'}
 use Rattle.std.proofs.Math.Nat.{div-lt_iff_lt-mul, mul-le-mul}
@@ -22,6 +22,7 @@ use Rattle.restricted_game.specs.Gaps.{AreClose, IsStepClose, step_gap}
 use Rattle.restricted_game.specs.Runs.{IsStepRun}
 use Rattle.restricted_game.proofs.CellLemmas.{mean_from, mean_to}
 use Rattle.restricted_game.proofs.GapLemmas.{quotients_close, sums_close, cells_close, one_cell_close}
+use Rattle.restricted_game.proofs.ReadLemmas.{cases_rank}
 
 place_in : (xs : List ℕ) (x : ℕ) → Contains xs x → (k : ℕ) × (k < length xs) × (slice_index xs k ≡ x)
 place_in xs x h = let w = at_from_Contains xs x h in (w.0, w.1, w.2 0)
@@ -30,12 +31,11 @@ not_fresh : (fresh : Bool) (place : ℕ) → None ≡ then_some fresh place → 
 not_fresh true place e = absurd (cc)
 not_fresh false place e = refl
 
-cases_rank : (n : ℕ) → (n ≡ 0) ⊎ (1 ≤ n)
-cases_rank zero = inl refl
-cases_rank (suc n) = inr (omega arith)
+module _ {S G N : Type 0} (m : GameModel S) (game : IsGame m) (u v : BoardView G N) (s : S) (reach : Reachable m s) (enough : 8192 ≤ u.total) (h : HeldMoves) (lower upper : ℤ)
+    (run : IsStepRun m u v s h.rows h.cols None None lower upper) (held_rows : AreMoves (m.moves One s) h.rows) (held_cols : AreMoves (m.moves Two s) h.cols) where
+  abbrev total : ℕ
+  total = u.total
 
-module _ {S G N : Type 0} (m : GameModel S) (game : IsGame m) (u v : BoardView G N) (s : S) (reach : Reachable m s) (total : ℕ) (enough : 8192 ≤ total) (h : HeldMoves) (lower upper : ℤ)
-    (run : IsStepRun m u v s total h.rows h.cols None None lower upper) (held_rows : AreMoves (m.moves One s) h.rows) (held_cols : AreMoves (m.moves Two s) h.cols) where
   -- the held moves at a place of the game on them
   abbrev row : ℕ → ℕ
   row i = slice_index h.rows i

@@ -15,6 +15,7 @@ use Rattle.plan_book.specs.Steps.{IsStep}
 use Rattle.plan_book.proofs.BackedLemmas.{backed_within}
 use Rattle.plan_book.proofs.GuaranteeLemmas.{chances}
 use Rattle.bounds_board.specs.Views.{BoardView, IsLater, IsPostable}
+use Rattle.bounds_board.proofs.ViewLemmas.{later_refl}
 use Rattle.restricted_game.specs.declared.plans.Plans.{Plans}
 use Rattle.restricted_game.specs.declared.table.Table.{Table}
 use Rattle.restricted_game.specs.Numbers.{IsClaimed, IsReadNumber, IsWanted}
@@ -81,43 +82,43 @@ module _ {S G N : Type 0} (m : GameModel S) (game : IsGame m) (s : S) (reach : R
     known = λ move other draw p q t w. number_seen m u v side _ _ (weighted_read move other draw p q t w);
   }
 
-  abbrev side_run : (t w : BoardView G N) → IsLater t u → IsLater v w → IsNoTighter side bound (w.seen side (m.key s)) → IsSideRun m t w side s total own others weights bound fresh
-  side_run t w earlier later seen = record {
+  abbrev side_run : (w : BoardView G N) → IsLater v w → IsNoTighter side bound (w.seen side (m.key s)) → IsSideRun m u w side s total own others weights bound fresh
+  side_run w later seen = record {
     numbers = numbers;
-    read = λ move other draw p q k l. number_between m t u v w side _ _ earlier later (read move other draw p q k l);
+    read = λ move other draw p q k l. number_between m u u v w side _ _ (later_refl u) later (read move other draw p q k l);
     plan = plan;
     planned = planned;
     seen = seen;
   }
 
 -- ---- both sides
-module _ {S G N : Type 0} (m : GameModel S) (game : IsGame m) (s : S) (reach : Reachable m s) (goes_on : 1 ≤ m.rank s) (u v : BoardView G N) (total : ℕ) (some : 1 ≤ total) (rows cols : List ℕ) (table : Table) (filled : IsFilled m u v s rows cols table)
-    (plans : Plans) (planned : ArePlans m s total rows cols table plans) where
-  pub one_postable : v.total ≡ total → IsPostable m v (side_entry m One s plans.one)
-  one_postable is_total =
-      plan_postable m game s reach goes_on u v One total some rows cols planned.row_weights planned.stage.rows.all (numbers_in One table) plans.one.weights.items plans.one.bound plans.one.fresh planned.one
-      (one_read m u v s rows cols table filled) plans.one.reads.items planned.one_reads is_total
+module _ {S G N : Type 0} (m : GameModel S) (game : IsGame m) (s : S) (reach : Reachable m s) (goes_on : 1 ≤ m.rank s) (u v : BoardView G N) (read : IsLater u v) (some : 1 ≤ u.total) (rows cols : List ℕ) (table : Table) (filled : IsFilled m u v s rows cols table)
+    (plans : Plans) (planned : ArePlans m s u.total rows cols table plans) where
+  pub one_postable : IsPostable m v (side_entry m One s plans.one)
+  one_postable =
+      plan_postable m game s reach goes_on u v One u.total some rows cols planned.row_weights planned.stage.rows.all (numbers_in One table) plans.one.weights.items plans.one.bound plans.one.fresh planned.one
+      (one_read m u v s rows cols table filled) plans.one.reads.items planned.one_reads read.total
 
-  pub two_postable : v.total ≡ total → IsPostable m v (side_entry m Two s plans.two)
-  two_postable is_total =
-      plan_postable m game s reach goes_on u v Two total some cols rows planned.col_weights planned.stage.cols.all (numbers_in Two table) plans.two.weights.items plans.two.bound plans.two.fresh planned.two
-      (two_read m u v s rows cols table filled) plans.two.reads.items planned.two_reads is_total
+  pub two_postable : IsPostable m v (side_entry m Two s plans.two)
+  two_postable =
+      plan_postable m game s reach goes_on u v Two u.total some cols rows planned.col_weights planned.stage.cols.all (numbers_in Two table) plans.two.weights.items plans.two.bound plans.two.fresh planned.two
+      (two_read m u v s rows cols table filled) plans.two.reads.items planned.two_reads read.total
 
-  pub step_run : (t w : BoardView G N) → IsLater t u → IsLater t v → IsLater v w → v.entries ≡ t.entries → IsClaimed w (m.key s) → ArePosted m v w s plans → IsStepRun m t w s total rows cols plans.two.fresh plans.one.fresh plans.one.bound plans.two.bound
-  step_run t w before read after quiet claimed posted = record {
+  pub step_run : (w : BoardView G N) → IsLater v w → v.entries ≡ u.entries → IsClaimed w (m.key s) → ArePosted m v w s plans → IsStepRun m u w s rows cols plans.two.fresh plans.one.fresh plans.one.bound plans.two.bound
+  step_run w after quiet claimed posted = record {
     claimed = claimed;
     grid = planned.grid;
     row_weights = planned.row_weights;
     col_weights = planned.col_weights;
     stage = planned.stage;
-    one = side_run m game s reach goes_on u v One total some rows cols planned.row_weights planned.stage.rows.all (numbers_in One table) plans.one.weights.items plans.one.bound plans.one.fresh planned.one
-        (one_read m u v s rows cols table filled) t w before after posted.one_seen;
-    two = side_run m game s reach goes_on u v Two total some cols rows planned.col_weights planned.stage.cols.all (numbers_in Two table) plans.two.weights.items plans.two.bound plans.two.fresh planned.two
-        (two_read m u v s rows cols table filled) t w before after posted.two_seen;
+    one = side_run m game s reach goes_on u v One u.total some rows cols planned.row_weights planned.stage.rows.all (numbers_in One table) plans.one.weights.items plans.one.bound plans.one.fresh planned.one
+        (one_read m u v s rows cols table filled) w after posted.one_seen;
+    two = side_run m game s reach goes_on u v Two u.total some cols rows planned.col_weights planned.stage.cols.all (numbers_in Two table) plans.two.weights.items plans.two.bound plans.two.fresh planned.two
+        (two_read m u v s rows cols table filled) w after posted.two_seen;
     is_grid = planned.is_grid;
     between = posted.between;
-    one_posted = subst (λ (e : Entry). IsPosted t e t.entries posted.between) (ap (entry_at m One s plans.one.bound plans.one.weights.items) planned.one_reads)
-        (subst (λ (l : List Entry). IsPosted t (side_entry m One s plans.one) l posted.between) quiet (posted_earlier t v _ _ _ read posted.one_posted));
-    two_posted = subst (λ (e : Entry). IsPosted t e posted.between w.entries) (ap (entry_at m Two s plans.two.bound plans.two.weights.items) planned.two_reads)
-        (posted_earlier t v _ _ _ read posted.two_posted);
+    one_posted = subst (λ (e : Entry). IsPosted u e u.entries posted.between) (ap (entry_at m One s plans.one.bound plans.one.weights.items) planned.one_reads)
+        (subst (λ (l : List Entry). IsPosted u (side_entry m One s plans.one) l posted.between) quiet (posted_earlier u v _ _ _ read posted.one_posted));
+    two_posted = subst (λ (e : Entry). IsPosted u e posted.between w.entries) (ap (entry_at m Two s plans.two.bound plans.two.weights.items) planned.two_reads)
+        (posted_earlier u v _ _ _ read posted.two_posted);
   }

@@ -24,6 +24,6 @@ pub record IsStepClose {S G N : Type 0} (m : GameModel S) (v : BoardView G N) (s
   pub seen : v.seen Two (m.key s) ≤ℤ (v.seen One (m.key s) +ℤ pos gap)
 
 -- where no reply is fresh, and the states after held moves were close before the step, so are the bounds after it
-abbrev pub HasStepGap : {S G N : Type 0} → GameModel S → BoardView G N → BoardView G N → S → ℕ → HeldMoves → StepEnd → Type 0
-HasStepGap m u v s total h (Grown row col) = Unit {0}
-HasStepGap m u v s total h (Done lower upper) = (gap stage : ℕ) → AreClose m u s h gap → IsStageGap m total stage → IsStepClose m v s lower upper (step_gap m gap stage)
+abbrev pub HasStepGap : {S G N : Type 0} → GameModel S → BoardView G N → BoardView G N → S → HeldMoves → StepEnd → Type 0
+HasStepGap m u v s h (Grown row col) = Unit {0}
+HasStepGap m u v s h (Done lower upper) = (gap stage : ℕ) → AreClose m u s h gap → IsStageGap m u.total stage → IsStepClose m v s lower upper (step_gap m gap stage)

@@ -1,5 +1,5 @@
 -- The numbers that a step reads at the states after held moves.
-use Rattle.std.specs.Prelude.{◌≡◌, ◌⊎◌, ℕ, ◌≤◌, ℤ, Some, List}
+use Rattle.std.specs.Prelude.{◌≡◌, ◌⊎◌, ℕ, ◌<◌, ◌≤◌, ℤ, Some, List}
 use Rattle.std.specs.List.{Contains}
 use Rattle.sim_game.specs.declared.Side.{Side}
 use Rattle.sim_game.specs.declared.Side.TheVariants.{One, Two}
@@ -7,7 +7,7 @@ use Rattle.sim_game.specs.Model.{GameModel, IsEnd}
 use Rattle.sim_game.specs.Sides.{other_side, IsNoTighter, opening_bound, end_bound}
 use Rattle.plan_book.specs.Backed.{IsBacked}
 use Rattle.bounds_board.specs.declared.bounds.Enclosure.{Enclosure}
-use Rattle.bounds_board.specs.Views.{BoardView}
+use Rattle.bounds_board.specs.Views.{BoardView, bound_in}
 
 -- some row is known to have the key
 pub record IsClaimed {G N : Type 0} (v : BoardView G N) (key : ℕ) : Type 0 where
@@ -24,11 +24,6 @@ pub record IsReadNumber {S G N : Type 0} (m : GameModel S) (u v : BoardView G N)
   pub no_looser : 1 ≤ m.rank s → IsNoTighter side (u.seen side (m.key s)) x
   pub no_tighter : 1 ≤ m.rank s → IsNoTighter side x (v.seen side (m.key s))
 
--- the bound of a side
-abbrev pub bound_in : Side → Enclosure → ℤ
-bound_in One e = e.lower
-bound_in Two e = e.upper
-
 -- both numbers were read at the state
 pub record AreRead {S G N : Type 0} (m : GameModel S) (u v : BoardView G N) (s : S) (e : Enclosure) : Type 0 where
   pub number : (side : Side) → IsReadNumber m u v side s (bound_in side e)
@@ -36,3 +31,18 @@ pub record AreRead {S G N : Type 0} (m : GameModel S) (u v : BoardView G N) (s :
 -- a step reads what follows a pair of moves of which at least one is held
 abbrev pub IsWanted : List ℕ → List ℕ → ℕ → ℕ → Type 0
 IsWanted held others move other = Contains held move ⊎ Contains others other
+
+-- a draw after both moves leads to the state
+pub record IsDrawn {S : Type 0} (m : GameModel S) (s : S) (one two : ℕ) (t : S) : Type 0 where
+  pub draw : ℕ
+  pub draw_below : draw < m.draws s one two
+  pub leads : m.drawn s one two draw ≡ t
+
+-- a child that a step with these held moves reads
+pub record IsReadChild {S : Type 0} (m : GameModel S) (s : S) (rows cols : List ℕ) (t : S) : Type 0 where
+  pub one : ℕ
+  pub two : ℕ
+  pub one_below : one < m.moves One s
+  pub two_below : two < m.moves Two s
+  pub wanted : IsWanted rows cols one two
+  pub drawn : IsDrawn m s one two t

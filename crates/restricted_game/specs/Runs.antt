@@ -71,20 +71,20 @@ pub data IsPosted {G N : Type 0} (u : BoardView G N) (e : Entry) (old new : List
 
 -- ---- the step
 -- one step between two views; a row or a column that it names is a reply that was not held
-pub record IsStepRun {S G N : Type 0} (m : GameModel S) (u v : BoardView G N) (s : S) (total : ℕ) (rows cols : List ℕ) (row col : Option ℕ) (lower upper : ℤ) : Type 0 where
+pub record IsStepRun {S G N : Type 0} (m : GameModel S) (u v : BoardView G N) (s : S) (rows cols : List ℕ) (row col : Option ℕ) (lower upper : ℤ) : Type 0 where
   pub claimed : IsClaimed v (m.key s)
   pub grid : Grid
   pub row_weights : List ℕ
   pub col_weights : List ℕ
-  pub stage : IsHeldStage total grid row_weights col_weights
-  pub one : IsSideRun m u v One s total rows cols row_weights lower col
-  pub two : IsSideRun m u v Two s total cols rows col_weights upper row
+  pub stage : IsHeldStage u.total grid row_weights col_weights
+  pub one : IsSideRun m u v One s u.total rows cols row_weights lower col
+  pub two : IsSideRun m u v Two s u.total cols rows col_weights upper row
   pub is_grid : IsHeldGrid m s rows cols one.numbers grid
   pub between : List Entry
   pub one_posted : IsPosted u (entry_at m One s lower one.plan (reads_of m One s one.plan one.numbers)) u.entries between
   pub two_posted : IsPosted u (entry_at m Two s upper two.plan (reads_of m Two s two.plan two.numbers)) between v.entries
 
 -- how a step ended: it names the replies that are fresh, or its bounds where none is
-pub data IsStepEnd {S G N : Type 0} (m : GameModel S) (u v : BoardView G N) (s : S) (total : ℕ) (h : HeldMoves) : StepEnd → Type 0 where
-  grows : (row col : Option ℕ) (lower upper : ℤ) → IsStepRun m u v s total h.rows h.cols row col lower upper → IsSome row ⊎ IsSome col → IsStepEnd m u v s total h (Grown row col)
-  stays : (lower upper : ℤ) → IsStepRun m u v s total h.rows h.cols None None lower upper → IsStepEnd m u v s total h (Done lower upper)
+pub data IsStepEnd {S G N : Type 0} (m : GameModel S) (u v : BoardView G N) (s : S) (h : HeldMoves) : StepEnd → Type 0 where
+  grows : (row col : Option ℕ) (lower upper : ℤ) → IsStepRun m u v s h.rows h.cols row col lower upper → IsSome row ⊎ IsSome col → IsStepEnd m u v s h (Grown row col)
+  stays : (lower upper : ℤ) → IsStepRun m u v s h.rows h.cols None None lower upper → IsStepEnd m u v s h (Done lower upper)

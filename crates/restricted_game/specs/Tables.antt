@@ -11,11 +11,11 @@ use Rattle.plan_book.specs.Entries.{reads_of}
 use Rattle.plan_book.specs.Steps.{rounded}
 use Rattle.matrix_game.specs.Grid.{Grid}
 use Rattle.bounds_board.specs.declared.bounds.Enclosure.{Enclosure}
-use Rattle.bounds_board.specs.Views.{BoardView}
+use Rattle.bounds_board.specs.Views.{BoardView, bound_in}
 use Rattle.restricted_game.specs.declared.plans.Plans.{Plans}
 use Rattle.restricted_game.specs.declared.plans.SidePlan.{SidePlan}
 use Rattle.restricted_game.specs.declared.table.Table.{Table}
-use Rattle.restricted_game.specs.Numbers.{AreRead, IsWanted, bound_in}
+use Rattle.restricted_game.specs.Numbers.{AreRead, IsWanted}
 use Rattle.restricted_game.specs.Runs.{IsHeldGrid, IsHeldStage, IsPlan, IsPosted, entry_at}
 
 -- ---- places

@@ -1,5 +1,5 @@
 //! The moves that a restricted game holds.
-ghost use Rattle.std.specs.Prelude.{◌≡◌, ◌↔◌, ◌⊎◌, ◌≤◌, ◌<◌, ◌∷◌, [], Err, IfOk, OnOk, OnErr, IfSome, vec_len, vec_capacity};
+ghost use Rattle.std.specs.Prelude.{◌≡◌, ◌↔◌, ◌⊎◌, ◌≤◌, ◌<◌, ◌∷◌, [], Some, Err, IfOk, OnOk, OnErr, IfSome, vec_len, vec_capacity};
 ghost use Rattle.sim_game.specs.Model.{Reachable};
 ghost use Rattle.plan_book.specs.Books.{Grows};
 ghost use Rattle.plan_book.specs.Entries.{IsLawfulEntry};
@@ -7,10 +7,11 @@ ghost use Rattle.matrix_game.specs.Budget.{left_of, after_turn};
 ghost use Rattle.bounds_board.specs.Views.{IsLater, WasFull};
 ghost use Rattle.restricted_game.specs.Held.{AreMoves, HasGrown, held_after, with_move};
 ghost use Rattle.restricted_game.specs.Gaps.{HasStepGap};
+ghost use Rattle.restricted_game.specs.Numbers.{IsReadChild};
 ghost use Rattle.restricted_game.specs.Runs.{IsStepEnd};
 
 use crate::steps::find;
-use bounds_board::Bounds;
+use bounds_board::{Bounds, Row};
 use matrix_game::Turns;
 use sim_game::{Game, NoMemory, Side};
 use std::alloc::Global;
@@ -104,32 +105,34 @@ impl Restricted {
     /// Reads the states after held moves, solves the game on the held moves for one turn, posts what the weights of each
     /// side prove against all replies, and holds the best replies that were not held.
     ///
-    /// The state is one that is no end, and has as many moves of each side as this game was made for. `Spent` comes where
-    /// no turn is left, before all else; `Full` where a claim found the board full.
+    /// The state is one that is no end, and has as many moves of each side as this game was made for; the row is its own.
+    /// `Spent` comes where no turn is left, before all else; `Full` where the claim of a child found the board full.
     pub fn step<G: Game, B: Bounds<G>>(
         &mut self,
         g: G,
         s: G::State,
+        row: Row,
         board: &mut B,
         turns: &mut Turns,
     ) -> Result<StepEnd, StepFault>
         requires game { (B.view board.old).game ≡ g }
         requires reachable { Reachable (G.model g) s }
         requires goes_on { 1 ≤ (G.model g).rank s }
+        requires row { (B.view board.old).key_at row ≡ Some ((G.model g).key s) }
         requires rows { self.old.most_rows ≡ (G.model g).moves Side.One s }
         requires cols { self.old.most_cols ≡ (G.model g).moves Side.Two s }
         ensures later { IsLater (B.view board.old) (B.view board.new) }
         ensures posted { Grows (IsLawfulEntry (G.model g) (B.view board.old).total) (B.view board.old).entries (B.view board.new).entries }
-        ensures ended { IfOk result (IsStepEnd (G.model g) (B.view board.old) (B.view board.new) s (B.view board.old).total self.old) }
-        ensures gap { IfOk result (HasStepGap (G.model g) (B.view board.old) (B.view board.new) s (B.view board.old).total self.old) }
+        ensures ended { IfOk result (IsStepEnd (G.model g) (B.view board.old) (B.view board.new) s self.old) }
+        ensures gap { IfOk result (HasStepGap (G.model g) (B.view board.old) (B.view board.new) s self.old) }
         ensures held { IfOk result (λ end. self.new ≡ held_after self.old end) }
         ensures grown { IfOk result (HasGrown self.old self.new) }
         ensures turn { OnOk result (turns.new ≡ after_turn turns.old) }
 
-        // A turn that was left and a claim that was full gave `Full`: on Ok each state that was asked for has a row.
+        // A turn that was left and a claim that was full gave `Full`: on Ok each child that was asked for has a row.
         ensures spent { (result ≡ Err StepFault.Spent) ↔ (left_of turns.old ≡ 0) }
         ensures untouched { left_of turns.old ≡ 0 → B.view board.new ≡ B.view board.old }
-        ensures full { result ≡ Err StepFault.Full → WasFull (G.model g) (B.view board.new) }
+        ensures full { result ≡ Err StepFault.Full → WasFull (G.model g) (B.view board.new) (IsReadChild (G.model g) s self.old.rows self.old.cols) }
         ensures unposted { result ≡ Err StepFault.Full → (B.view board.new).entries ≡ (B.view board.old).entries }
         ensures kept { OnErr result (self.new ≡ self.old) }
         ensures no_turn { (result ≡ Err StepFault.Spent) ⊎ (result ≡ Err StepFault.Full) → turns.new ≡ turns.old }
@@ -138,7 +141,7 @@ impl Restricted {
         let alloc = *self.rows.allocator();
         let rows = self.rows.as_slice();
         let cols = self.cols.as_slice();
-        let found = match find(alloc, g, s, rows, cols, board, turns) {
+        let found = match find(alloc, g, s, row, rows, cols, board, turns) {
             Ok(found) => found,
             Err(fault) => return Err(fault),
         };

@@ -5,7 +5,6 @@ ghost use Rattle.restricted_game.specs.Held.{FewSteps};
 
 mod cells;
 mod held;
-mod numbers;
 mod plans;
 mod posts;
 mod reading;

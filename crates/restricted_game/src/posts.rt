@@ -8,7 +8,6 @@ ghost use Rattle.bounds_board.specs.Views.{IsLater, IsPostable};
 ghost use Rattle.restricted_game.specs.Runs.{IsPosted};
 ghost use Rattle.restricted_game.specs.Tables.{side_entry, ArePosted};
 
-use crate::numbers::bound_in;
 use crate::plans::{Plans, SidePlan};
 use bounds_board::{Bounds, Row};
 use plan_book::Entry;
@@ -33,8 +32,8 @@ fn post_plan<G: Game, B: Bounds<G>>(
     ensures posted { OnOk result (IsPosted (B.view board.old) (side_entry (G.model g) side s plan) (B.view board.old).entries (B.view board.new).entries) }
     ensures seen { OnOk result (IsNoTighter side plan.bound ((B.view board.new).seen side ((G.model g).key s))) }
 {
-    let enclosure = board.read(row);
-    if !side.is_tighter(plan.bound, bound_in(side, &enclosure)) {
+    let known = board.read(row).of(side);
+    if !side.is_tighter(plan.bound, known) {
         return Ok(());
     }
     let e = Entry {

@@ -1,8 +1,8 @@
 //! Reads of the states after held moves.
 ghost use Rattle.std.specs.Prelude.{◌≡◌, ◌+◌, ◌*◌, ◌≤◌, ◌<◌, All, length, IfOk, OnOk, OnErr, MatchBool, Err};
-ghost use Rattle.bounds_board.specs.Views.{IsLater, WasFull};
+ghost use Rattle.bounds_board.specs.Views.{IsLater, IsFull, WasFull};
 ghost use Rattle.sim_game.specs.Model.{Reachable};
-ghost use Rattle.restricted_game.specs.Numbers.{AreRead, IsWanted};
+ghost use Rattle.restricted_game.specs.Numbers.{AreRead, IsWanted, IsDrawn, IsReadChild};
 ghost use Rattle.restricted_game.specs.Sizes.{IsSmallEnclosure};
 ghost use Rattle.restricted_game.specs.Tables.{IsStride, AreDrawn, AreFilled, HasShape, IsFilled};
 
@@ -39,7 +39,7 @@ fn read_state<G: Game, B: Bounds<G>>(g: G, s: G::State, board: &mut B) -> Result
     ensures entries { (B.view board.new).entries ≡ (B.view board.old).entries }
     ensures read { IfOk result (AreRead (G.model g) (B.view board.old) (B.view board.new) s) }
     ensures small { IfOk result IsSmallEnclosure }
-    ensures full { OnErr result (WasFull (G.model g) (B.view board.new)) }
+    ensures full { OnErr result (IsFull (G.model g) (B.view board.new) ((G.model g).key s)) }
 {
     if g.rank(s) == 0 {
         let payoff = end_bound(g, s);
@@ -74,7 +74,7 @@ fn read_pair<G: Game, B: Bounds<G>>(
     ensures entries { (B.view board.new).entries ≡ (B.view board.old).entries }
     ensures drawn { OnOk result (AreDrawn (G.model g) (B.view board.old) (B.view board.new) s one two base ((G.model g).draws s one two) enclosures.old enclosures.new) }
     ensures small { OnOk result (All IsSmallEnclosure enclosures.new) }
-    ensures full { OnErr result (WasFull (G.model g) (B.view board.new)) }
+    ensures full { OnErr result (WasFull (G.model g) (B.view board.new) (IsDrawn (G.model g) s one two)) }
 {
     for draw in 0..g.draws(s, one, two) {
         match read_state(g, g.drawn(s, one, two, draw), board) {
@@ -106,7 +106,7 @@ fn read_pairs<G: Game, B: Bounds<G>>(
     ensures filled { OnOk result (AreFilled (G.model g) (B.view board.old) (B.view board.new) s rows.now cols.now ((G.model g).moves Side.Two s) stride
         ((G.model g).moves Side.One s * (G.model g).moves Side.Two s) enclosures.new) }
     ensures small { OnOk result (All IsSmallEnclosure enclosures.new) }
-    ensures full { OnErr result (WasFull (G.model g) (B.view board.new)) }
+    ensures full { OnErr result (WasFull (G.model g) (B.view board.new) (IsReadChild (G.model g) s rows.now cols.now)) }
 {
     let width = g.moves(Side::Two, s);
     for pair in 0..g.moves(Side::One, s) * width {
@@ -139,7 +139,7 @@ pub(crate) fn read_table<G: Game, B: Bounds<G>>(
     ensures entries { (B.view board.new).entries ≡ (B.view board.old).entries }
     ensures shape { IfOk result (HasShape (G.model g) s) }
     ensures filled { IfOk result (IsFilled (G.model g) (B.view board.old) (B.view board.new) s rows.now cols.now) }
-    ensures full { result ≡ Err BoardFault.Full → WasFull (G.model g) (B.view board.new) }
+    ensures full { result ≡ Err BoardFault.Full → WasFull (G.model g) (B.view board.new) (IsReadChild (G.model g) s rows.now cols.now) }
 {
     let height = g.moves(Side::One, s);
     let width = g.moves(Side::Two, s);

@@ -3,7 +3,6 @@
 ghost use Rattle.std.specs.Prelude.{◌≡◌, ◌*◌, All, vec_len};
 ghost use Rattle.restricted_game.specs.Sizes.{IsSmallEnclosure};
 
-use crate::numbers::bound_in;
 use bounds_board::Enclosure;
 use sim_game::Side;
 
@@ -24,7 +23,7 @@ pub(crate) struct Table {
 
 impl Table {
     ghost use Rattle.std.specs.Prelude.{◌≡◌, ◌<◌, ◌≤◌, unsigned_abs};
-    ghost use Rattle.restricted_game.specs.Numbers.{bound_in};
+    ghost use Rattle.bounds_board.specs.Views.{bound_in};
     ghost use Rattle.restricted_game.specs.Tables.{enclosure_in};
 
     /// The bound of a side at a draw after a pair of moves, in millionths.
@@ -39,9 +38,6 @@ impl Table {
         ensures small { unsigned_abs result ≤ 4000000000 }
     {
         let pair = one as usize * self.width as usize + two as usize;
-        bound_in(
-            side,
-            &self.enclosures[pair * self.stride as usize + draw as usize],
-        )
+        self.enclosures[pair * self.stride as usize + draw as usize].of(side)
     }
 }

@@ -1,5 +1,5 @@
 -- What one part of a search after another keeps.
-use Rattle.std.proofs.Common.{◌≡◌, ⊎_elim, ℕ, zero, suc, ◌+◌, ◌<◌, ◌≤◌, ℤ, Result, Ok, Err, List, [], ◌++◌, refl, sym, ap, subst, ◌∙◌, append_assoc, append-nil, arith}
+use Rattle.std.proofs.Common.{◌≡◌, ⊎_elim, ℕ, zero, suc, ◌+◌, ◌<◌, ◌≤◌, ℤ, Result, Ok, Err, OnOk, List, [], ◌++◌, refl, sym, ap, subst, ◌∙◌, append_assoc, append-nil, arith}
 use Rattle.std.proofs.lemmas.Bool.{cases_lt}
 use Rattle.sums.specs.Sums.{count_below}
 use Rattle.std.proofs.lemmas.List.Elements.{All-append, All-nil}
@@ -72,11 +72,18 @@ module _ {S G N : Type 0} {m : GameModel S} {side : Side} where
     part_cut l q = cut_after before.visits (count_part f i n l) q
 
 -- where a part stops, the whole stops
+pub stops_below : {C C' : Type 0} (L L' : Type 0) (stop : Stop) → (C → C') → (L → L') → Stops C L stop → Stops C' L' stop
+stops_below L L' Cut c l h = c h
+stops_below L L' Full c l h = l h
+stops_below L L' NoMemory c l h = h
+
 pub stops_more : {C C' : Type 0} (L : Type 0) (stop : Stop) → (C → C') → Stops C L stop → Stops C' L stop
-stops_more L Cut c h = c h
-stops_more L Full c h = h
-stops_more L NoMemory c h = h
+stops_more L stop c h = stops_below L L stop c (λ l. l) h
 
 pub ends_more : (F : ℤ → Type 0) {C C' : Type 0} (L : Type 0) (r : Result ℤ Stop) → (C → C') → Ends F C L r → Ends F C' L r
 ends_more F L (Ok x) c h = h
 ends_more F L (Err stop) c h = stops_more L stop c h
+
+pub ok_more : {P Q : Type 0} (r : Result ℤ Stop) → (P → Q) → OnOk r P → OnOk r Q
+ok_more (Ok x) f h = f h
+ok_more (Err stop) f h = h

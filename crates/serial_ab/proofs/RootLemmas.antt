@@ -1,9 +1,9 @@
 -- The serial bounds of a root, by what two searches over the whole range found.
-use Rattle.std.proofs.Common.{◌≡◌, ◌≢◌, Result, Ok, Err, ℕ, ◌+◌, ◌≤◌, ℤ, ◌≤ℤ◌, w64, SFits, to_z, of_z, sym, ap, ◌∙◌, arith}
+use Rattle.std.proofs.Common.{◌≡◌, ◌≢◌, Result, Ok, Err, OnOk, ℕ, ◌+◌, ◌≤◌, ℤ, ◌≤ℤ◌, w64, SFits, to_z, of_z, sym, ap, ◌∙◌, arith}
 use Rattle.std.proofs.lemmas.Int.{ints, to_z-of_z}
 use Rattle.sim_game.specs.declared.Side.{Side}
 use Rattle.sim_game.specs.declared.Side.TheVariants.{One, Two}
-use Rattle.sim_game.specs.Model.{GameModel, IsGame, Reachable, HasAtMost}
+use Rattle.sim_game.specs.Model.{GameModel, IsGame, Reachable, LeadsTo, HasAtMost}
 use Rattle.sim_game.specs.Sides.{other_side, opening_bound, IsTighter}
 use Rattle.sim_game.proofs.SideLemmas.{looser_both}
 use Rattle.sim_game.proofs.ReachLemmas.{reachable_root}
@@ -41,13 +41,13 @@ had_left side v r not none = let some : ¬ (left_on side v ≡ 0) = λ e. not (n
 
 -- how a search of the root over the whole range ends
 pub root_ends : {S G N : Type 0} (m : GameModel S) (game : IsGame m) (side : Side) (v : BoardView G N) (old new : VisitsView) (r : Result ℤ Stop) → IsSearchable m
-    → (left_on side old ≡ 0 → r ≡ Err Cut) → (1 ≤ left_on side old → spent_on side old + 1 ≤ spent_on side new)
-    → Ends (IsFound m side m.root (opening_bound m side) (opening_bound m (other_side side)) v) (IsCut side (tree_size m m.root) old new) (WasFull m v) r
-    → Ends (IsRootValue m side old new) (IsCut side (tree_size m m.root) old new) (1 ≤ left_on side old × WasFull m v) r
-root_ends m game side v old new (Ok x) searched none entered found = let left = had_left side old (Ok x) (λ e. cc) none in record {
+    → (left_on side old ≡ 0 → r ≡ Err Cut) → OnOk r (spent_on side old + 2 ≤ spent_on side new)
+    → Ends (IsFound m side m.root (opening_bound m side) (opening_bound m (other_side side)) v) (IsCut side (tree_size m m.root) old new) (WasFull m v (LeadsTo m m.root)) r
+    → Ends (IsRootValue m side old new) (IsCut side (tree_size m m.root) old new) (1 ≤ left_on side old × WasFull m v (LeadsTo m m.root)) r
+root_ends m game side v old new (Ok x) searched none entered found = record {
   value = (whole_range m game side m.root v x (reachable_root m) found (whole_wide m side searched)).0;
-  had_left = λ _. left;
-  entered = λ _. entered left;
+  had_left = λ _. had_left side old (Ok x) (λ e. cc) none;
+  entered = λ _. entered;
 }
 root_ends m game side v old new (Err Cut) searched none entered cut = cut
 root_ends m game side v old new (Err Full) searched none entered full = (had_left side old (Err Full) (λ e. cc) none, full)
@@ -70,5 +70,5 @@ cut_before One need most old mid new counts cut = record { none_left = cut.none_
 cut_before Two need most old mid new counts cut = record { none_left = cut.none_left; too_few = let l = counts.limit in let o = counts.other in let f = cut.too_few in rw (sym l, sym o) f }
 
 -- a full board had no row for each state
-pub no_room : {S G N : Type 0} (m : GameModel S) (v : BoardView G N) (rows : ℕ) → v.rows ≡ rows → WasFull m v → HasAtMost m rows → ⊥
-no_room m v rows is was has = let few = rows_too_few m v was.asked was.full rows has in omega (arith, few, is)
+pub no_room : {S G N : Type 0} (m : GameModel S) (v : BoardView G N) (IsAsked : S → Type 0) (rows : ℕ) → v.rows ≡ rows → WasFull m v IsAsked → HasAtMost m rows → ⊥
+no_room m v IsAsked rows is was has = let few = rows_too_few m v (m.key was.state) was.full rows has in omega (arith, few, is)

@@ -3,9 +3,9 @@ use Rattle.std.proofs.Common.{◌≡◌, ℕ, zero, suc, ◌+◌, ◌-◌, ◌<�
 use Rattle.std.proofs.lemmas.Bool.{cases_eq}
 use Rattle.sim_game.specs.declared.Side.{Side}
 use Rattle.sim_game.specs.declared.Side.TheVariants.{One, Two}
-use Rattle.sim_game.specs.Model.{GameModel, IsGame, IsEnd, Reachable}
+use Rattle.sim_game.specs.Model.{GameModel, IsGame, IsEnd, Reachable, LeadsTo}
 use Rattle.sums.specs.Sums.{count_below}
-use Rattle.sim_game.proofs.ReachLemmas.{reachable_turn}
+use Rattle.sim_game.proofs.ReachLemmas.{reachable_turn, leads_turn}
 use Rattle.sums.proofs.SumLemmas.{sum_same, sum_weights}
 use Rattle.sim_game.specs.Sides.{other_side, IsNoTighter, opening_bound, end_bound, turn_of, draws_of, chance_of, child_of}
 use Rattle.plan_book.specs.Steps.{cell, rounded}
@@ -16,6 +16,8 @@ use Rattle.plan_book.proofs.BackedLemmas.{backed_within, mean_within}
 use Rattle.plan_book.proofs.SerialLemmas.{best_reached, best_bounds, serial_backed}
 use Rattle.sim_game.proofs.SideLemmas.{flip_side, looser_refl, looser_trans, looser_times, looser_sum, looser_left, looser_right, side_turn, looser_both}
 use Rattle.plan_book.proofs.StepLemmas.{looser_rounded, rounded_tightest}
+use Rattle.bounds_board.specs.Views.{BoardView, WasFull}
+use Rattle.bounds_board.proofs.FullLemmas.{full_weaker}
 use Rattle.serial_ab.specs.Values.{pair_value, move_value, pair_nodes, inner_nodes}
 
 -- ---- equal numbers
@@ -53,6 +55,15 @@ module _ {S : Type 0} (m : GameModel S) (game : IsGame m) where
 
   pub child_lower : (side : Side) (s : S) (own reply d : ℕ) → Reachable m s → own < m.moves side s → reply < m.moves (other_side side) s → d < draws_of m side s own reply → m.rank (child_of m side s own reply d) < m.rank s
   child_lower side s own reply d r p q u = game.rank_falls s (turn_of side own reply d) r (side_turn m side s own reply d p q u)
+
+  pub some_draws : (side : Side) (s : S) (own reply : ℕ) → Reachable m s → own < m.moves side s → reply < m.moves (other_side side) s → 1 ≤ draws_of m side s own reply
+  some_draws One s own reply r p q = game.draws_low s own reply r p q
+  some_draws Two s own reply r p q = game.draws_low s reply own r q p
+
+  -- a state that a child leads to
+  pub full_below : {G N : Type 0} (v : BoardView G N) (side : Side) (s : S) (own reply d : ℕ) → own < m.moves side s → reply < m.moves (other_side side) s → d < draws_of m side s own reply
+      → WasFull m v (LeadsTo m (child_of m side s own reply d)) → WasFull m v (LeadsTo m s)
+  full_below v side s own reply d p q u = full_weaker m v _ _ (λ t l. leads_turn m s (turn_of side own reply d) t (side_turn m side s own reply d p q u) l)
 
   -- ---- turns beyond the rank change nothing
   serial_enough : (side : Side) (n k : ℕ) (s : S) → Reachable m s → m.rank s ≤ n → m.rank s ≤ k → serial_within m side n s ≡ serial_within m side k s

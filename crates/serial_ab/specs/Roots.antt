@@ -14,11 +14,11 @@ pub record IsSearchable {S : Type 0} (m : GameModel S) : Type 0 where
   pub goes_on : 1 ≤ m.rank m.root
   pub wide : opening_bound m One <ℤ opening_bound m Two
 
--- the number is the serial bound of the root, and a search took a visit of those left
+-- the number is the serial bound of the root, and a search took two visits or more of those left
 pub record IsRootValue {S : Type 0} (m : GameModel S) (side : Side) (old new : VisitsView) (x : ℤ) : Type 0 where
   pub value : x ≡ serial_bound m side m.root
   pub had_left : IsSearchable m → 1 ≤ left_on side old
-  pub entered : IsSearchable m → spent_on side old + 1 ≤ spent_on side new
+  pub entered : IsSearchable m → spent_on side old + 2 ≤ spent_on side new
 
 -- the search of the side was cut: no visit is left, and there were fewer than the tree has nodes
 pub record IsRootCut {S : Type 0} (m : GameModel S) (side : Side) (old new : VisitsView) : Type 0 where

@@ -81,11 +81,7 @@ pub(crate) fn post_move<G: Game, B: Bounds<G>>(
     ensures seen { OnOk result (IsNoTighter side bound ((B.view board.new).seen side ((G.model g.now).key s))) }
     ensures err { OnErr result (result ≡ Err Stop.NoMemory) }
 {
-    let enclosure = board.read(row);
-    let known = match side {
-        Side::One => enclosure.lower,
-        Side::Two => enclosure.upper,
-    };
+    let known = board.read(row).of(side);
     if !side.is_tighter(bound, known) {
         return Ok(());
     }

@@ -1,6 +1,7 @@
 //! The serial bounds of a whole game.
 ghost use Rattle.std.specs.Prelude.{◌≡◌, ◌≤◌, ◌<ℤ◌, IfOk};
 ghost use Rattle.sim_game.specs.declared.Side.TheVariants.{One, Two};
+ghost use Rattle.sim_game.specs.Model.{LeadsTo};
 ghost use Rattle.sim_game.specs.Sides.{opening_bound};
 ghost use Rattle.plan_book.specs.Serial.{serial_bound, tree_size};
 ghost use Rattle.bounds_board.specs.Views.{WasFull};
@@ -100,7 +101,7 @@ fn search_root<G: Game, B: Bounds<G>>(
     requires searched { IsSearchable (G.model g) }
     ensures kept { IsKept (G.model g) side (tree_size (G.model g) (G.model g).root) (B.view board.old) (B.view board.new) visits.old visits.new }
     ensures ends { Ends (IsRootValue (G.model g) side visits.old visits.new) (IsCut side (tree_size (G.model g) (G.model g).root) visits.old visits.new)
-        ((1 ≤ left_on side visits.old) × WasFull (G.model g) (B.view board.new)) result }
+        ((1 ≤ left_on side visits.old) × WasFull (G.model g) (B.view board.new) (LeadsTo (G.model g) (G.model g).root)) result }
 {
     let worse = opening_bound(g, side);
     let better = opening_bound(g, side.other());

@@ -1,7 +1,7 @@
 //! The search: a state, its moves, a move, a pair of moves, its draws. One stack of numbers, `reads`, serves them all: a
 //! move puts the numbers at its children on it, and cuts them off when it is left or done.
 ghost use Rattle.std.specs.Prelude.{◌≡◌, ◌+◌, ◌<◌, ◌≤◌, ℕ, ℤ, Some, Err, OnOk};
-ghost use Rattle.sim_game.specs.Model.{Reachable};
+ghost use Rattle.sim_game.specs.Model.{Reachable, LeadsTo};
 ghost use Rattle.sim_game.specs.Sides.{other_side, IsNoTighter, opening_bound, move_of_one, move_of_two, draws_of, IsTighter};
 ghost use Rattle.plan_book.specs.Serial.{tree_size};
 ghost use Rattle.serial_ab.specs.Counts.{spent_on, left_on, IsCut};
@@ -33,10 +33,12 @@ pub(crate) fn search_state<G: Game, B: Bounds<G>>(
     requires reachable { Reachable (G.model g.now) s }
     requires window { IsWindow (G.model g.now) side worse better }
     ensures kept { IsKept (G.model g.now) side (tree_size (G.model g.now) s) (B.view board.old) (B.view board.new) visits.old visits.new }
-    ensures ends { Ends (IsFound (G.model g.now) side s worse better (B.view board.new)) (IsCut side (tree_size (G.model g.now) s) visits.old visits.new) (WasFull (G.model g.now) (B.view board.new)) result }
+    ensures ends { Ends (IsFound (G.model g.now) side s worse better (B.view board.new)) (IsCut side (tree_size (G.model g.now) s) visits.old visits.new) (WasFull (G.model g.now) (B.view board.new) (LeadsTo (G.model g.now) s)) result }
     ensures same_reads { OnOk result (reads.new.items ≡ reads.old.items) }
     ensures none_left { left_on side visits.old ≡ 0 → result ≡ Err Stop.Cut }
     ensures entered { 1 ≤ left_on side visits.old → spent_on side visits.old + 1 ≤ spent_on side visits.new }
+    ensures counted { OnOk result (spent_on side visits.old + 1 ≤ spent_on side visits.new) }
+    ensures below { 1 ≤ (G.model g.now).rank s → OnOk result (spent_on side visits.old + 2 ≤ spent_on side visits.new) }
 {
     if visits.left(side) == 0 {
         return Err(Stop::Cut);
@@ -72,8 +74,9 @@ fn search_moves<G: Game, B: Bounds<G>>(
     requires opened { IsNoTighter side (opening_bound (G.model g.now) side) ((B.view board.old).seen side ((G.model g.now).key s)) }
     requires window { IsWindow (G.model g.now) side worse better }
     ensures kept { IsKept (G.model g.now) side (inner_nodes (G.model g.now) side s) (B.view board.old) (B.view board.new) visits.old visits.new }
-    ensures ends { Ends (IsFound (G.model g.now) side s worse better (B.view board.new)) (IsCut side (inner_nodes (G.model g.now) side s) visits.old visits.new) (WasFull (G.model g.now) (B.view board.new)) result }
+    ensures ends { Ends (IsFound (G.model g.now) side s worse better (B.view board.new)) (IsCut side (inner_nodes (G.model g.now) side s) visits.old visits.new) (WasFull (G.model g.now) (B.view board.new) (LeadsTo (G.model g.now) s)) result }
     ensures same_reads { OnOk result (reads.new.items ≡ reads.old.items) }
+    ensures below { OnOk result (spent_on side visits.old + 1 ≤ spent_on side visits.new) }
 {
     let mut value = opening_bound(*g, side);
     for own in 0..g.moves(side, s) {
@@ -111,8 +114,9 @@ fn search_move<G: Game, B: Bounds<G>>(
     requires row { (B.view board.old).key_at row ≡ Some ((G.model g.now).key s) }
     requires window { IsWindow (G.model g.now) side floor better }
     ensures kept { IsKept (G.model g.now) side (move_nodes (G.model g.now) side s own) (B.view board.old) (B.view board.new) visits.old visits.new }
-    ensures ends { Ends (IsMoveFound (G.model g.now) side s own floor better (B.view board.new)) (IsCut side (move_nodes (G.model g.now) side s own) visits.old visits.new) (WasFull (G.model g.now) (B.view board.new)) result }
+    ensures ends { Ends (IsMoveFound (G.model g.now) side s own floor better (B.view board.new)) (IsCut side (move_nodes (G.model g.now) side s own) visits.old visits.new) (WasFull (G.model g.now) (B.view board.new) (LeadsTo (G.model g.now) s)) result }
     ensures same_reads { OnOk result (reads.new.items ≡ reads.old.items) }
+    ensures below { OnOk result (spent_on side visits.old + 1 ≤ spent_on side visits.new) }
 {
     let mut least = opening_bound(*g, side.other());
     let start = reads.len();
@@ -154,7 +158,8 @@ fn search_pair<G: Game, B: Bounds<G>>(
     requires reply { reply < (G.model g.now).moves (other_side side) s }
     requires window { IsWindow (G.model g.now) side floor ceiling }
     ensures kept { IsKept (G.model g.now) side (pair_nodes (G.model g.now) side s own reply) (B.view board.old) (B.view board.new) visits.old visits.new }
-    ensures ends { Ends (IsPairFound (G.model g.now) side s own reply floor ceiling (B.view board.new) reads.old.items reads.new.items) (IsCut side (pair_nodes (G.model g.now) side s own reply) visits.old visits.new) (WasFull (G.model g.now) (B.view board.new)) result }
+    ensures ends { Ends (IsPairFound (G.model g.now) side s own reply floor ceiling (B.view board.new) reads.old.items reads.new.items) (IsCut side (pair_nodes (G.model g.now) side s own reply) visits.old visits.new) (WasFull (G.model g.now) (B.view board.new) (LeadsTo (G.model g.now) s)) result }
+    ensures below { OnOk result (spent_on side visits.old + 1 ≤ spent_on side visits.new) }
 {
     let one = side.move_of_one(own, reply);
     let two = side.move_of_two(own, reply);
@@ -190,7 +195,8 @@ fn search_draws<G: Game, B: Bounds<G>>(
     requires draws { draws ≡ draws_of (G.model g.now) side s own reply }
     requires wide { IsTighter side (opening_bound (G.model g.now) (other_side side)) (opening_bound (G.model g.now) side) }
     ensures kept { IsKept (G.model g.now) side (pair_nodes (G.model g.now) side s own reply) (B.view board.old) (B.view board.new) visits.old visits.new }
-    ensures ends { (floor ceiling : ℤ) → Ends (IsPairFound (G.model g.now) side s own reply floor ceiling (B.view board.new) reads.old.items reads.new.items) (IsCut side (pair_nodes (G.model g.now) side s own reply) visits.old visits.new) (WasFull (G.model g.now) (B.view board.new)) result }
+    ensures ends { (floor ceiling : ℤ) → Ends (IsPairFound (G.model g.now) side s own reply floor ceiling (B.view board.new) reads.old.items reads.new.items) (IsCut side (pair_nodes (G.model g.now) side s own reply) visits.old visits.new) (WasFull (G.model g.now) (B.view board.new) (LeadsTo (G.model g.now) s)) result }
+    ensures below { OnOk result (spent_on side visits.old + 1 ≤ spent_on side visits.new) }
 {
     let worse = opening_bound(*g, side);
     let better = opening_bound(*g, side.other());

@@ -1,6 +1,6 @@
 //! The serial search and how it ends.
 ghost use Rattle.std.specs.Prelude.{◌≡◌, ◌≢◌, ◌+◌, ◌≤◌, ◌<ℤ◌, ◌≤ℤ◌, ℤ, Ok, Err, IfOk};
-ghost use Rattle.sim_game.specs.Model.{Reachable};
+ghost use Rattle.sim_game.specs.Model.{Reachable, LeadsTo};
 ghost use Rattle.sim_game.specs.declared.Side.TheVariants.{One, Two};
 ghost use Rattle.sim_game.specs.Sides.{IsNoTighter, opening_bound};
 ghost use Rattle.plan_book.specs.Serial.{serial_bound, tree_size};
@@ -49,10 +49,13 @@ pub fn serial<G: Game, B: Bounds<G>>(
     // The state itself costs a visit, ends too.
     ensures entered { 1 ≤ left_on side visits.old → spent_on side visits.old + 1 ≤ spent_on side visits.new }
 
+    // And so does a child, where the state is no end.
+    ensures below { 1 ≤ (G.model g).rank s → IfOk result (λ end. end ≢ SerialEnd.Cut → spent_on side visits.old + 2 ≤ spent_on side visits.new) }
+
     // Over the whole range the bound is on the board.
     ensures whole { window.0 ≡ opening_bound (G.model g) One → window.1 ≡ opening_bound (G.model g) Two → 1 ≤ (G.model g).rank s
         → IfOk result (λ end. end ≢ SerialEnd.Cut → IsNoTighter side (serial_bound (G.model g) side s) ((B.view board.new).seen side ((G.model g).key s))) }
-    ensures full { result ≡ Err BoardFault.Full → WasFull (G.model g) (B.view board.new) }
+    ensures full { result ≡ Err BoardFault.Full → WasFull (G.model g) (B.view board.new) (LeadsTo (G.model g) s) }
 {
     let worse = worse(side, window.0, window.1);
     let better = better(side, window.0, window.1);

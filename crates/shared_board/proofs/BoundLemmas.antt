@@ -1,5 +1,5 @@
 -- Reads and posts keep the rule.
-use Rattle.std.proofs.Common.{◌≡◌, ◌≢◌, ◌⊎◌, inl, inr, ⊎_elim, ℕ, suc, ◌+◌, ◌<◌, pos, ◌≤ℤ◌, neg_ℤ, List, [], ◌∷◌, length, get_or, set, sym, refl, ap, ◌∙◌, subst, arith, Some, length-set, get_or-set_other, get_or-set_same}
+use Rattle.std.proofs.Common.{◌≡◌, ◌≢◌, ◌⊎◌, inl, inr, ⊎_elim, ℕ, suc, ◌+◌, ◌<◌, pos, ◌≤ℤ◌, neg_ℤ, List, [], ◌∷◌, length, set, sym, refl, ap, ◌∙◌, subst, arith, Some, length-set, get_or-set_other, get_or-set_same}
 use Rattle.std.proofs.lemmas.Int.{ints}
 use mathlib.Core.Logic.{dite}
 use native.Mathlib.Decide.{ℕ_discrete}
@@ -14,10 +14,11 @@ use Rattle.sim_game.proofs.SideLemmas.{looser_refl}
 use Rattle.plan_book.specs.Backed.{IsBacked, by_opening}
 use Rattle.shared_board.specs.Words.{key_word, bound_word, key_at, bound_at, opening_word, IsLooser, tighter, bound_of, IsProved}
 use Rattle.shared_board.specs.Rule.{IsConsistent, IsConsistentView, IsRow, IsPosted, IsInRange, Has, seen_at, seen, with_seen}
-use Rattle.shared_board.specs.Plays.{reading, posting, loaded, met, IsBound, MayRead, MayPost}
+use Rattle.shared_board.specs.Plays.{reading, posting, loaded, met, IsBound, MayPost}
 use Rattle.shared_board.specs.declared.view.View.{View}
-use Rattle.shared_board.proofs.ChangeLemmas.{changes, keeps_words}
+use Rattle.shared_board.proofs.ChangeLemmas.{changes, fits_words, keeps_words}
 use Rattle.shared_board.proofs.ClaimLemmas.{game_is, set_apart}
+use Rattle.shared_board.proofs.ListLemmas.{set_either}
 use Rattle.shared_board.proofs.WordLemmas.{word_refl, word_trans, word_left, word_right, tighter_is, key_not_bound, bounds_apart, bound_inside, bound_not_first, bound_word-back, word_mono}
 
 module _ {S : Type 0} (m : GameModel S) (game_laws : IsGame m) where
@@ -52,18 +53,18 @@ module _ {G : Type 0} where
   shaped_as rows One Two v i x posted loads long = long Two
   shaped_as rows Two One v i x posted loads long = long One
 
-module _ {S G : Type 0} (m : GameModel S) (rows : ℕ) where
-  -- a fact on what is seen, after the bound x in row i is seen
-  pub seen_as : (side side' : Side) (v : View G) (i x j : ℕ) (posted : List (ℕ × Side × ℕ)) (loads : ℕ) (P : ℕ → Type 0) → length (seen side v) ≡ rows → i < rows
-      → (side ≡ side' → i ≡ j → P x) → ((side ≢ side') ⊎ (i ≢ j) → P (seen_at m side' v j)) → P (seen_at m side' (sees side v i x posted loads) j)
-  seen_as One One v i x j posted loads P long l here else = dite (ℕ_discrete j i)
-      (λ (e : j ≡ i). subst (λ (z : ℕ). P (get_or (set v.lower i x) z (opening_word m One))) (sym e) (subst P (sym (get_or-set_same v.lower i x (opening_word m One) (omega arith))) (here refl (sym e))))
-      (λ (n : j ≢ i). subst P (sym (get_or-set_other v.lower i j x (opening_word m One) n)) (else (inr (λ e. n (sym e)))))
-  seen_as Two Two v i x j posted loads P long l here else = dite (ℕ_discrete j i)
-      (λ (e : j ≡ i). subst (λ (z : ℕ). P (get_or (set v.upper i x) z (opening_word m Two))) (sym e) (subst P (sym (get_or-set_same v.upper i x (opening_word m Two) (omega arith))) (here refl (sym e))))
-      (λ (n : j ≢ i). subst P (sym (get_or-set_other v.upper i j x (opening_word m Two) n)) (else (inr (λ e. n (sym e)))))
-  seen_as One Two v i x j posted loads P long l here else = else (inl (λ (e : One ≡ Two). cc))
-  seen_as Two One v i x j posted loads P long l here else = else (inl (λ (e : Two ≡ One). cc))
+module _ {S G : Type 0} (m : GameModel S) where
+  -- what holds of the bound x, where it is seen, and of what was seen, after x in row i is seen
+  pub seen_as : (side side' : Side) (v : View G) (i x j : ℕ) (posted : List (ℕ × Side × ℕ)) (loads : ℕ) (P : ℕ → Type 0)
+      → (side ≡ side' → i ≡ j → P x) → P (seen_at m side' v j) → P (seen_at m side' (sees side v i x posted loads) j)
+  seen_as One One v i x j posted loads P here there = set_either v.lower i x j (opening_word m One) P (here refl) there
+  seen_as Two Two v i x j posted loads P here there = set_either v.upper i x j (opening_word m Two) P (here refl) there
+  seen_as One Two v i x j posted loads P here there = there
+  seen_as Two One v i x j posted loads P here there = there
+
+  pub seen_here : (rows : ℕ) (side : Side) (v : View G) (i x : ℕ) (posted : List (ℕ × Side × ℕ)) (loads : ℕ) → length (seen side v) ≡ rows → i < rows → seen_at m side (sees side v i x posted loads) i ≡ x
+  seen_here rows One v i x posted loads long l = get_or-set_same v.lower i x (opening_word m One) (omega arith)
+  seen_here rows Two v i x posted loads long l = get_or-set_same v.upper i x (opening_word m Two) (omega arith)
 
 which_side : (side side' : Side) (i j : ℕ) → i ≡ j → ((side ≡ side') × (i ≡ j)) ⊎ ((side ≢ side') ⊎ (i ≢ j))
 which_side One One i j e = inl (refl, e)
@@ -78,44 +79,41 @@ module _ {S G : Type 0} (m : GameModel S) (g : G) (rows : ℕ) where
   abbrev Rule : St → Type 0
   Rule = IsConsistent m g rows
 
-  -- a posted bound is an old one, or is proved and no tighter than x
+  -- a posted bound is an old one, or is proved and no tighter than x, by a view that holds a number
   abbrev Posts : View G → Side → ℕ → ℕ → ℕ × Side × ℕ → Type 0
-  Posts v side i x p = Has p v.posted ⊎ ((i ≡ p.0) × (side ≡ p.1) × IsLooser side p.2 x × ((k : ℕ) × Has (i, k) v.keys × IsProved m side k p.2) × IsInRange m p.2)
+  Posts v side i x p = Has p v.posted ⊎ ((v.numbers ≢ []) × (i ≡ p.0) × (side ≡ p.1) × IsLooser side p.2 x × ((k : ℕ) × Has (i, k) v.keys × IsProved m side k p.2) × IsInRange m p.2)
 
   -- the view has seen x in row i, and posted what may be posted
-  fits_seen : (words words' : List ℕ) (head drawn id : ℕ) (v : View G) (side : Side) (i x : ℕ) (posted : List (ℕ × Side × ℕ)) (loads : ℕ) → v.numbers ≢ [] → i < rows
-      → ((j k : ℕ) → key_at words j ≡ suc k → key_at words' j ≡ suc k) → ((side' : Side) (j : ℕ) → j < rows → IsLooser side' (bound_at words side' j) (bound_at words' side' j))
-      → IsLooser side (seen_at m side v i) x → IsLooser side x (bound_at words' side i) → ((p : ℕ × Side × ℕ) → Has p posted → Posts v side i x p)
-      → IsConsistentView m g rows words head drawn id v → IsConsistentView m g rows words' head drawn id (with_seen side (set (seen side v) i x) (record v { posted = posted; loads = loads }))
-  fits_seen words words' head drawn id v side i x posted loads holder l keys bounds more less posts f = let u : View G = record v { posted = posted; loads = loads } in
-      let long : (side' : Side) → length (seen side' v) ≡ rows = f.shaped holder in record {
-        leads = f.leads;
-        follows = f.follows;
-        idle = λ e. absurd (holder e);
-        same_game = f.same_game;
-        shaped = λ n side'. shaped_as rows side side' v i x posted loads long;
-        knows = λ j k h. let o = f.knows j k h in (o.0, keys j k o.1);
-        no_tighter = λ side' j lj. seen_as m rows side side' v i x j posted loads (λ z. IsLooser side' z (bound_at words' side' j)) (long side) l
-            (λ e is. subst (λ (y : Side × ℕ). IsLooser y.0 x (bound_at words' y.0 y.1)) (λ c. (e c, is c)) less)
-            (λ _. word_trans side' (seen_at m side' v j) (bound_at words side' j) (bound_at words' side' j) (f.no_tighter side' j lj) (bounds side' j lj));
-        backed = λ j side' y h. ⊎_elim
-            (λ (old : Has (j, side', y) v.posted). let b = f.backed j side' y old in record {
-              key = b.key;
-              known = b.known;
-              in_range = b.in_range;
-              proved = b.proved;
-              seen_too = seen_as m rows side side' v i x j posted loads (λ z. IsLooser side' y z) (long side) l
-                  (λ e is. word_trans side' y (seen_at m side' v j) x b.seen_too (subst (λ (q : Side × ℕ). IsLooser q.0 (seen_at m q.0 v q.1) x) (λ c. (e c, is c)) more)) (λ _. b.seen_too);
-            })
-            (λ (new : (i ≡ j) × (side ≡ side') × IsLooser side y x × ((k : ℕ) × Has (i, k) v.keys × IsProved m side k y) × IsInRange m y).
-            subst (λ (q : Side × ℕ). IsPosted m (with_seen side (set (seen side v) i x) u) q.1 q.0 y) (λ c. (new.1 c, new.0 c)) (record {
-              key = new.3.0;
-              known = new.3.1;
-              in_range = new.4;
-              proved = new.3.2;
-              seen_too = seen_as m rows side side v i x i posted loads (λ z. IsLooser side y z) (long side) l (λ _ _. new.2) (λ n. ⊎_elim (λ (no : side ≢ side). absurd (no refl)) (λ (no : i ≢ i). absurd (no refl)) n);
-            })) (posts (j, side', y) h);
-      }
+  fits_seen : (words : List ℕ) (head drawn id : ℕ) (v : View G) (side : Side) (i x : ℕ) (posted : List (ℕ × Side × ℕ)) (loads : ℕ) → (v.numbers ≡ [] → posted ≡ []) → i < rows
+      → IsLooser side (seen_at m side v i) x → IsLooser side x (bound_at words side i) → ((p : ℕ × Side × ℕ) → Has p posted → Posts v side i x p)
+      → IsConsistentView m g rows words head drawn id v → IsConsistentView m g rows words head drawn id (with_seen side (set (seen side v) i x) (record v { posted = posted; loads = loads }))
+  fits_seen words head drawn id v side i x posted loads quiet l more less posts f = let u : View G = record v { posted = posted; loads = loads } in record {
+    leads = f.leads;
+    follows = f.follows;
+    idle = λ e. ((f.idle e).0, quiet e, (f.idle e).2);
+    same_game = f.same_game;
+    shaped = λ holder side'. shaped_as rows side side' v i x posted loads (f.shaped holder);
+    knows = f.knows;
+    no_tighter = λ side' j lj. seen_as m side side' v i x j posted loads (λ z. IsLooser side' z (bound_at words side' j))
+        (λ e is. subst (λ (y : Side × ℕ). IsLooser y.0 x (bound_at words y.0 y.1)) (λ c. (e c, is c)) less) (f.no_tighter side' j lj);
+    backed = λ j side' y h. ⊎_elim
+        (λ (old : Has (j, side', y) v.posted). let b = f.backed j side' y old in record {
+          key = b.key;
+          known = b.known;
+          in_range = b.in_range;
+          proved = b.proved;
+          seen_too = seen_as m side side' v i x j posted loads (λ z. IsLooser side' y z)
+              (λ e is. word_trans side' y (seen_at m side' v j) x b.seen_too (subst (λ (q : Side × ℕ). IsLooser q.0 (seen_at m q.0 v q.1) x) (λ c. (e c, is c)) more)) b.seen_too;
+        })
+        (λ (new : (v.numbers ≢ []) × (i ≡ j) × (side ≡ side') × IsLooser side y x × ((k : ℕ) × Has (i, k) v.keys × IsProved m side k y) × IsInRange m y).
+        subst (λ (q : Side × ℕ). IsPosted m (with_seen side (set (seen side v) i x) u) q.1 q.0 y) (λ c. (new.2 c, new.1 c)) (record {
+          key = new.4.0;
+          known = new.4.1;
+          in_range = new.5;
+          proved = new.4.2;
+          seen_too = subst (IsLooser side y) (sym (seen_here m rows side v i x posted loads (f.shaped new.0 side) l)) new.3;
+        })) (posts (j, side', y) h);
+  }
 
   module _ (game_laws : IsGame m) (s : St) (r : Rule s) where
     pub word_in_range : (side : Side) (i : ℕ) → i < rows → IsInRange m (bound_at s.words side i)
@@ -127,22 +125,19 @@ module _ {S G : Type 0} (m : GameModel S) (g : G) (rows : ℕ) where
         (λ (n : bound_at s.words side i ≢ opening_word m side). let o = r.posted side i l n in let f = r.each_view o.0 o.1 o.2 in let b = f.backed i side (bound_at s.words side i) o.3 in let known = (f.knows i b.key b.known).1 in
         let same : b.key ≡ k = omega arith in subst (λ (z : ℕ). IsProved m side z (bound_at s.words side i)) same b.proved)
 
-    module _ (id : ℕ) (v : View G) (at : get_elem? s.views id ≡ some v) (side : Side) (i : ℕ) (holder : v.numbers ≢ []) (inside : i < rows) where
+    module _ (id : ℕ) (v : View G) (at : get_elem? s.views id ≡ some v) (side : Side) (i : ℕ) (inside : i < rows) where
       abbrev mine : IsConsistentView m g rows s.words r.head r.drawn id v
       mine = r.each_view id v at
 
       abbrev n : ℕ
       n = bound_at s.words side i
 
-      bound_ok : (h : G) → v.game ≡ Some h → g ≡ h
-      bound_ok h is = game_is g h (sym (mine.same_game holder) ∙ is)
-
       pub reads_now : Rule record { words = set s.words (bound_word side i) n; homes = s.homes; views = set s.views id (reading side v i n) }
-      reads_now = keeps_words m g rows s r id v (reading side v i n) (bound_word side i) at refl refl (λ x h. h)
-          (fits_seen s.words s.words r.head r.drawn id v side i n v.posted (v.loads + 1) holder inside (λ j k e. e) (λ side' j l. word_refl side' (bound_at s.words side' j))
+      reads_now = keeps_words m g rows s r id v (reading side v i n) (bound_word side i) at refl refl (λ x h. h) (λ p h. h)
+          (fits_seen s.words r.head r.drawn id v side i n v.posted (v.loads + 1) (λ e. (mine.idle e).1) inside
           (mine.no_tighter side i inside) (word_refl side n) (λ p h. inl h) mine)
 
-      module _ (x key : ℕ) (known : Has (i, key) v.keys) (in_range : IsInRange m x) (proved : IsProved m side key x) where
+      module _ (holder : v.numbers ≢ []) (x key : ℕ) (known : Has (i, key) v.keys) (in_range : IsInRange m x) (proved : IsProved m side key x) where
         abbrev new : ℕ
         new = tighter side n x
 
@@ -167,16 +162,7 @@ module _ {S G : Type 0} (m : GameModel S) (g : G) (rows : ℕ) where
             (λ (ne : (side ≢ side') ⊎ (i ≢ j)). subst (IsLooser side' (bound_at s.words side' j)) (sym (bound_else side' j ne)) (word_refl side' (bound_at s.words side' j))) (which side' j)
 
         others_fit : (j : ℕ) (u : View G) → IsConsistentView m g rows s.words r.head r.drawn j u → IsConsistentView m g rows after r.head r.drawn j u
-        others_fit j u f = record {
-          leads = f.leads;
-          follows = f.follows;
-          idle = f.idle;
-          same_game = f.same_game;
-          shaped = f.shaped;
-          knows = λ q k h. let o = f.knows q k h in (o.0, key_same q ∙ o.1);
-          no_tighter = λ side' q l. word_trans side' (seen_at m side' u q) (bound_at s.words side' q) (bound_at after side' q) (f.no_tighter side' q l) (bounds_grow side' q l);
-          backed = f.backed;
-        }
+        others_fit j u f = fits_words m g rows s.words after r.head r.drawn j u (λ q k e. key_same q ∙ e) bounds_grow f
 
         row_ok : (j : ℕ) → j < rows → IsRow {G = G} m g rows after j
         row_ok j l = let o = r.each_row j l in record {
@@ -189,16 +175,17 @@ module _ {S G : Type 0} (m : GameModel S) (g : G) (rows : ℕ) where
 
         pub posts_now : Rule record { words = after; homes = s.homes; views = set s.views id (posting side v i x n) }
         posts_now = changes m g rows s r id v (posting side v i x n) after at (length-set s.words (bound_word side i) new) (get_or-set_other s.words (bound_word side i) 0 new 0 (λ e. bound_not_first side i (sym e)))
-            refl refl (λ p h. inr h)
-            (fits_seen s.words after r.head r.drawn id v side i new ((i, side, x) ∷ v.posted) v.loads holder inside (λ j k e. key_same j ∙ e) bounds_grow
+            refl refl (λ p h. inr h) (λ p h. h)
+            (fits_seen after r.head r.drawn id v side i new ((i, side, x) ∷ v.posted) v.loads (λ e. absurd (holder e)) inside
             (word_trans side (seen_at m side v i) n new (mine.no_tighter side i inside) (word_left side n x)) (subst (IsLooser side new) (sym bound_here) (word_refl side new))
-            (λ p h. ⊎_elim (λ (e : p ≡ (i, side, x)). inr (subst (λ (q : ℕ × Side × ℕ). (i ≡ q.0) × (side ≡ q.1) × IsLooser side q.2 new × ((k : ℕ) × Has (i, k) v.keys × IsProved m side k q.2) × IsInRange m q.2) (sym e)
-            (refl, refl, word_right side n x, (key, known, proved), in_range))) (λ (o : Has p v.posted). inl o) h) mine)
+            (λ p h. ⊎_elim (λ (e : p ≡ (i, side, x)). inr (subst (λ (q : ℕ × Side × ℕ). (v.numbers ≢ []) × (i ≡ q.0) × (side ≡ q.1) × IsLooser side q.2 new × ((k : ℕ) × Has (i, k) v.keys × IsProved m side k q.2) × IsInRange m q.2) (sym e)
+            (holder, refl, refl, word_right side n x, (key, known, proved), in_range))) (λ (o : Has p v.posted). inl o) h) (others_fit id v mine))
             others_fit row_ok
             (λ side' j l. ⊎_elim
             (λ (same : (side ≡ side') × (i ≡ j)). subst (λ (y : Side × ℕ). (bound_at after y.0 y.1 ≡ bound_at s.words y.0 y.1) ⊎ Has (y.1, y.0, bound_at after y.0 y.1) ((i, side, x) ∷ v.posted)) (λ c. (same.0 c, same.1 c))
             (⊎_elim (λ (e : new ≡ n). inl (bound_here ∙ e)) (λ (e : new ≡ x). inr (inl (λ c. (i, side, (bound_here ∙ e) c)))) (tighter_is side n x)))
             (λ (ne : (side ≢ side') ⊎ (i ≢ j)). inl (bound_else side' j ne)) (which side' j))
+            (λ j k l e. inl (sym (key_same j) ∙ e))
 
 module _ {S G : Type 0} (model : G → GameModel S) (g : G) (rows : ℕ) (game_laws : IsGame (model g)) where
   told : (s : State (Unit {0}) (View G)) (r : IsConsistent (model g) g rows s) (id : ℕ) (v : View G) → get_elem? s.views id ≡ some v → (side : Side) (i : ℕ) → v.numbers ≢ [] → i < rows → (h : G) → v.game ≡ Some h
@@ -209,10 +196,10 @@ module _ {S G : Type 0} (model : G → GameModel S) (g : G) (rows : ℕ) (game_l
     proved = λ k known. word_proved (model g) g rows game_laws s r side i k l (f.knows i k known).1;
   })
 
-  pub reads : (slots id : ℕ) (a : Me (Unit {0}) (View G)) (side : Side) (i : ℕ) → MayRead rows a.0 i
+  pub reads : (slots id : ℕ) (a : Me (Unit {0}) (View G)) (side : Side) (i : ℕ) → a.0.numbers ≢ [] → i < rows
       → Allows (IsConsistent (model g) g rows) slots id a (bound_word side i) (λ n. n) (loaded model side (step slots (bound_word side i) 0 0 none) a)
-  reads slots id a side i may s r deep at _ = let n : ℕ = bound_at s.words side i in
-      let now = reads_now (model g) g rows game_laws s r id a.0 at side i may.holder may.inside in (
+  reads slots id a side i holder inside s r deep at _ = let n : ℕ = bound_at s.words side i in
+      let now = reads_now (model g) g rows game_laws s r id a.0 at side i inside in (
         reading side a.0 i n,
         keeps,
         tt,
@@ -221,14 +208,14 @@ module _ {S G : Type 0} (model : G → GameModel S) (g : G) (rows : ℕ) (game_l
           refl,
           set_apart (model g) g rows s (set s.words (bound_word side i) n) id a.0 (reading side a.0 i n) at now,
           λ j e. let same : i ≡ j = (bounds_apart side side i j e).1 in subst (λ (z : ℕ). (reading side a.0 i n ≡ reading side a.0 z n) × ((h : G) → a.0.game ≡ Some h → IsBound model side a.0 z n h)) same
-              (refl, told s r id a.0 at side i may.holder may.inside),
+              (refl, told s r id a.0 at side i holder inside),
         ),
       )
 
   pub posts : (slots id : ℕ) (a : Me (Unit {0}) (View G)) (side : Side) (i x : ℕ) → MayPost (model g) rows side a.0 i x
       → Allows (IsConsistent (model g) g rows) slots id a (bound_word side i) (λ n. tighter side n x) (met model side (step slots (bound_word side i) x 0 none) a)
   posts slots id a side i x may s r deep at _ = let n : ℕ = bound_at s.words side i in
-      let now = posts_now (model g) g rows game_laws s r id a.0 at side i may.holder may.inside x may.key may.known may.in_range may.proved in (
+      let now = posts_now (model g) g rows game_laws s r id a.0 at side i may.inside may.holder x may.key may.known may.in_range may.proved in (
         posting side a.0 i x n,
         keeps,
         tt,
@@ -241,9 +228,9 @@ module _ {S G : Type 0} (model : G → GameModel S) (g : G) (rows : ℕ) (game_l
         ),
       )
 
-  pub reads_as : (slots id : ℕ) (a : Me (Unit {0}) (View G)) (side : Side) (i count : ℕ) → count ≡ rows → MayRead rows a.0 i
+  pub reads_as : (slots id : ℕ) (a : Me (Unit {0}) (View G)) (side : Side) (i count : ℕ) → count ≡ rows → a.0.numbers ≢ [] → i < rows
       → Allows (IsConsistent (model g) g count) slots id a (bound_word side i) (λ n. n) (loaded model side (step slots (bound_word side i) 0 0 none) a)
-  reads_as slots id a side i count e may = subst (λ (z : ℕ). Allows (IsConsistent (model g) g z) slots id a (bound_word side i) (λ n. n) (loaded model side (step slots (bound_word side i) 0 0 none) a)) (sym e) (reads slots id a side i may)
+  reads_as slots id a side i count e holder inside = subst (λ (z : ℕ). Allows (IsConsistent (model g) g z) slots id a (bound_word side i) (λ n. n) (loaded model side (step slots (bound_word side i) 0 0 none) a)) (sym e) (reads slots id a side i holder inside)
 
   pub posts_as : (slots id : ℕ) (a : Me (Unit {0}) (View G)) (side : Side) (i x count : ℕ) → count ≡ rows → MayPost (model g) rows side a.0 i x
       → Allows (IsConsistent (model g) g count) slots id a (bound_word side i) (λ n. tighter side n x) (met model side (step slots (bound_word side i) x 0 none) a)

@@ -1,5 +1,5 @@
 -- A claim keeps the rule.
-use Rattle.std.proofs.Common.{◌≡◌, ◌≢◌, inl, inr, ⊎_elim, ℕ, zero, suc, ◌+◌, ◌%◌, ◌<◌, ◌≤◌, List, length, get_or, set, sym, refl, ap, ◌∙◌, subst, arith, Some, eqb, mod-lt, length-set, get_or-set_other, get_or-set_same}
+use Rattle.std.proofs.Common.{◌≡◌, ◌≢◌, inl, inr, ⊎_elim, ℕ, zero, suc, ◌+◌, ◌%◌, ◌<◌, ◌≤◌, List, [], set, sym, refl, ap, ◌∙◌, subst, arith, Some, eqb, mod-lt, length-set, get_or-set_other, get_or-set_same}
 use Rattle.std.proofs.lemmas.Bool.{cases_lt}
 use mathlib.Core.Logic.{dite}
 use native.Mathlib.Decide.{ℕ_discrete}
@@ -9,15 +9,15 @@ use prog.Atomic.{either}
 use Rattle.atomic_table.specs.Table.{State, Me, step, Act, keeps, stepped, Allows, Valid, carried_after}
 use Rattle.atomic_table.proofs.Lists.{exchanged, set_here}
 use Rattle.sim_game.specs.declared.Side.{Side}
-use Rattle.sim_game.specs.declared.Side.TheVariants.{One, Two}
 use Rattle.sim_game.specs.Model.{GameModel}
 use Rattle.bounds_board.specs.Views.{IsInnerKey}
-use Rattle.shared_board.specs.Words.{key_word, bound_word, row_after, key_at, bound_at, opening_word, IsLooser}
-use Rattle.shared_board.specs.Rule.{IsConsistent, IsConsistentView, IsRow, Has, seen_at, seen}
+use Rattle.shared_board.specs.Words.{key_word, bound_word, row_after, key_at, bound_at, IsLooser}
+use Rattle.shared_board.specs.Rule.{IsConsistent, IsConsistentView, IsRow, Has}
 use Rattle.shared_board.specs.Plays.{knowing, claimed, MayClaim, IsApart}
 use Rattle.shared_board.specs.declared.view.View.{View}
-use Rattle.shared_board.proofs.ChangeLemmas.{changes, keeps_words, at_long}
-use Rattle.shared_board.proofs.WordLemmas.{key_not_bound}
+use Rattle.shared_board.proofs.ChangeLemmas.{changes, fits_words, keeps_words}
+use Rattle.shared_board.proofs.ListLemmas.{at_long}
+use Rattle.shared_board.proofs.WordLemmas.{word_refl, key_not_bound}
 
 some_suc : (n : ℕ) → n ≢ 0 → (k : ℕ) × (n ≡ suc k)
 some_suc zero h = absurd (h refl)
@@ -25,11 +25,6 @@ some_suc (suc k) h = (k, refl)
 
 pub game_is : {G : Type 0} (a b : G) → Some a ≡ Some b → a ≡ b
 game_is a b e = cc
-
-module _ {G : Type 0} where
-  seen_knowing : (side : Side) (v : View G) (i k : ℕ) → seen side v ≡ seen side (knowing v i k)
-  seen_knowing One v i k = refl
-  seen_knowing Two v i k = refl
 
 module _ {S G : Type 0} (m : GameModel S) (g : G) (rows : ℕ) where
   abbrev St : Type 0
@@ -42,16 +37,16 @@ module _ {S G : Type 0} (m : GameModel S) (g : G) (rows : ℕ) where
   row_inside k t i l e = subst (λ (z : ℕ). z < rows) e (mod-lt (k % rows + t) (omega arith))
 
   -- a view that learns a key of a row
-  learns : (words : List ℕ) (head drawn id : ℕ) (v : View G) (i k : ℕ) → i < rows → key_at words i ≡ suc k → IsConsistentView m g rows words head drawn id v → IsConsistentView m g rows words head drawn id (knowing v i k)
-  learns words head drawn id v i k l e f = record {
+  learns : (words : List ℕ) (head drawn id : ℕ) (v : View G) (i k : ℕ) → v.numbers ≢ [] → i < rows → key_at words i ≡ suc k → IsConsistentView m g rows words head drawn id v → IsConsistentView m g rows words head drawn id (knowing v i k)
+  learns words head drawn id v i k holder l e f = record {
     leads = f.leads;
     follows = f.follows;
-    idle = f.idle;
+    idle = λ z. absurd (holder z);
     same_game = f.same_game;
-    shaped = λ n side. subst (λ (xs : List ℕ). length xs ≡ rows) (seen_knowing side v i k) (f.shaped n side);
+    shaped = f.shaped;
     knows = λ j n h. ⊎_elim (λ (is : (j, n) ≡ (i, k)). subst (λ (y : ℕ × ℕ). (y.0 < rows) × (key_at words y.0 ≡ suc y.1)) (sym is) (l, e)) (λ (old : Has (j, n) v.keys). f.knows j n old) h;
-    no_tighter = λ side j l. subst (λ (xs : List ℕ). IsLooser side (get_or xs j (opening_word m side)) (bound_at words side j)) (seen_knowing side v i k) (f.no_tighter side j l);
-    backed = λ j side x h. let b = f.backed j side x h in record { key = b.key; known = inr b.known; in_range = b.in_range; proved = b.proved; seen_too = subst (λ (xs : List ℕ). IsLooser side x (get_or xs j (opening_word m side))) (seen_knowing side v i k) b.seen_too };
+    no_tighter = f.no_tighter;
+    backed = λ j side x h. let b = f.backed j side x h in record { key = b.key; known = inr b.known; in_range = b.in_range; proved = b.proved; seen_too = b.seen_too };
   }
 
   module _ (s : St) (r : Rule s) (v : View G) (id i k t : ℕ) (at : get_elem? s.views id ≡ some v) (may : MayClaim m rows v i k t) where
@@ -92,16 +87,7 @@ module _ {S G : Type 0} (m : GameModel S) (g : G) (rows : ℕ) where
       taken j n e = let p = some_suc (key_at s.words j) n in let now = still j p.0 p.1 in omega arith
 
       others_fit : (j : ℕ) (u : View G) → IsConsistentView m g rows s.words r.head r.drawn j u → IsConsistentView m g rows after r.head r.drawn j u
-      others_fit j u f = record {
-        leads = f.leads;
-        follows = f.follows;
-        idle = f.idle;
-        same_game = f.same_game;
-        shaped = f.shaped;
-        knows = λ q n h. let old = f.knows q n h in (old.0, still q n old.1);
-        no_tighter = λ side q l. subst (λ (z : ℕ). IsLooser side (seen_at m side u q) z) (sym (bound_same side q)) (f.no_tighter side q l);
-        backed = f.backed;
-      }
+      others_fit j u f = fits_words m g rows s.words after r.head r.drawn j u still (λ side q _. subst (IsLooser side (bound_at s.words side q)) (sym (bound_same side q)) (word_refl side (bound_at s.words side q))) f
 
       row_ok : (j : ℕ) → j < rows → IsRow {G = G} m g rows after j
       row_ok j l = let old = r.each_row j l in dite (ℕ_discrete j i)
@@ -127,10 +113,11 @@ module _ {S G : Type 0} (m : GameModel S) (g : G) (rows : ℕ) where
 
       pub claims_free : Rule record { words = after; homes = s.homes; views = set s.views id (knowing v i k) }
       claims_free = changes m g rows s r id v (knowing v i k) after at (length-set s.words (key_word i) (suc k)) (get_or-set_other s.words (key_word i) 0 (suc k) 0 (λ e. omega arith))
-          refl refl (λ x h. h) (learns after r.head r.drawn id v i k inside key_here (others_fit id v mine)) others_fit row_ok (λ side j l. inl (bound_same side j))
+          refl refl (λ x h. h) (λ p h. inr h) (learns after r.head r.drawn id v i k may.holder inside key_here (others_fit id v mine)) others_fit row_ok (λ side j l. inl (bound_same side j))
+          (λ j n l e. dite (ℕ_discrete j i) (λ (is : j ≡ i). let now : key_at after j ≡ suc k = ap (key_at after) is ∙ key_here in let same : n ≡ k = omega arith in inr (inl (λ c. (is c, same c)))) (λ (ne : j ≢ i). inl (sym (key_else j ne) ∙ e)))
 
     pub claims_found : (k' : ℕ) → key_at s.words i ≡ suc k' → Rule record { words = set s.words (key_word i) (key_at s.words i); homes = s.homes; views = set s.views id (knowing v i k') }
-    claims_found k' e = keeps_words m g rows s r id v (knowing v i k') (key_word i) at refl refl (λ x h. h) (learns s.words r.head r.drawn id v i k' inside e mine)
+    claims_found k' e = keeps_words m g rows s r id v (knowing v i k') (key_word i) at refl refl (λ x h. h) (λ p h. inr h) (learns s.words r.head r.drawn id v i k' may.holder inside e mine)
 
 module _ {S G : Type 0} (m : GameModel S) (g : G) (rows : ℕ) where
   pub apart : (s : State (Unit {0}) (View G)) (r : IsConsistent m g rows s) (id : ℕ) (v : View G) → get_elem? s.views id ≡ some v → IsApart v.keys

@@ -1,7 +1,8 @@
 -- What a closed board has, from the rule and the facts of a whole pass.
-use Rattle.std.proofs.Common.{◌≡◌, ◌≢◌, inl, inr, ⊎_elim, ℕ, zero, suc, ◌<◌, ◌≤◌, ℤ, Bool, true, ◌&&◌, eqb, List, [], ◌∷◌, ◌++◌, length, length-append, get_or, All, sym, refl, ap, ◌∙◌, subst, arith}
+use Rattle.std.proofs.Common.{◌≡◌, ◌≢◌, inl, inr, ⊎_elim, ℕ, zero, suc, ◌<◌, ◌≤◌, ℤ, Bool, true, ◌&&◌, eqb, List, [], ◌∷◌, ◌++◌, map, length, length-append, get_or, All, sym, refl, ap, ◌∙◌, subst, arith}
 use Rattle.std.specs.List.{Contains}
 use Rattle.std.proofs.lemmas.Bool.{cases_lt}
+use Rattle.std.proofs.lemmas.List.{map-append}
 use Rattle.std.proofs.lemmas.List.Elements.{All-nil, All-cons, All-weaker, All-contains, Contains-append_right}
 use mathlib.Core.Logic.{dite}
 use native.Mathlib.Decide.{ℕ_discrete}
@@ -19,15 +20,15 @@ use Rattle.plan_book.specs.Books.{same_side, best_posted, IsBooked, IsClosed}
 use Rattle.plan_book.proofs.BookLemmas.{best_opening, best_has, eqb_self, same_side_self}
 use Rattle.bounds_board.proofs.PlainLemmas.{entry_weaker}
 use Rattle.shared_board.specs.Words.{IsLooser, key_at, bound_at, opening_word, word_of, bound_of}
-use Rattle.shared_board.specs.Rule.{IsConsistent, IsConsistentView, Has, seen_at}
-use Rattle.shared_board.specs.Passes.{seen_by, IsKnown, IsEntered, IsTold}
-use Rattle.shared_board.specs.Closing.{kept_row, kept_if, kept_rows, kept_bound, IsDistinct, HasKey, IsKeptRow, IsKept}
+use Rattle.shared_board.specs.Rule.{IsConsistent, IsConsistentView, Has, Somewhere, seen_at}
+use Rattle.shared_board.specs.Passes.{key_of, seen_by, IsKnown, IsEntered, IsTold}
+use Rattle.shared_board.specs.Closing.{kept_row, kept_if, kept_rows, key_if, known_keys, kept_bound, IsDistinct, HasKey, IsKeptRow, IsKept}
 use Rattle.shared_board.specs.declared.view.View.{View}
 use Rattle.shared_board.specs.declared.close.Kept.{Kept}
 use Rattle.shared_board.proofs.ListLemmas.{same_at, has_left, has_right, has_split}
 use Rattle.shared_board.proofs.WordLemmas.{word_trans}
 use Rattle.shared_board.proofs.BoundLemmas.{word_in_range, opening_back}
-use Rattle.shared_board.proofs.SeenLemmas.{looser_bound, cond_first, cond_better, seen_most, known_then}
+use Rattle.shared_board.proofs.SeenLemmas.{looser_bound, key_of_has, key_of_none, cond_first, cond_better, seen_most, known_then}
 use Rattle.shared_board.proofs.PassStepLemmas.{entry_back, word_low}
 use Rattle.shared_board.proofs.WholeLemmas.{alone, no_more}
 
@@ -140,12 +141,27 @@ module _ {S G : Type 0} (m : GameModel S) (game_laws : IsGame m) (g : G) (rows :
   pub just_whole : length v.numbers ≡ v.drawn
   just_whole = let a = no_more s.views r.drawn r.held id v at in let b = (f.leads lead).1 in omega arith
 
-  -- a bound that is not the opening one was posted by this view
-  own : (side : Side) (i : ℕ) → i < rows → bound_at s.words side i ≢ opening_word m side → Has (i, side, bound_at s.words side i) v.posted
-  own side i l n = let o = r.posted side i l n in dite (ℕ_discrete o.0 id)
-      (λ (e : o.0 ≡ id). subst (λ (u : View G). Has (i, side, bound_at s.words side i) u.posted) (same_at s.views id o.1 v (subst (λ (z : ℕ). get_elem? s.views z ≡ some o.1) e o.2) at) o.3)
+  -- what some view has, and none that holds no number, this view has
+  own : (P : View G → Type 0) → ((u : View G) → u.posted ≡ [] → u.keys ≡ [] → P u → ⊥) → Somewhere s.views P → P v
+  own P idle o = dite (ℕ_discrete o.0 id) (λ (e : o.0 ≡ id). subst P (same_at s.views id o.1 v (subst (λ (z : ℕ). get_elem? s.views z ≡ some o.1) e o.2) at) o.3)
       (λ (ne : o.0 ≢ id). let none = alone s.views r.drawn r.held id v at (let b = (f.leads lead).1 in omega arith) o.0 o.1 ne o.2 in
-      let empty = ((r.each_view o.0 o.1 o.2).idle none).1 in absurd (subst (Has (i, side, bound_at s.words side i)) empty o.3))
+      let empty = (r.each_view o.0 o.1 o.2).idle none in absurd (idle o.1 empty.1 empty.2 o.3))
+
+  -- a bound that is not the opening one was posted by this view
+  own_bound : (side : Side) (i : ℕ) → i < rows → bound_at s.words side i ≢ opening_word m side → Has (i, side, bound_at s.words side i) v.posted
+  own_bound side i l n = let x : ℕ × Side × ℕ = (i, side, bound_at s.words side i) in own (λ u. Has x u.posted) (λ u none _ h. subst (Has x) none h) (r.posted side i l n)
+
+  -- and it knows the key of a row
+  own_key : (i k : ℕ) → i < rows → key_at s.words i ≡ suc k → Has (i, k) v.keys
+  own_key i k l e = own (λ u. Has (i, k) u.keys) (λ u _ none h. subst (Has (i, k)) none h) (r.claimed i k l e)
+
+  key_known : (i n : ℕ) → i < rows → key_at s.words i ≡ n → map (λ (x : Kept). x.key) (kept_if s.words i n) ≡ key_if (key_of v.keys i)
+  key_known i zero l e = ap key_if (sym (key_of_none v.keys i (λ k h. let known = (f.knows i k h).1 in absurd (omega arith))))
+  key_known i (suc k) l e = ap key_if (sym (key_of_has v.keys i k (λ q h. let known = (f.knows i q h).1 in omega arith) (own_key i k l e)))
+
+  keys_known : (n : ℕ) → n ≤ rows → map (λ (x : Kept). x.key) (kept_rows s.words n) ≡ known_keys v.keys n
+  keys_known zero l = refl
+  keys_known (suc n) l = map-append (λ (x : Kept). x.key) (kept_rows s.words n) (kept_if s.words n (key_at s.words n)) ∙ (λ c. keys_known n (omega arith) c ++ key_known n (key_at s.words n) (omega arith) refl c)
 
   entry_of : (e : Entry) → Has e entries → IsEntry m total (IsKnown m v) e
   entry_of e h = All-contains (IsEntry m total (IsKnown m v)) entries e told.lawful (has_contains e entries h)
@@ -154,7 +170,7 @@ module _ {S G : Type 0} (m : GameModel S) (game_laws : IsGame m) (g : G) (rows :
   booked_low : (side : Side) (i k : ℕ) → i < rows → key_at s.words i ≡ suc k → IsNoTighter side (bound_of (bound_at s.words side i)) (best_posted m entries side k)
   booked_low side i k l is = dite (ℕ_discrete (bound_at s.words side i) (opening_word m side))
       (λ (e : bound_at s.words side i ≡ opening_word m side). looser_left side (opening_bound m side) (bound_of (bound_at s.words side i)) (best_posted m entries side k) (sym (ap bound_of e ∙ opening_back m game_laws side)) (best_opening m entries side k))
-      (λ (n : bound_at s.words side i ≢ opening_word m side). let b = told.booked i side (bound_at s.words side i) (own side i l n) in
+      (λ (n : bound_at s.words side i ≢ opening_word m side). let b = told.booked i side (bound_at s.words side i) (own_bound side i l n) in
       let there = (f.knows i b.entry.key b.known).1 in let key : b.entry.key ≡ k = omega arith in
       let bound : b.entry.bound ≡ bound_of (bound_at s.words side i) = sym (entry_back m game_laws b.entry total (IsKnown m v) (entry_of b.entry b.booked)) ∙ ap bound_of b.same_bound in
       subst (λ (y : Side × ℕ × ℤ). IsNoTighter y.0 y.2 (best_posted m entries y.0 y.1)) (λ c. (b.same_side c, key c, bound c)) (best_entry_of m entries b.entry b.booked))
@@ -192,6 +208,7 @@ module _ {S G : Type 0} (m : GameModel S) (game_laws : IsGame m) (g : G) (rows :
 
   pub closes : IsKept m rows v entries (kept_rows s.words rows)
   closes = record {
+    keys = keys_known rows (omega arith);
     few = kept_few s.words rows;
     full = λ all. kept_full s.words rows (λ i l z. let o = all i l in let k = (f.knows i o.0 o.1).1 in omega arith);
     distinct = kept_distinct s.words rows rows (omega arith) (λ i j k li lj a b. (r.each_row i li).single k j a lj b);

@@ -1,5 +1,5 @@
 -- A desk as a search sees it: what stays, what grows, and what its calls tell.
-use Rattle.std.proofs.Common.{◌≡◌, ◌≢◌, ⊎_elim, ℕ, ◌+◌, ◌<◌, ◌≤◌, ℤ, Bool, true, false, cond, eqb, Option, None, Some, IsSome, List, ◌∷◌, ◌++◌, length, sym, refl, ap, ◌∙◌, subst, arith, min, max, Result, Ok, Err, IfOk, OnOk, OnErr, get_or-set_same}
+use Rattle.std.proofs.Common.{◌≡◌, ◌≢◌, ⊎_elim, ℕ, ◌+◌, ◌<◌, ◌≤◌, ℤ, Bool, true, false, cond, eqb, Option, None, Some, IsSome, List, ◌∷◌, ◌++◌, length, sym, refl, ap, ◌∙◌, subst, arith, Result, Ok, Err, IfOk, OnOk, OnErr, get_or-set_same}
 use Rattle.std.proofs.lemmas.Int.{ints}
 use Rattle.sim_game.specs.declared.Side.{Side}
 use Rattle.sim_game.specs.declared.Side.TheVariants.{One, Two}
@@ -17,11 +17,10 @@ use Rattle.shared_board.specs.Passes.{key_of, seen_by, IsKnown, IsUnseen, IsAnsw
 use Rattle.shared_board.specs.Values.{DeskValue, viewing, entering, desk_view}
 use Rattle.shared_board.specs.declared.view.View.{View}
 use Rattle.shared_board.proofs.ListLemmas.{has_right}
-use Rattle.shared_board.proofs.WordLemmas.{word_trans, word_left, word_right}
-use Rattle.shared_board.proofs.BoundLemmas.{opening_back}
+use Rattle.shared_board.proofs.WordLemmas.{word_refl, word_trans, word_left, word_right}
+use Rattle.shared_board.proofs.BoundLemmas.{opening_back, seen_here}
 use Rattle.shared_board.proofs.SeenLemmas.{looser_bound, key_of_has, has_key_of, seen_opening, seen_has, seen_most, seen_grows, seen_one}
-use Rattle.shared_board.proofs.PassLemmas.{same_seen}
-use Rattle.shared_board.proofs.PassStepLemmas.{seen_more, sees_more, entry_back}
+use Rattle.shared_board.proofs.PassStepLemmas.{sees_more, entry_back}
 
 -- ---- answers
 pub if_ok : {A E : Type 0} (r : Result A E) (P Q : A → Type 0) → ((x : A) → P x → Q x) → IfOk r P → IfOk r Q
@@ -113,7 +112,7 @@ module _ {S G : Type 0} (model : G → GameModel S) where
     now_apart = subst (λ (z : DeskValue G). IsApart z.pass.view.keys) is apart
 
     sees_same : (side : Side) (i : ℕ) → IsLooser side (seen_at (model d.board.game) side d.pass.view i) (seen_at (model d.board.game) side (more_keys ks d.pass.view) i)
-    sees_same side i = same_seen (model d.board.game) d.pass.view (more_keys ks d.pass.view) side i (seen_more side d.pass.view ks)
+    sees_same side i = word_refl side (seen_at (model d.board.game) side d.pass.view i)
 
     pub claim_later : IsLater (desk_view model d) (desk_view model d')
     claim_later = subst (λ (z : DeskValue G). IsLater (desk_view model d) (desk_view model z)) (sym is)
@@ -128,16 +127,12 @@ module _ {S G : Type 0} (model : G → GameModel S) where
       abbrev m : GameModel S
       m = model d.board.game
 
-      seen_now : (side : Side) (i : ℕ) → seen_at m side (more_keys ks d.pass.view) i ≡ seen_at m side d.pass.view i
-      seen_now One i = refl
-      seen_now Two i = refl
-
       no_more : (side : Side) (key i : ℕ) → Has (i, key) (ks ++ d.pass.view.keys) → IsNoTighter side (bound_of (seen_at m side (more_keys ks d.pass.view) i)) (seen_by m d.pass.view side key)
-      no_more side key i h = subst (λ (z : ℕ). IsNoTighter side (bound_of z) (seen_by m d.pass.view side key)) (sym (seen_now side i)) (⊎_elim
+      no_more side key i h = ⊎_elim
           (λ (e : seen_at m side d.pass.view i ≡ opening_word m side). looser_left side (opening_bound m side) (bound_of (seen_at m side d.pass.view i)) (seen_by m d.pass.view side key)
           (sym (ap bound_of e ∙ opening_back m game side)) (seen_opening m side d.pass.view d.pass.view.keys key))
           (λ (o : (k : ℕ) × Has (i, k) d.pass.view.keys). let same : o.0 ≡ key = now_apart.one_key i o.0 key (has_right (i, o.0) ks d.pass.view.keys o.1) h in
-          seen_has m side d.pass.view d.pass.view.keys i key (subst (λ (z : ℕ). Has (i, z) d.pass.view.keys) same o.1)) (unseen side i))
+          seen_has m side d.pass.view d.pass.view.keys i key (subst (λ (z : ℕ). Has (i, z) d.pass.view.keys) same o.1)) (unseen side i)
 
       pub claim_unseen : (side : Side) (key : ℕ) → seen_by (model d'.board.game) d'.pass.view side key ≡ seen_by m d.pass.view side key
       claim_unseen side key = subst (λ (z : DeskValue G). seen_by (model z.board.game) z.pass.view side key ≡ seen_by m d.pass.view side key) (sym is)
@@ -167,11 +162,11 @@ module _ {S G : Type 0} (model : G → GameModel S) where
     second = reading Two first i b
 
     read_sees : (side : Side) (j : ℕ) → IsLooser side (seen_at (model d.board.game) side d.pass.view j) (seen_at (model d.board.game) side second j)
-    read_sees side j = let m = model d.board.game in let v = d.pass.view in let rows = d.board.rows in
+    read_sees side j = let m = model d.board.game in let v = d.pass.view in
         let lows : IsLooser One (seen_at m One v i) a = looser_back One (seen_at m One v i) a (subst (IsNoTighter One (bound_of (seen_at m One v i))) is_lower low.no_looser) in
         let ups : IsLooser Two (seen_at m Two v i) b = looser_back Two (seen_at m Two v i) b (subst (IsNoTighter Two (bound_of (seen_at m Two v i))) is_upper up.no_looser) in
         word_trans side (seen_at m side v j) (seen_at m side first j) (seen_at m side second j)
-        (sees_more m rows One side v i a j v.posted (v.loads + 1) (shaped One).1 (shaped One).0 lows) (sees_more m rows Two side first i b j first.posted (first.loads + 1) (shaped Two).1 (shaped Two).0 ups)
+        (sees_more m One side v i a j v.posted (v.loads + 1) lows) (sees_more m Two side first i b j first.posted (first.loads + 1) ups)
 
     pub read_later : IsLater (desk_view model d) (desk_view model d')
     read_later = subst (λ (z : DeskValue G). IsLater (desk_view model d) (desk_view model z)) (sym is) (later_as d second refl refl refl (λ row key e. e) (λ p h. h) read_sees)
@@ -187,31 +182,23 @@ module _ {S G : Type 0} (model : G → GameModel S) where
         })
 
   -- ---- posts
-  seen_posted : (m : GameModel S) (rows : ℕ) (side : Side) (v : View G) (i x n : ℕ) → length (seen side v) ≡ rows → i < rows → seen_at m side (posting side v i x n) i ≡ tighter side n x
-  seen_posted m rows One v i x n long l = get_or-set_same v.lower i (max n x) (opening_word m One) (omega arith)
-  seen_posted m rows Two v i x n long l = get_or-set_same v.upper i (min n x) (opening_word m Two) (omega arith)
-
-  keys_posted : (side : Side) (v : View G) (i x n : ℕ) → v.keys ≡ (posting side v i x n).keys
-  keys_posted One v i x n = refl
-  keys_posted Two v i x n = refl
-
   module _ (d d' : DeskValue G) (i : ℕ) (e : Entry) (did : (n : ℕ) × (d' ≡ entering d (posting e.side d.pass.view i (word_of e.bound) n) e) × IsLooser e.side (seen_at (model d.board.game) e.side d.pass.view i) n × (i < d.board.rows) × (length (seen e.side d.pass.view) ≡ d.board.rows)) where
     abbrev after : View G
     after = posting e.side d.pass.view i (word_of e.bound) did.0
 
     pub post_later : IsLater (desk_view model d) (desk_view model d')
     post_later = let m = model d.board.game in let v = d.pass.view in let x : ℕ = word_of e.bound in let n = did.0 in
-        let later = later_as d after refl refl refl (λ row key h. h) (λ p h. h) (λ side j. sees_more m d.board.rows e.side side v i (tighter e.side n x) j ((i, e.side, x) ∷ v.posted) v.loads did.4 did.3
+        let later = later_as d after refl refl refl (λ row key h. h) (λ p h. h) (λ side j. sees_more m e.side side v i (tighter e.side n x) j ((i, e.side, x) ∷ v.posted) v.loads
         (word_trans e.side (seen_at m e.side v i) n (tighter e.side n x) did.2 (word_left e.side n x))) in
         subst (λ (z : DeskValue G). IsLater (desk_view model d) (desk_view model z)) (sym did.1) (record { name = later.name; game = later.game; total = later.total; rows = later.rows; keys = later.keys; seen = later.seen })
 
     pub post_seen : IsGame (model d.board.game) → (total : ℕ) (Known : Side → S → ℤ → Type 0) → IsEntry (model d.board.game) total Known e → key_of d.pass.view.keys i ≡ Some e.key
         → IsNoTighter e.side e.bound ((desk_view model d').seen e.side e.key)
     post_seen game total Known lawful key = let m = model d.board.game in let v = d.pass.view in let x : ℕ = word_of e.bound in let n = did.0 in
-        let here : bound_of (tighter e.side n x) ≡ bound_of (seen_at m e.side after i) = ap bound_of (sym (seen_posted m d.board.rows e.side v i x n did.4 did.3)) in
+        let here : bound_of (tighter e.side n x) ≡ bound_of (seen_at m e.side after i) = ap bound_of (sym (seen_here m d.board.rows e.side v i (tighter e.side n x) ((i, e.side, x) ∷ v.posted) v.loads did.4 did.3)) in
         let low : IsNoTighter e.side e.bound (bound_of (seen_at m e.side after i)) =
         looser_right e.side e.bound (bound_of (tighter e.side n x)) (bound_of (seen_at m e.side after i)) here
         (looser_left e.side (bound_of x) e.bound (bound_of (tighter e.side n x)) (entry_back m game e total Known lawful) (looser_bound e.side x (tighter e.side n x) (word_right e.side n x))) in
-        let known : Has (i, e.key) after.keys = subst (Has (i, e.key)) (keys_posted e.side v i x n) (has_key_of v.keys i e.key key) in
+        let known : Has (i, e.key) after.keys = has_key_of v.keys i e.key key in
         subst (λ (z : DeskValue G). IsNoTighter e.side e.bound ((desk_view model z).seen e.side e.key)) (sym did.1)
         (looser_trans e.side e.bound (bound_of (seen_at m e.side after i)) (seen_by m after e.side e.key) low (seen_has m e.side after after.keys i e.key known))

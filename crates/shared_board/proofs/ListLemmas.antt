@@ -1,9 +1,11 @@
 -- Lists of views, counts over them, and lists in which something stands.
-use Rattle.std.proofs.Common.{◌≡◌, ◌≢◌, ◌⊎◌, inl, inr, ⊎_elim, ℕ, zero, suc, ◌+◌, ◌≤◌, List, [], ◌∷◌, ◌++◌, set, sym, refl, ap, ◌∙◌, subst, arith}
+use Rattle.std.proofs.Common.{◌≡◌, ◌≢◌, ◌⊎◌, inl, inr, ⊎_elim, ℕ, zero, suc, ◌+◌, ◌<◌, ◌≤◌, List, [], ◌∷◌, ◌++◌, length, get_or, set, sym, refl, ap, ◌∙◌, subst, arith}
+use mathlib.Core.Logic.{dite}
+use native.Mathlib.Decide.{ℕ_discrete}
 use mathlib.Core.Option.{some, some-injective, some-ne-none}
 use lib.ListN.{get_elem?}
-use Rattle.atomic_table.proofs.Lists.{at_set}
-use Rattle.shared_board.specs.Rule.{Has, times, total}
+use Rattle.atomic_table.proofs.Lists.{at_set, at_longer, set_here, set_else}
+use Rattle.shared_board.specs.Rule.{Has, Somewhere, times, total}
 
 module _ {A : Type 0} where
   pub all_set : (F : ℕ → A → Type 0) (views : List A) (i : ℕ) (w : A) → F i w → ((j : ℕ) (u : A) → j ≢ i → get_elem? views j ≡ some u → F j u)
@@ -17,6 +19,30 @@ module _ {A : Type 0} where
 
   pub same_at : (views : List A) (i : ℕ) (v w : A) → get_elem? views i ≡ some v → get_elem? views i ≡ some w → v ≡ w
   same_at views i v w e f = some-injective v w (sym e ∙ f)
+
+  pub at_long : (views : List A) (i : ℕ) (v : A) → get_elem? views i ≡ some v → i < length views
+  at_long [] i v e = absurd (some-ne-none v (sym e))
+  at_long (x ∷ xs) zero v e = omega arith
+  at_long (x ∷ xs) (suc i) v e = omega (arith, at_long xs i v e)
+
+  pub somewhere_longer : (P : A → Type 0) (xs ys : List A) → Somewhere xs P → Somewhere (xs ++ ys) P
+  somewhere_longer P xs ys o = (o.0, o.1, at_longer xs ys o.0 o.1 o.2, o.3)
+
+  -- where an element becomes another that has it too
+  pub somewhere_set : (P : A → Type 0) (views : List A) (i : ℕ) (v w : A) → get_elem? views i ≡ some v → (P v → P w) → Somewhere views P → Somewhere (set views i w) P
+  somewhere_set P views i v w at grows o = dite (ℕ_discrete o.0 i)
+      (λ (e : o.0 ≡ i). (i, w, set_here views i w (at_long views i v at), grows (subst P (same_at views i o.1 v (subst (λ (z : ℕ). get_elem? views z ≡ some o.1) e o.2) at) o.3)))
+      (λ (n : o.0 ≢ i). (o.0, o.1, set_else views i o.0 w n ∙ o.2, o.3))
+
+  -- where two become one that has it too, and something else
+  pub somewhere_join : (P : A → Type 0) (views : List A) (i j : ℕ) (v w both spent : A) → get_elem? views i ≡ some v → get_elem? views j ≡ some w → j ≢ i → (P v → P both) → (P w → P both)
+      → Somewhere views P → Somewhere (set (set views i both) j spent) P
+  somewhere_join P views i j v w both spent at at' two left right o =
+      let here : get_elem? (set (set views i both) j spent) i ≡ some both = set_else (set views i both) j i spent (λ e. two (sym e)) ∙ set_here views i both (at_long views i v at) in
+      let moved : (n : ℕ) (u : A) → get_elem? views n ≡ some u → o.0 ≡ n → P u = λ n u e is. subst P (same_at views n o.1 u (subst (λ (z : ℕ). get_elem? views z ≡ some o.1) is o.2) e) o.3 in
+      dite (ℕ_discrete o.0 i) (λ (e : o.0 ≡ i). (i, both, here, left (moved i v at e)))
+      (λ (n : o.0 ≢ i). dite (ℕ_discrete o.0 j) (λ (e : o.0 ≡ j). (i, both, here, right (moved j w at' e)))
+      (λ (n' : o.0 ≢ j). (o.0, o.1, set_else (set views i both) j o.0 spent n' ∙ (set_else views i o.0 both n ∙ o.2), o.3)))
 
   pub total_set : (f : A → ℕ) (views : List A) (i : ℕ) (v w : A) → get_elem? views i ≡ some v → total f (set views i w) + f v ≡ total f views + f w
   total_set f [] i v w e = absurd (some-ne-none v (sym e))
@@ -55,3 +81,11 @@ module _ {A : Type 0} where
 pub times_append : (n : ℕ) (xs ys : List ℕ) → times n (xs ++ ys) ≡ times n xs + times n ys
 times_append n [] ys = omega arith
 times_append n (x ∷ xs) ys = omega (arith, times_append n xs ys)
+
+-- what holds of the new element and of what stood there
+pub set_either : (xs : List ℕ) (i x j d : ℕ) (P : ℕ → Type 0) → (i ≡ j → P x) → P (get_or xs j d) → P (get_or (set xs i x) j d)
+set_either [] i x j d P here there = there
+set_either (y ∷ ys) zero x zero d P here there = here refl
+set_either (y ∷ ys) zero x (suc j) d P here there = there
+set_either (y ∷ ys) (suc i) x zero d P here there = there
+set_either (y ∷ ys) (suc i) x (suc j) d P here there = set_either ys i x j d P (λ e. here (ap suc e)) there

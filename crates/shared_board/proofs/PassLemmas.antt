@@ -1,5 +1,5 @@
 -- The facts of a pass, after its view or its book changed.
-use Rattle.std.proofs.Common.{◌≡◌, ◌≢◌, ◌⊎◌, inl, inr, ⊎_elim, ℕ, zero, suc, ◌+◌, ◌*◌, ◌<◌, min, max, List, [], ◌∷◌, ◌++◌, length, length-append, get_or, replicate, Bool, true, false, true≢false, ◌||◌, All, sym, refl, ap, ◌∙◌, subst, arith, Some}
+use Rattle.std.proofs.Common.{◌≡◌, ◌≢◌, inl, inr, ⊎_elim, ℕ, zero, suc, ◌+◌, ◌*◌, ◌<◌, min, max, List, [], ◌∷◌, ◌++◌, length, length-append, get_or, replicate, Bool, true, false, true≢false, ◌||◌, All, sym, refl, ap, ◌∙◌, subst, arith, Some}
 use Rattle.std.proofs.lemmas.List.Elements.{All-nil, All-append, All-weaker}
 use Rattle.std.proofs.lemmas.List.{length-replicate}
 use Rattle.atomic_table.specs.Table.{Me}
@@ -8,31 +8,18 @@ use Rattle.sim_game.specs.declared.Side.TheVariants.{One, Two}
 use Rattle.sim_game.specs.Model.{GameModel}
 use Rattle.plan_book.specs.declared.Entry.{Entry}
 use Rattle.plan_book.specs.Entries.{IsEntry}
-use Rattle.shared_board.specs.Words.{IsLooser, word_of, opening_word}
+use Rattle.shared_board.specs.Words.{IsLooser, tighter, word_of, opening_word}
 use Rattle.shared_board.specs.Rule.{Has, seen_at, seen, first_view}
-use Rattle.shared_board.specs.Plays.{AllNamed, drawing, drawn_view, joined, tightest}
+use Rattle.shared_board.specs.Plays.{AllNamed, drawing, drawn_view, joined}
 use Rattle.shared_board.specs.Passes.{IsKnown, IsEntered, IsBooked, IsUnseen, IsTold, KnowsNoLess, IsPass}
 use Rattle.shared_board.specs.declared.view.View.{View}
-use Rattle.shared_board.proofs.WordLemmas.{word_refl, tighter_is}
+use Rattle.shared_board.proofs.WordLemmas.{word_refl, tighter_same}
 use Rattle.shared_board.proofs.ListLemmas.{has_left, has_right, has_split}
-use Rattle.shared_board.proofs.SeatLemmas.{tightest_left, tightest_right, tightest_long, seen_joined, seen_drawing, seen_drawn}
+use Rattle.shared_board.proofs.SeatLemmas.{long_joined, seen_joined, sees_left, sees_right}
 use Rattle.shared_board.proofs.SeenLemmas.{each_grows, seen_grows}
 use Rattle.shared_board.proofs.ClaimLemmas.{game_is}
 
--- of lists of one length, the tightest is one of both
-tightest_either : (side : Side) (xs ys : List ℕ) (i d : ℕ) → length xs ≡ length ys → (get_or (tightest side xs ys) i d ≡ get_or xs i d) ⊎ (get_or (tightest side xs ys) i d ≡ get_or ys i d)
-tightest_either side [] [] i d e = inl refl
-tightest_either side [] (y ∷ ys) i d e = absurd (omega arith)
-tightest_either side (x ∷ xs) [] i d e = absurd (omega arith)
-tightest_either side (x ∷ xs) (y ∷ ys) zero d e = tighter_is side x y
-tightest_either side (x ∷ xs) (y ∷ ys) (suc i) d e = tightest_either side xs ys i d (omega arith)
-
 module _ {S G : Type 0} (m : GameModel S) where
-  pub unseen_as : (v w : View G) (side : Side) (i : ℕ) → seen side v ≡ seen side w → ((p : ℕ × ℕ) → Has p v.keys → Has p w.keys) → IsUnseen m v side i → IsUnseen m w side i
-  unseen_as v w side i same keys h = ⊎_elim
-      (λ (a : seen_at m side v i ≡ opening_word m side). inl (ap (λ (xs : List ℕ). get_or xs i (opening_word m side)) (sym same) ∙ a))
-      (λ (b : (k : ℕ) × Has (i, k) v.keys). inr (b.0, keys (i, b.0) b.1)) h
-
   entered_as : (v w : View G) (e : Entry) → ((p : ℕ × ℕ) → Has p v.keys → Has p w.keys) → ((x : ℕ × Side × ℕ) → Has x v.posted → Has x w.posted) → IsEntered v e → IsEntered w e
   entered_as v w e keys posted b = record { row = b.row; known = keys (b.row, e.key) b.known; posted = posted (b.row, e.side, word_of e.bound) b.posted }
 
@@ -53,12 +40,8 @@ module _ {S G : Type 0} (m : GameModel S) where
     unseen = unseen;
   }
 
-  pub same_seen : (v w : View G) (side : Side) (i : ℕ) → seen side v ≡ seen side w → IsLooser side (seen_at m side v i) (seen_at m side w i)
-  same_seen v w side i e = subst (λ (xs : List ℕ). IsLooser side (seen_at m side v i) (get_or xs i (opening_word m side))) e (word_refl side (seen_at m side v i))
-
   told_drawing : (v : View G) (total : ℕ) (entries : List Entry) → IsTold m v total entries → IsTold m (drawing v) total entries
-  told_drawing v total entries t = told_as v (drawing v) total entries (λ p h. h) t.named refl (λ side i. same_seen v (drawing v) side i (seen_drawing side v))
-      (λ side i. unseen_as v (drawing v) side i (seen_drawing side v) (λ p h. h) (t.unseen side i)) t
+  told_drawing v total entries t = told_as v (drawing v) total entries (λ p h. h) t.named refl (λ side i. word_refl side (seen_at m side v i)) t.unseen t
 
   told_drawn : (v : View G) (total total' : ℕ) (entries : List Entry) → IsTold m v total entries → IsTold m (drawn_view v) total' []
   told_drawn v total total' entries t = record {
@@ -66,14 +49,8 @@ module _ {S G : Type 0} (m : GameModel S) where
     lawful = All-nil (IsEntry m total' (IsKnown m (drawn_view v)));
     entered = All-nil (IsEntered (drawn_view v));
     booked = λ i side x h. absurd h;
-    unseen = λ side i. unseen_as v (drawn_view v) side i (seen_drawn side v) (λ p h. h) (t.unseen side i);
+    unseen = t.unseen;
   }
-
-  pub knows_drawing : (v : View G) → KnowsNoLess m v (drawing v)
-  knows_drawing v = record { keys = λ i k h. h; seen = λ side key. seen_grows m v (drawing v) side key (λ p h. h) (λ i. same_seen v (drawing v) side i (seen_drawing side v)) }
-
-  pub knows_drawn : (v : View G) → KnowsNoLess m v (drawn_view v)
-  knows_drawn v = record { keys = λ i k h. h; seen = λ side key. seen_grows m v (drawn_view v) side key (λ p h. h) (λ i. same_seen v (drawn_view v) side i (seen_drawn side v)) }
 
   -- what two passes of one game tell together
   module _ (v w : View G) (long : (side : Side) → length (seen side v) ≡ length (seen side w)) where
@@ -83,33 +60,23 @@ module _ {S G : Type 0} (m : GameModel S) where
     rights : (p : ℕ × ℕ) → Has p w.keys → Has p (joined v w).keys
     rights p h = has_right p v.keys w.keys h
 
-    sees_left : (side : Side) (i : ℕ) → IsLooser side (seen_at m side v i) (seen_at m side (joined v w) i)
-    sees_left side i = subst (λ (xs : List ℕ). IsLooser side (seen_at m side v i) (get_or xs i (opening_word m side))) (seen_joined side v w) (tightest_left side (seen side v) (seen side w) i (opening_word m side) (long side))
-
-    sees_right : (side : Side) (i : ℕ) → IsLooser side (seen_at m side w i) (seen_at m side (joined v w) i)
-    sees_right side i = subst (λ (xs : List ℕ). IsLooser side (seen_at m side w i) (get_or xs i (opening_word m side))) (seen_joined side v w) (tightest_right side (seen side v) (seen side w) i (opening_word m side) (long side))
-
     unseen_joined : (side : Side) (i : ℕ) → IsUnseen m v side i → IsUnseen m w side i → IsUnseen m (joined v w) side i
-    unseen_joined side i a b = let here : get_or (tightest side (seen side v) (seen side w)) i (opening_word m side) ≡ seen_at m side (joined v w) i = ap (λ (xs : List ℕ). get_or xs i (opening_word m side)) (seen_joined side v w) in
-        ⊎_elim
+    unseen_joined side i a b = ⊎_elim
         (λ (x : seen_at m side v i ≡ opening_word m side). ⊎_elim
-        (λ (y : seen_at m side w i ≡ opening_word m side). inl (sym here ∙ ⊎_elim
-        (λ (q : get_or (tightest side (seen side v) (seen side w)) i (opening_word m side) ≡ seen_at m side v i). q ∙ x)
-        (λ (q : get_or (tightest side (seen side v) (seen side w)) i (opening_word m side) ≡ seen_at m side w i). q ∙ y)
-        (tightest_either side (seen side v) (seen side w) i (opening_word m side) (long side))))
+        (λ (y : seen_at m side w i ≡ opening_word m side). inl (seen_joined m v w long side i ∙ ((λ c. tighter side (x c) (y c)) ∙ tighter_same side (opening_word m side))))
         (λ (y : (k : ℕ) × Has (i, k) w.keys). inr (y.0, rights (i, y.0) y.1)) b)
         (λ (x : (k : ℕ) × Has (i, k) v.keys). inr (x.0, lefts (i, x.0) x.1)) a
 
     pub knows_left : KnowsNoLess m v (joined v w)
-    knows_left = record { keys = λ i k h. lefts (i, k) h; seen = λ side key. seen_grows m v (joined v w) side key lefts (sees_left side) }
+    knows_left = record { keys = λ i k h. lefts (i, k) h; seen = λ side key. seen_grows m v (joined v w) side key lefts (sees_left m v w long side) }
 
     pub knows_right : KnowsNoLess m w (joined v w)
-    knows_right = record { keys = λ i k h. rights (i, k) h; seen = λ side key. seen_grows m w (joined v w) side key rights (sees_right side) }
+    knows_right = record { keys = λ i k h. rights (i, k) h; seen = λ side key. seen_grows m w (joined v w) side key rights (sees_right m v w long side) }
 
     told_joined : (total : ℕ) (es fs : List Entry) → IsTold m v total es → IsTold m w total fs → IsTold m (joined v w) total (es ++ fs)
     told_joined total es fs a b = record {
       named = λ i k h. ⊎_elim (λ (x : Has (i, k) v.keys). a.named i k x) (λ (x : Has (i, k) w.keys). b.named i k x) (has_split (i, k) v.keys w.keys h);
-      lawful = All-append (IsEntry m total (IsKnown m (joined v w))) es fs (each_grows m v (joined v w) total es lefts sees_left a.lawful) (each_grows m w (joined v w) total fs rights sees_right b.lawful);
+      lawful = All-append (IsEntry m total (IsKnown m (joined v w))) es fs (each_grows m v (joined v w) total es lefts (sees_left m v w long) a.lawful) (each_grows m w (joined v w) total fs rights (sees_right m v w long) b.lawful);
       entered = All-append (IsEntered (joined v w)) es fs (each_entered v (joined v w) es lefts (λ x h. has_left x v.posted w.posted h) a.entered)
           (each_entered w (joined v w) fs rights (λ x h. has_right x v.posted w.posted h) b.entered);
       booked = λ i side x h. ⊎_elim
@@ -166,7 +133,7 @@ module _ {S G : Type 0} (model : G → GameModel S) where
         holder = not_nil v.numbers w.numbers p.holder;
         few = omega arith;
         inside = λ i k h. ⊎_elim (λ (x : Has (i, k) v.keys). p.inside i k x) (λ (x : Has (i, k) w.keys). q.inside i k x) (has_split (i, k) v.keys w.keys h);
-        shaped = λ side. subst (λ (xs : List ℕ). 3 * length xs + 1 ≡ words) (seen_joined side v w) (ap (λ (n : ℕ). 3 * n + 1) (tightest_long side (seen side v) (seen side w) (length (seen side v)) refl (sym (long side))) ∙ p.shaped side);
+        shaped = λ side. ap (λ (n : ℕ). 3 * n + 1) (long_joined side v w (length (seen side v)) refl (sym (long side))) ∙ p.shaped side;
         told = λ g e. told_joined (model g) v w long total es fs (p.told g e) (q.told g (sym game ∙ e));
       })
 
@@ -180,7 +147,7 @@ module _ {S G : Type 0} (model : G → GameModel S) where
     holder = p.holder;
     few = omega arith;
     inside = p.inside;
-    shaped = λ side. subst (λ (xs : List ℕ). 3 * length xs + 1 ≡ words) (seen_drawing side v) (p.shaped side);
+    shaped = p.shaped;
     told = λ g e. told_drawing (model g) v total entries (p.told g e);
   })
 
@@ -195,7 +162,7 @@ module _ {S G : Type 0} (model : G → GameModel S) where
         holder = λ (e : v.drawn ∷ [] ≡ []). cc;
         few = omega arith;
         inside = p.inside;
-        shaped = λ side. subst (λ (xs : List ℕ). 3 * length xs + 1 ≡ words) (seen_drawn side v) (p.shaped side);
+        shaped = p.shaped;
         told = λ g e. told_drawn (model g) v total total' entries (p.told g e);
       })
 

@@ -18,14 +18,9 @@ use Rattle.shared_board.specs.Passes.{IsKnown, IsEntered, IsBooked, IsUnseen, Is
 use Rattle.shared_board.specs.declared.view.View.{View}
 use Rattle.shared_board.proofs.ListLemmas.{has_left, has_right}
 use Rattle.shared_board.proofs.SeenLemmas.{looser_bound, each_grows, lawful_grows}
-use Rattle.shared_board.proofs.PassLemmas.{told_as, same_seen, unseen_as, each_entered, booked_as, recount}
+use Rattle.shared_board.proofs.PassLemmas.{told_as, each_entered, booked_as, recount}
 use Rattle.shared_board.proofs.BoundLemmas.{seen_as, shaped_as, sees, low_fits, high_fits}
 use Rattle.shared_board.proofs.WordLemmas.{word_refl, word_trans, word_left, word_is, word_mono, bound_word-back}
-
-module _ {G : Type 0} where
-  pub seen_more : (side : Side) (v : View G) (ks : List (ℕ × ℕ)) → seen side v ≡ seen side (more_keys ks v)
-  seen_more One v ks = refl
-  seen_more Two v ks = refl
 
 module _ {S G : Type 0} (model : G → GameModel S) where
   pub pass_claimed : (words words' : ℕ) (v : View G) (slots : List (ℕ × Unit {0})) (total : ℕ) (es : List Entry) (lead : Bool) (drawn held : ℕ) (b : Me (Unit {0}) (View G)) (ks : List (ℕ × ℕ))
@@ -43,9 +38,10 @@ module _ {S G : Type 0} (model : G → GameModel S) where
         holder = p.holder;
         few = p.few;
         inside = inside';
-        shaped = λ side. subst (λ (xs : List ℕ). 3 * length xs + 1 ≡ words) (seen_more side v ks) (p.shaped side);
+        shaped = p.shaped;
         told = λ g e. told_as (model g) v (more_keys ks v) total es (λ q h. has_right q ks v.keys h) (named' g e (p.told g e).named) refl
-            (λ side i. same_seen (model g) v (more_keys ks v) side i (seen_more side v ks)) (λ side i. unseen_as (model g) v (more_keys ks v) side i (seen_more side v ks) (λ q h. has_right q ks v.keys h) ((p.told g e).unseen side i)) (p.told g e);
+            (λ side i. word_refl side (seen_at (model g) side v i))
+            (λ side i. ⊎_elim (λ (a : seen_at (model g) side v i ≡ opening_word (model g) side). inl a) (λ (b : (k : ℕ) × Has (i, k) v.keys). inr (b.0, has_right (i, b.0) ks v.keys b.1)) ((p.told g e).unseen side i)) (p.told g e);
       }) named inside)
 
 module _ {S : Type 0} (m : GameModel S) (game_laws : IsGame m) where
@@ -90,15 +86,13 @@ module _ {S : Type 0} (m : GameModel S) (game_laws : IsGame m) where
 
 module _ {S G : Type 0} (m : GameModel S) where
   -- after a bound in row i is seen, no less is seen
-  pub sees_more : (rows : ℕ) (side side' : Side) (v : View G) (i x j : ℕ) (posted : List (ℕ × Side × ℕ)) (loads : ℕ) → length (seen side v) ≡ rows → i < rows → IsLooser side (seen_at m side v i) x
-      → IsLooser side' (seen_at m side' v j) (seen_at m side' (sees side v i x posted loads) j)
-  sees_more rows side side' v i x j posted loads long l more = seen_as m rows side side' v i x j posted loads (λ z. IsLooser side' (seen_at m side' v j) z) long l
-      (λ e is. subst (λ (y : Side × ℕ). IsLooser y.0 (seen_at m y.0 v y.1) x) (λ c. (e c, is c)) more) (λ _. word_refl side' (seen_at m side' v j))
+  pub sees_more : (side side' : Side) (v : View G) (i x j : ℕ) (posted : List (ℕ × Side × ℕ)) (loads : ℕ) → IsLooser side (seen_at m side v i) x → IsLooser side' (seen_at m side' v j) (seen_at m side' (sees side v i x posted loads) j)
+  sees_more side side' v i x j posted loads more = seen_as m side side' v i x j posted loads (λ z. IsLooser side' (seen_at m side' v j) z)
+      (λ e is. subst (λ (y : Side × ℕ). IsLooser y.0 (seen_at m y.0 v y.1) x) (λ c. (e c, is c)) more) (word_refl side' (seen_at m side' v j))
 
   -- the key of the row is known
-  pub unseen_sees : (rows : ℕ) (side side' : Side) (v : View G) (i x j : ℕ) (posted : List (ℕ × Side × ℕ)) (loads k : ℕ) → length (seen side v) ≡ rows → i < rows → Has (i, k) v.keys → IsUnseen m v side' j → IsUnseen m (sees side v i x posted loads) side' j
-  unseen_sees rows side side' v i x j posted loads k long l known u = seen_as m rows side side' v i x j posted loads (λ z. (z ≡ opening_word m side') ⊎ ((q : ℕ) × Has (j, q) v.keys)) long l
-      (λ e is. inr (k, subst (λ (z : ℕ). Has (z, k) v.keys) is known)) (λ _. u)
+  pub unseen_sees : (side side' : Side) (v : View G) (i x j : ℕ) (posted : List (ℕ × Side × ℕ)) (loads k : ℕ) → Has (i, k) v.keys → IsUnseen m v side' j → IsUnseen m (sees side v i x posted loads) side' j
+  unseen_sees side side' v i x j posted loads k known u = seen_as m side side' v i x j posted loads (λ z. (z ≡ opening_word m side') ⊎ ((q : ℕ) × Has (j, q) v.keys)) (λ e is. inr (k, subst (λ (z : ℕ). Has (z, k) v.keys) is known)) u
 
 module _ {S G : Type 0} (model : G → GameModel S) where
   pub pass_reading : (words words' : ℕ) (v : View G) (slots : List (ℕ × Unit {0})) (total : ℕ) (es : List Entry) (lead : Bool) (drawn held : ℕ) (b : Me (Unit {0}) (View G)) (rows : ℕ) (side : Side) (i n k : ℕ) → Has (i, k) v.keys
@@ -117,8 +111,8 @@ module _ {S G : Type 0} (model : G → GameModel S) where
         inside = p.inside;
         shaped = λ side'. ap (λ (k : ℕ). 3 * k + 1) (shaped_as rows side side' v i n v.posted (v.loads + 1) long) ∙ sym wide;
         told = λ g e. told_as (model g) v (reading side v i n) total es (λ q h. h) (p.told g e).named refl
-            (λ side' j. sees_more (model g) rows side side' v i n j v.posted (v.loads + 1) (long side) l (told g e).no_looser)
-            (λ side' j. unseen_sees (model g) rows side side' v i n j v.posted (v.loads + 1) k (long side) l known ((p.told g e).unseen side' j)) (p.told g e);
+            (λ side' j. sees_more (model g) side side' v i n j v.posted (v.loads + 1) (told g e).no_looser)
+            (λ side' j. unseen_sees (model g) side side' v i n j v.posted (v.loads + 1) k known ((p.told g e).unseen side' j)) (p.told g e);
       })
 
   pub pass_posted : (words words' : ℕ) (v : View G) (slots : List (ℕ × Unit {0})) (total : ℕ) (es es' : List Entry) (lead : Bool) (drawn held : ℕ) (b : Me (Unit {0}) (View G)) (rows i n : ℕ) (e : Entry)
@@ -139,7 +133,7 @@ module _ {S G : Type 0} (model : G → GameModel S) where
         inside = p.inside;
         shaped = λ side'. ap (λ (k : ℕ). 3 * k + 1) (shaped_as rows e.side side' v i new posted v.loads long) ∙ sym wide;
         told = λ g is'. let m = model g in let t = p.told g is' in
-            let sees : (side' : Side) (j : ℕ) → IsLooser side' (seen_at m side' v j) (seen_at m side' w j) = λ side' j. sees_more m rows e.side side' v i new j posted v.loads (long e.side) l
+            let sees : (side' : Side) (j : ℕ) → IsLooser side' (seen_at m side' v j) (seen_at m side' w j) = λ side' j. sees_more m e.side side' v i new j posted v.loads
             (word_trans e.side (seen_at m e.side v i) n new (told g is').no_looser (word_left e.side n x)) in record {
               named = t.named;
               lawful = All-push (IsEntry m total (IsKnown m w)) es e (each_grows m v w total es (λ q k. k) sees t.lawful) (lawful_grows m v w total e (λ q k. k) sees (lawful g is'));
@@ -148,6 +142,6 @@ module _ {S G : Type 0} (model : G → GameModel S) where
                   (λ (here : (j, side', y) ≡ (i, e.side, x)). subst (λ (q : ℕ × Side × ℕ). IsBooked w (es ++ e ∷ []) q.0 q.1 q.2) (sym here)
                   (record { entry = e; booked = has_right e es (e ∷ []) (inl refl); same_side = refl; same_bound = refl; known = known }))
                   (λ (old : Has (j, side', y) v.posted). booked_as m v w es (es ++ e ∷ []) j side' y (λ q k. k) (λ f k. has_left f es (e ∷ []) k) (t.booked j side' y old)) h;
-              unseen = λ side' j. unseen_sees m rows e.side side' v i new j posted v.loads e.key (long e.side) l known (t.unseen side' j);
+              unseen = λ side' j. unseen_sees m e.side side' v i new j posted v.loads e.key known (t.unseen side' j);
             };
       })

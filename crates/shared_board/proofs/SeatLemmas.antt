@@ -10,13 +10,12 @@ use Rattle.atomic_table.proofs.Lists.{set_here, set_else, at_longer, at_snoc}
 use Rattle.sim_game.specs.declared.Side.{Side}
 use Rattle.sim_game.specs.declared.Side.TheVariants.{One, Two}
 use Rattle.sim_game.specs.Model.{GameModel}
-use Rattle.shared_board.specs.Words.{bound_at, opening_word, IsLooser}
+use Rattle.shared_board.specs.Words.{bound_at, opening_word, IsLooser, tighter}
 use Rattle.shared_board.specs.Rule.{IsConsistent, IsConsistentView, IsPosted, IsInRange, Has, seen_at, seen, total, times, once_below, spent_view}
 use Rattle.shared_board.specs.Plays.{drawing, drawn_view, joined, tightest}
 use Rattle.shared_board.specs.declared.view.View.{View}
-use Rattle.shared_board.proofs.ListLemmas.{all_set, same_at, total_set, total_append, times_append, has_left, has_right, has_split}
-use Rattle.shared_board.proofs.ChangeLemmas.{at_long}
-use Rattle.shared_board.proofs.WordLemmas.{word_refl, word_trans, word_left, word_right, word_both}
+use Rattle.shared_board.proofs.ListLemmas.{all_set, at_long, same_at, somewhere_set, somewhere_longer, somewhere_join, total_set, total_append, times_append, has_left, has_right, has_split}
+use Rattle.shared_board.proofs.WordLemmas.{word_refl, word_trans, word_left, word_right, word_both, tighter_same}
 
 one_more : (n d : ℕ) → once_below n (d + 1) ≡ once_below n d + times n (d ∷ [])
 one_more n d = grind (arith, nat_tests)
@@ -25,45 +24,35 @@ pub in_range_word : {S : Type 0} (m : GameModel S) (side : Side) (x : ℕ) → I
 in_range_word m One x h = h.0
 in_range_word m Two x h = h.1
 
--- of lists of one length, the tightest is no looser than each
-pub tightest_left : (side : Side) (xs ys : List ℕ) (i d : ℕ) → length xs ≡ length ys → IsLooser side (get_or xs i d) (get_or (tightest side xs ys) i d)
-tightest_left side [] [] i d e = word_refl side d
-tightest_left side [] (y ∷ ys) i d e = absurd (omega arith)
-tightest_left side (x ∷ xs) [] i d e = absurd (omega arith)
-tightest_left side (x ∷ xs) (y ∷ ys) zero d e = word_left side x y
-tightest_left side (x ∷ xs) (y ∷ ys) (suc i) d e = tightest_left side xs ys i d (omega arith)
+-- of lists of one length, the tightest is in each place
+tightest_at : (side : Side) (xs ys : List ℕ) (i d : ℕ) → length xs ≡ length ys → get_or (tightest side xs ys) i d ≡ tighter side (get_or xs i d) (get_or ys i d)
+tightest_at side [] [] i d e = sym (tighter_same side d)
+tightest_at side [] (y ∷ ys) i d e = absurd (omega arith)
+tightest_at side (x ∷ xs) [] i d e = absurd (omega arith)
+tightest_at side (x ∷ xs) (y ∷ ys) zero d e = refl
+tightest_at side (x ∷ xs) (y ∷ ys) (suc i) d e = tightest_at side xs ys i d (omega arith)
 
-pub tightest_right : (side : Side) (xs ys : List ℕ) (i d : ℕ) → length xs ≡ length ys → IsLooser side (get_or ys i d) (get_or (tightest side xs ys) i d)
-tightest_right side [] [] i d e = word_refl side d
-tightest_right side [] (y ∷ ys) i d e = absurd (omega arith)
-tightest_right side (x ∷ xs) [] i d e = absurd (omega arith)
-tightest_right side (x ∷ xs) (y ∷ ys) zero d e = word_right side x y
-tightest_right side (x ∷ xs) (y ∷ ys) (suc i) d e = tightest_right side xs ys i d (omega arith)
-
-tightest_both : (side : Side) (xs ys : List ℕ) (i d w : ℕ) → IsLooser side (get_or xs i d) w → IsLooser side (get_or ys i d) w → IsLooser side (get_or (tightest side xs ys) i d) w
-tightest_both side [] ys i d w a b = b
-tightest_both side (x ∷ xs) [] i d w a b = a
-tightest_both side (x ∷ xs) (y ∷ ys) zero d w a b = word_both side x y w a b
-tightest_both side (x ∷ xs) (y ∷ ys) (suc i) d w a b = tightest_both side xs ys i d w a b
-
-pub tightest_long : (side : Side) (xs ys : List ℕ) (n : ℕ) → length xs ≡ n → length ys ≡ n → length (tightest side xs ys) ≡ n
+tightest_long : (side : Side) (xs ys : List ℕ) (n : ℕ) → length xs ≡ n → length ys ≡ n → length (tightest side xs ys) ≡ n
 tightest_long side [] ys n a b = b
 tightest_long side (x ∷ xs) [] n a b = a
 tightest_long side (x ∷ xs) (y ∷ ys) zero a b = absurd (omega arith)
 tightest_long side (x ∷ xs) (y ∷ ys) (suc n) a b = ap suc (tightest_long side xs ys n (omega arith) (omega arith))
 
-module _ {G : Type 0} where
-  pub seen_joined : (side : Side) (v w : View G) → tightest side (seen side v) (seen side w) ≡ seen side (joined v w)
-  seen_joined One v w = refl
-  seen_joined Two v w = refl
+pub long_joined : {G : Type 0} (side : Side) (v w : View G) (n : ℕ) → length (seen side v) ≡ n → length (seen side w) ≡ n → length (seen side (joined v w)) ≡ n
+long_joined One v w n a b = tightest_long One v.lower w.lower n a b
+long_joined Two v w n a b = tightest_long Two v.upper w.upper n a b
 
-  pub seen_drawing : (side : Side) (v : View G) → seen side v ≡ seen side (drawing v)
-  seen_drawing One v = refl
-  seen_drawing Two v = refl
+-- two views of one board
+module _ {S G : Type 0} (m : GameModel S) (v w : View G) (long : (side : Side) → length (seen side v) ≡ length (seen side w)) where
+  pub seen_joined : (side : Side) (i : ℕ) → seen_at m side (joined v w) i ≡ tighter side (seen_at m side v i) (seen_at m side w i)
+  seen_joined One i = tightest_at One v.lower w.lower i (opening_word m One) (long One)
+  seen_joined Two i = tightest_at Two v.upper w.upper i (opening_word m Two) (long Two)
 
-  pub seen_drawn : (side : Side) (v : View G) → seen side v ≡ seen side (drawn_view v)
-  seen_drawn One v = refl
-  seen_drawn Two v = refl
+  pub sees_left : (side : Side) (i : ℕ) → IsLooser side (seen_at m side v i) (seen_at m side (joined v w) i)
+  sees_left side i = subst (IsLooser side (seen_at m side v i)) (sym (seen_joined side i)) (word_left side (seen_at m side v i) (seen_at m side w i))
+
+  pub sees_right : (side : Side) (i : ℕ) → IsLooser side (seen_at m side w i) (seen_at m side (joined v w) i)
+  sees_right side i = subst (IsLooser side (seen_at m side w i)) (sym (seen_joined side i)) (word_right side (seen_at m side v i) (seen_at m side w i))
 
 module _ {S G : Type 0} (m : GameModel S) (g : G) (rows : ℕ) where
   abbrev St : Type 0
@@ -74,9 +63,6 @@ module _ {S G : Type 0} (m : GameModel S) (g : G) (rows : ℕ) where
 
   pub backed_more : (v w : View G) (i : ℕ) (side : Side) (x : ℕ) → IsPosted m v i side x → ((p : ℕ × ℕ) → Has p v.keys → Has p w.keys) → IsLooser side (seen_at m side v i) (seen_at m side w i) → IsPosted m w i side x
   backed_more v w i side x b keys l = record { key = b.key; known = keys (i, b.key) b.known; in_range = b.in_range; proved = b.proved; seen_too = word_trans side x (seen_at m side v i) (seen_at m side w i) b.seen_too l }
-
-  seen_same : (v w : View G) (side : Side) (i : ℕ) → seen side v ≡ seen side w → IsLooser side (seen_at m side v i) (seen_at m side w i)
-  seen_same v w side i e = subst (λ (xs : List ℕ). IsLooser side (seen_at m side v i) (get_or xs i (opening_word m side))) e (word_refl side (seen_at m side v i))
 
   -- another lead's seat, or another count of numbers
   refit : (words : List ℕ) (head drawn head' drawn' j : ℕ) (u : View G) → (u.lead ≡ true → (j ≡ head') × (u.drawn ≡ drawn')) → IsConsistentView m g rows words head drawn j u → IsConsistentView m g rows words head' drawn' j u
@@ -97,10 +83,10 @@ module _ {S G : Type 0} (m : GameModel S) (g : G) (rows : ℕ) where
     follows = λ e. absurd (true≢false (sym lead ∙ e));
     idle = f.idle;
     same_game = f.same_game;
-    shaped = λ n side. subst (λ (xs : List ℕ). length xs ≡ rows) (seen_drawing side v) (f.shaped n side);
+    shaped = f.shaped;
     knows = f.knows;
-    no_tighter = λ side i l. subst (λ (xs : List ℕ). IsLooser side (get_or xs i (opening_word m side)) (bound_at words side i)) (seen_drawing side v) (f.no_tighter side i l);
-    backed = λ i side x h. backed_more v (drawing v) i side x (f.backed i side x h) (λ p k. k) (seen_same v (drawing v) side i (seen_drawing side v));
+    no_tighter = f.no_tighter;
+    backed = λ i side x h. backed_more v (drawing v) i side x (f.backed i side x h) (λ p k. k) (word_refl side (seen_at m side v i));
   }
 
   fits_drawn : (words : List ℕ) (head drawn id j : ℕ) (v : View G) → v.numbers ≢ [] → IsConsistentView m g rows words head drawn id v → IsConsistentView m g rows words head (drawn + 1) j (drawn_view v)
@@ -109,9 +95,9 @@ module _ {S G : Type 0} (m : GameModel S) (g : G) (rows : ℕ) where
     follows = λ _. refl;
     idle = λ (e : v.drawn ∷ [] ≡ []). cc;
     same_game = λ _. f.same_game holder;
-    shaped = λ _ side. subst (λ (xs : List ℕ). length xs ≡ rows) (seen_drawn side v) (f.shaped holder side);
+    shaped = λ _. f.shaped holder;
     knows = f.knows;
-    no_tighter = λ side i l. subst (λ (xs : List ℕ). IsLooser side (get_or xs i (opening_word m side)) (bound_at words side i)) (seen_drawn side v) (f.no_tighter side i l);
+    no_tighter = f.no_tighter;
     backed = λ i side x h. absurd h;
   }
 
@@ -133,14 +119,8 @@ module _ {S G : Type 0} (m : GameModel S) (g : G) (rows : ℕ) where
             (λ q w n is. let o = r.each_view q w is in refit s.words r.head drawn r.head (drawn + 1) q w (λ l. absurd (n ((o.leads l).0 ∙ sym me.0))) o) j u old)
             (λ (new : right ≡ u). subst (IsConsistentView m g rows s.words r.head (drawn + 1) j) new (fits_drawn s.words r.head drawn id j v (not_idle s.words r.head drawn id v lead f) f)) (at_snoc half right u j e);
         each_row = r.each_row;
-        posted = λ side i l n. let o = r.posted side i l n in dite (ℕ_discrete o.0 id)
-            (λ (is : o.0 ≡ id). (
-              id,
-              left,
-              at_longer half (right ∷ []) id left (set_here s.views id left long),
-              subst (λ (u : View G). Has (i, side, bound_at s.words side i) u.posted) (same_at s.views id o.1 v (subst (λ (z : ℕ). get_elem? s.views z ≡ some o.1) is o.2) at) o.3,
-            ))
-            (λ (ne : o.0 ≢ id). (o.0, o.1, at_longer half (right ∷ []) o.0 o.1 (set_else s.views id o.0 left ne ∙ o.2), o.3));
+        posted = λ side i l n. let P : View G → Type 0 = λ u. Has (i, side, bound_at s.words side i) u.posted in somewhere_longer P half (right ∷ []) (somewhere_set P s.views id v left at (λ h. h) (r.posted side i l n));
+        claimed = λ i k l e. let P : View G → Type 0 = λ u. Has (i, k) u.keys in somewhere_longer P half (right ∷ []) (somewhere_set P s.views id v left at (λ h. h) (r.claimed i k l e));
       }
 
   or_true : (a b : Bool) → (a || b) ≡ true → (a ≡ true) ⊎ ((a ≡ false) × (b ≡ true))
@@ -196,12 +176,6 @@ module _ {S G : Type 0} (m : GameModel S) (g : G) (rows : ℕ) where
     same_length : (side : Side) → length (seen side v) ≡ length (seen side w)
     same_length side = f.shaped holder side ∙ sym (f'.shaped holder' side)
 
-    left_seen : (side : Side) (i : ℕ) → IsLooser side (seen_at m side v i) (seen_at m side both i)
-    left_seen side i = subst (λ (xs : List ℕ). IsLooser side (seen_at m side v i) (get_or xs i (opening_word m side))) (seen_joined side v w) (tightest_left side (seen side v) (seen side w) i (opening_word m side) (same_length side))
-
-    right_seen : (side : Side) (i : ℕ) → IsLooser side (seen_at m side w i) (seen_at m side both i)
-    right_seen side i = subst (λ (xs : List ℕ). IsLooser side (seen_at m side w i) (get_or xs i (opening_word m side))) (seen_joined side v w) (tightest_right side (seen side v) (seen side w) i (opening_word m side) (same_length side))
-
     fits_both : IsConsistentView m g rows s.words head.0 r.drawn id both
     fits_both = record {
       leads = λ e. ⊎_elim
@@ -213,19 +187,19 @@ module _ {S G : Type 0} (m : GameModel S) (g : G) (rows : ℕ) where
       follows = λ e. let p = or_false v.lead w.lead e in let a = f.follows p.0 in let b = f'.follows p.1 in omega arith;
       idle = λ e. absurd (holder (append_nil_left v.numbers w.numbers e));
       same_game = λ _. f.same_game holder;
-      shaped = λ _ side. subst (λ (xs : List ℕ). length xs ≡ rows) (seen_joined side v w) (tightest_long side (seen side v) (seen side w) rows (f.shaped holder side) (f'.shaped holder' side));
+      shaped = λ _ side. long_joined side v w rows (f.shaped holder side) (f'.shaped holder' side);
       knows = λ i k h. ⊎_elim (λ (a : Has (i, k) v.keys). f.knows i k a) (λ (b : Has (i, k) w.keys). f'.knows i k b) (has_split (i, k) v.keys w.keys h);
-      no_tighter = λ side i l. subst (λ (xs : List ℕ). IsLooser side (get_or xs i (opening_word m side)) (bound_at s.words side i)) (seen_joined side v w)
-          (tightest_both side (seen side v) (seen side w) i (opening_word m side) (bound_at s.words side i) (f.no_tighter side i l) (f'.no_tighter side i l));
-      backed = λ i side x h. ⊎_elim (λ (a : Has (i, side, x) v.posted). backed_more v both i side x (f.backed i side x a) (λ p k. has_left p v.keys w.keys k) (left_seen side i))
-          (λ (b : Has (i, side, x) w.posted). backed_more w both i side x (f'.backed i side x b) (λ p k. has_right p v.keys w.keys k) (right_seen side i)) (has_split (i, side, x) v.posted w.posted h);
+      no_tighter = λ side i l. subst (λ (z : ℕ). IsLooser side z (bound_at s.words side i)) (sym (seen_joined m v w same_length side i))
+          (word_both side (seen_at m side v i) (seen_at m side w i) (bound_at s.words side i) (f.no_tighter side i l) (f'.no_tighter side i l));
+      backed = λ i side x h. ⊎_elim (λ (a : Has (i, side, x) v.posted). backed_more v both i side x (f.backed i side x a) (λ p k. has_left p v.keys w.keys k) (sees_left m v w same_length side i))
+          (λ (b : Has (i, side, x) w.posted). backed_more w both i side x (f'.backed i side x b) (λ p k. has_right p v.keys w.keys k) (sees_right m v w same_length side i)) (has_split (i, side, x) v.posted w.posted h);
     }
 
     fits_spent : IsConsistentView m g rows s.words head.0 r.drawn other spent_view
     fits_spent = record {
       leads = λ e. absurd (true≢false (sym e));
       follows = λ _. refl;
-      idle = λ _. (refl, refl);
+      idle = λ _. (refl, refl, refl);
       same_game = λ n. absurd (n refl);
       shaped = λ n. absurd (n refl);
       knows = λ i k h. absurd h;
@@ -266,23 +240,9 @@ module _ {S G : Type 0} (m : GameModel S) (g : G) (rows : ℕ) where
           (λ j u n' e. all_set (λ (q : ℕ) (x : View G). q ≢ other → IsConsistentView m g rows s.words head.0 r.drawn q x) s.views id both (λ _. fits_both)
           (λ q x n is apart. let o = r.each_view q x is in refit s.words r.head r.drawn head.0 r.drawn q x (λ l. let p = o.leads l in (p.0 ∙ sym (head.3 (λ h. apart (p.0 ∙ h))), p.1)) o) j u e n');
       each_row = r.each_row;
-      posted = λ side i l n. let o = r.posted side i l n in dite (ℕ_discrete o.0 id)
-          (λ (is : o.0 ≡ id). (
-            id,
-            both,
-            here,
-            has_left (i, side, bound_at s.words side i) v.posted w.posted
-                (subst (λ (u : View G). Has (i, side, bound_at s.words side i) u.posted) (same_at s.views id o.1 v (subst (λ (z : ℕ). get_elem? s.views z ≡ some o.1) is o.2) at) o.3),
-          ))
-          (λ (ne : o.0 ≢ id). dite (ℕ_discrete o.0 other)
-          (λ (is : o.0 ≡ other). (
-            id,
-            both,
-            here,
-            has_right (i, side, bound_at s.words side i) v.posted w.posted
-                (subst (λ (u : View G). Has (i, side, bound_at s.words side i) u.posted) (same_at s.views other o.1 w (subst (λ (z : ℕ). get_elem? s.views z ≡ some o.1) is o.2) at') o.3),
-          ))
-          (λ (ne' : o.0 ≢ other). (o.0, o.1, still o.0 o.1 ne ne' o.2, o.3)));
+      posted = λ side i l n. let x : ℕ × Side × ℕ = (i, side, bound_at s.words side i) in
+          somewhere_join (λ u. Has x u.posted) s.views id other v w both spent_view at at' two (has_left x v.posted w.posted) (has_right x v.posted w.posted) (r.posted side i l n);
+      claimed = λ i k l e. somewhere_join (λ u. Has (i, k) u.keys) s.views id other v w both spent_view at at' two (has_left (i, k) v.keys w.keys) (has_right (i, k) v.keys w.keys) (r.claimed i k l e);
     }
 
   pub joins : (id other : ℕ) (v w : View G) → v.numbers ≢ [] → w.numbers ≢ [] → Joins Rule id v other w (joined v w) spent_view

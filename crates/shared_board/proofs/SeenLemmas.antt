@@ -1,5 +1,5 @@
 -- What a view has seen at a key.
-use Rattle.std.proofs.Common.{◌≡◌, ◌⊎◌, inl, inr, ⊎_elim, ℕ, ℤ, Bool, true, false, cond, eqb, Option, Some, List, [], ◌∷◌, All, refl, sym, ap, ◌∙◌, subst, arith}
+use Rattle.std.proofs.Common.{◌≡◌, ◌⊎◌, inl, inr, ⊎_elim, ℕ, ℤ, Bool, true, false, cond, eqb, Option, None, Some, List, [], ◌∷◌, All, refl, sym, ap, ◌∙◌, subst, arith}
 use Rattle.std.proofs.lemmas.Int.{ints}
 use Rattle.std.proofs.lemmas.Bool.{eqb-true}
 use Rattle.std.proofs.lemmas.List.Elements.{All-weaker}
@@ -42,6 +42,13 @@ has_found false p rest row key Rest here there e = inr (there e)
 pub has_key_of : (ks : List (ℕ × ℕ)) (row key : ℕ) → key_of ks row ≡ Some key → Has (row, key) ks
 has_key_of [] row key e = cc
 has_key_of (p ∷ ps) row key e = has_found (eqb p.0 row) p (key_of ps row) row key (Has (row, key) ps) (λ t. eqb-true p.0 row t) (λ t. has_key_of ps row key t) e
+
+none_of : (o : Option ℕ) → ((key : ℕ) → o ≡ Some key → ⊥) → o ≡ None
+none_of None h = refl
+none_of (Some key) h = absurd (h key refl)
+
+pub key_of_none : (ks : List (ℕ × ℕ)) (row : ℕ) → ((key : ℕ) → Has (row, key) ks → ⊥) → key_of ks row ≡ None
+key_of_none ks row none = none_of (key_of ks row) (λ key e. none key (has_key_of ks row key e))
 
 -- ---- the bounds at a key
 pub cond_better : (b : Bool) (side : Side) (x z : ℤ) → IsNoTighter side z (cond b (better side x z) z)

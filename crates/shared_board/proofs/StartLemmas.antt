@@ -65,4 +65,5 @@ module _ {S G : Type 0} (m : GameModel S) (g : G) (rows : ℕ) (words : List ℕ
     each_view = λ j v e. let is = alone first v j e in subst (λ (y : ℕ × View G). IsConsistentView m g rows words 0 1 y.0 y.1) (λ k. (sym is.0 k, is.1 k)) fits;
     each_row = blank_row;
     posted = λ side i l n. absurd (n (blank_bound side i l));
+    claimed = λ i k l e. let free = blank.free i l in absurd (omega arith);
   }

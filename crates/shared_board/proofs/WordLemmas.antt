@@ -36,6 +36,10 @@ pub word_both : (side : Side) (a b c : ℕ) → IsLooser side a c → IsLooser s
 word_both One a b c h k = omega arith
 word_both Two a b c h k = omega arith
 
+pub tighter_same : (side : Side) (a : ℕ) → tighter side a a ≡ a
+tighter_same One a = omega arith
+tighter_same Two a = omega arith
+
 pub tighter_is : (side : Side) (a b : ℕ) → (tighter side a b ≡ a) ⊎ (tighter side a b ≡ b)
 tighter_is One a b = ⊎_elim (λ (h : a < b). inr (omega arith)) (λ (h : b ≤ a). inl (omega arith)) (cases_lt a b)
 tighter_is Two a b = ⊎_elim (λ (h : a < b). inl (omega arith)) (λ (h : b ≤ a). inr (omega arith)) (cases_lt a b)

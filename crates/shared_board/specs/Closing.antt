@@ -1,5 +1,5 @@
 -- What a closed board has.
-use Rattle.std.specs.Prelude.{◌≡◌, ◌≢◌, ℕ, zero, suc, ◌<◌, ◌≤◌, ℤ, List, [], ◌∷◌, ◌++◌, length, All, Contains}
+use Rattle.std.specs.Prelude.{◌≡◌, ◌≢◌, ℕ, zero, suc, ◌<◌, ◌≤◌, ℤ, List, [], ◌∷◌, ◌++◌, map, length, Option, None, Some, All, Contains}
 use Rattle.sim_game.specs.declared.Side.{Side}
 use Rattle.sim_game.specs.declared.Side.TheVariants.{One, Two}
 use Rattle.sim_game.specs.Model.{GameModel}
@@ -9,7 +9,7 @@ use Rattle.plan_book.specs.Books.{best_posted}
 use Rattle.bounds_board.specs.Views.{IsInnerKey}
 use Rattle.shared_board.specs.Words.{key_at, bound_at, bound_of}
 use Rattle.shared_board.specs.Rule.{Has}
-use Rattle.shared_board.specs.Passes.{seen_by}
+use Rattle.shared_board.specs.Passes.{key_of, seen_by}
 use Rattle.shared_board.specs.Values.{BoardValue, PassValue}
 use Rattle.shared_board.specs.declared.view.View.{View}
 use Rattle.shared_board.specs.declared.close.Kept.{Kept}
@@ -27,6 +27,15 @@ kept_if words i (suc k) = kept_row words i k ∷ []
 abbrev pub kept_rows : List ℕ → ℕ → List Kept
 kept_rows words zero = []
 kept_rows words (suc n) = kept_rows words n ++ kept_if words n (key_at words n)
+
+abbrev pub key_if : Option ℕ → List ℕ
+key_if None = []
+key_if (Some k) = k ∷ []
+
+-- the keys that are known of the first n rows, in order
+abbrev pub known_keys : List (ℕ × ℕ) → ℕ → List ℕ
+known_keys ks zero = []
+known_keys ks (suc n) = known_keys ks n ++ key_if (key_of ks n)
 
 abbrev pub kept_bound : Side → Kept → ℤ
 kept_bound One x = x.lower
@@ -50,6 +59,8 @@ pub record IsKeptRow {S : Type 0} (m : GameModel S) (entries : List Entry) (x : 
 
 -- the rows that are kept beside the book of the pass that closed the board
 pub record IsKept {S G : Type 0} (m : GameModel S) (rows : ℕ) (v : View G) (entries : List Entry) (kept : List Kept) : Type 0 where
+  -- the keys are those that the pass knew, in the order of their rows
+  pub keys : map (λ (x : Kept). x.key) kept ≡ known_keys v.keys rows
   pub few : length kept ≤ rows
   -- a pass that knew a key of each row leaves as many as there are rows
   pub full : ((i : ℕ) → i < rows → (k : ℕ) × Has (i, k) v.keys) → length kept ≡ rows

@@ -7,7 +7,7 @@ use Rattle.sim_game.specs.declared.Side.{Side}
 use Rattle.sim_game.specs.Model.{GameModel}
 use Rattle.shared_board.specs.Words.{key_word, bound_word, key_at, bound_at, tighter}
 use Rattle.shared_board.specs.Rule.{IsConsistent, spent_view}
-use Rattle.shared_board.specs.Plays.{knowing, reading, posting, drawing, drawn_view, joined, MayClaim, MayRead, MayPost}
+use Rattle.shared_board.specs.Plays.{knowing, reading, posting, drawing, drawn_view, joined, MayClaim, MayPost}
 use Rattle.shared_board.specs.declared.view.View.{View}
 
 module _ {S G : Type 0} (m : GameModel S) (rows : ℕ) where
@@ -23,7 +23,7 @@ module _ {S G : Type 0} (m : GameModel S) (rows : ℕ) where
     -- a raise where the side is One, a cut where it is Two
     posts : (s : State (Unit {0}) (View G)) (id i x : ℕ) (side : Side) (v : View G) → At s id v → MayPost m rows side v i x
         → IsStep s (record { words = slice_set s.words (bound_word side i) (tighter side (bound_at s.words side i) x); homes = s.homes; views = slice_set s.views id (posting side v i x (bound_at s.words side i)) })
-    reads : (s : State (Unit {0}) (View G)) (id i : ℕ) (side : Side) (v : View G) → At s id v → MayRead rows v i
+    reads : (s : State (Unit {0}) (View G)) (id i : ℕ) (side : Side) (v : View G) → At s id v → i < rows
         → IsStep s (record { words = s.words; homes = s.homes; views = slice_set s.views id (reading side v i (bound_at s.words side i)) })
     splits : (s : State (Unit {0}) (View G)) (id : ℕ) (v : View G) → At s id v → v.lead ≡ true → v.drawn < 65535
         → IsStep s (record { words = s.words; homes = s.homes; views = slice_set s.views id (drawing v) ++ drawn_view v ∷ [] })

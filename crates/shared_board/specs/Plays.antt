@@ -108,11 +108,6 @@ IsSized z rows n = (rows ≡ n) × (z.words ≡ 3 * n + 1) × (1 ≤ n) × (n �
 abbrev pub IsAt : {G : Type 0} → TableId → TableId → Me (Unit {0}) (View G) → Type 0
 IsAt z seat me = (seat ≡ z) × (me.0.numbers ≢ []) × (me.1 ≡ [])
 
--- a view may read row i
-pub record MayRead {G : Type 0} (rows : ℕ) (v : View G) (i : ℕ) : Type 0 where
-  pub holder : v.numbers ≢ []
-  pub inside : i < rows
-
 -- a view may post the bound x of the side in row i
 pub record MayPost {S G : Type 0} (m : GameModel S) (rows : ℕ) (side : Side) (v : View G) (i x : ℕ) : Type 0 where
   pub holder : v.numbers ≢ []

@@ -15,6 +15,10 @@ abbrev pub Has : {A : Type 0} → A → List A → Type 0
 Has x [] = ⊥
 Has x (y ∷ ys) = (x ≡ y) ⊎ Has x ys
 
+-- an element of the list has the property
+abbrev pub Somewhere : {A : Type 0} → List A → (A → Type 0) → Type 0
+Somewhere xs P = (j : ℕ) × (x : _) × (get_elem? xs j ≡ some x) × P x
+
 -- how often n stands in the list
 abbrev pub times : ℕ → List ℕ → ℕ
 times n [] = 0
@@ -36,8 +40,7 @@ for_one Two a b = b
 module _ {G : Type 0} where
   -- the bounds of a side that a view has seen, a row each
   abbrev pub seen : Side → View G → List ℕ
-  seen One v = v.lower
-  seen Two v = v.upper
+  seen side v = for_one side v.lower v.upper
 
   abbrev pub with_seen : Side → List ℕ → View G → View G
   with_seen side bounds v = record v { lower = for_one side bounds v.lower; upper = for_one side v.upper bounds }
@@ -72,7 +75,7 @@ module _ {S G : Type 0} (m : GameModel S) (g : G) (rows : ℕ) where
   pub record IsConsistentView (words : List ℕ) (head drawn j : ℕ) (v : View G) : Type 0 where
     pub leads : v.lead ≡ true → (j ≡ head) × (v.drawn ≡ drawn)
     pub follows : v.lead ≡ false → v.drawn ≡ 0
-    pub idle : v.numbers ≡ [] → (v.lead ≡ false) × (v.posted ≡ [])
+    pub idle : v.numbers ≡ [] → (v.lead ≡ false) × (v.posted ≡ []) × (v.keys ≡ [])
     pub same_game : v.numbers ≢ [] → v.game ≡ Some g
     pub shaped : v.numbers ≢ [] → (side : Side) → length (seen side v) ≡ rows
     pub knows : (i k : ℕ) → Has (i, k) v.keys → (i < rows) × (key_at words i ≡ suc k)
@@ -100,5 +103,6 @@ module _ {S G : Type 0} (m : GameModel S) (g : G) (rows : ℕ) where
     pub each_view : (j : ℕ) (v : View G) → get_elem? s.views j ≡ some v → IsConsistentView s.words head drawn j v
     pub each_row : (i : ℕ) → i < rows → IsRow s.words i
     -- a bound that is not the opening one was posted
-    pub posted : (side : Side) (i : ℕ) → i < rows → bound_at s.words side i ≢ opening_word m side
-        → (j : ℕ) × (v : View G) × (get_elem? s.views j ≡ some v) × Has (i, side, bound_at s.words side i) v.posted
+    pub posted : (side : Side) (i : ℕ) → i < rows → bound_at s.words side i ≢ opening_word m side → Somewhere s.views (λ v. Has (i, side, bound_at s.words side i) v.posted)
+    -- the key of a claimed row is known to a view, which holds a number, since a view that holds none knows no key
+    pub claimed : (i k : ℕ) → i < rows → key_at s.words i ≡ suc k → Somewhere s.views (λ v. Has (i, k) v.keys)

@@ -7,7 +7,7 @@ ghost use Rattle.shared_board.specs.Passes.{KnowsNoLess};
 ghost use Rattle.shared_board.specs.Values.{IsPassOf};
 ghost use Rattle.shared_board.specs.Plays.{drawing, drawn_view, joined};
 
-use crate::pass::Pass;
+use crate::pass::{BarePass, Pass};
 use crate::rule::{Draw, Gather, Rules};
 use crate::view::View;
 use crate::words::{blank_words, word_of_bound};
@@ -17,12 +17,12 @@ use sim_game::{Game, NoMemory, Side, opening_bound};
 use std::alloc::Global;
 use std::marker::Model;
 
-pub(crate) type Words<G> = Table<(), View<G>, (G, u32), Rules, Global>;
+pub(crate) type BoardTable<G> = Table<(), View<G>, (G, u32), Rules, Global>;
 
 /// A board of bounds that threads share without a lock.
 #[derive(Drop)]
 pub struct Board<G: Game> {
-    pub(crate) words: Words<G>,
+    pub(crate) words: BoardTable<G>,
     pub(crate) game: G,
     pub(crate) rows: u32,
     pub(crate) total: u32,
@@ -82,14 +82,14 @@ impl<G: Game> Board<G> {
             total,
             alloc,
         };
-        let pass = Pass {
+        let bare = BarePass {
             seat,
             book: Book::new(alloc, total),
             lead: true,
             drawn: 1,
             held: 1,
         };
-        Ok((board, pass))
+        Ok((board, Pass { bare }))
     }
 
     /// A new pass, which has seen all that the lead's pass has. It takes no memory.
@@ -105,18 +105,19 @@ impl<G: Game> Board<G> {
         ensures theirs { IfOk result (λ new. KnowsNoLess (G.model self.now.game) pass.old.view new.view) }
         ensures err { OnErr result ((pass.new ≡ pass.old) × (pass.old.view.drawn ≡ 65535)) }
     {
-        if pass.drawn >= MOST_DRAWN {
+        if pass.bare.drawn >= MOST_DRAWN {
             return Err(TooMany);
         }
-        let seat = self.words.shared.split_seat::<Draw>(&mut pass.seat);
-        pass.drawn += 1;
-        Ok(Pass {
+        let seat = self.words.shared.split_seat::<Draw>(&mut pass.bare.seat);
+        pass.bare.drawn += 1;
+        let bare = BarePass {
             seat,
             book: Book::new(self.alloc, self.total),
             lead: false,
             drawn: 0,
             held: 1,
-        })
+        };
+        Ok(Pass { bare })
     }
 
     /// The first pass takes in the other one: its numbers, its book and what it has seen.
@@ -132,27 +133,32 @@ impl<G: Game> Board<G> {
         ensures err { IfErr result (λ e. (pass.new ≡ pass.old) × (e.other ≡ other)) }
     {
         let Pass {
-            seat,
-            book,
-            lead,
-            drawn,
-            held,
+            bare: BarePass {
+                seat,
+                book,
+                lead,
+                drawn,
+                held,
+            },
         } = other;
-        if let Err(book) = pass.book.join(book) {
+        if let Err(book) = pass.bare.book.join(book) {
+            let bare = BarePass {
+                seat,
+                book,
+                lead,
+                drawn,
+                held,
+            };
             return Err(JoinError {
-                other: Pass {
-                    seat,
-                    book,
-                    lead,
-                    drawn,
-                    held,
-                },
+                other: Pass { bare },
             });
         }
-        self.words.shared.join_seat::<Gather>(&mut pass.seat, seat);
-        pass.lead = pass.lead || lead;
-        pass.drawn = pass.drawn.max(drawn);
-        pass.held = pass.held.saturating_add(held);
+        self.words
+            .shared
+            .join_seat::<Gather>(&mut pass.bare.seat, seat);
+        pass.bare.lead = pass.bare.lead || lead;
+        pass.bare.drawn = pass.bare.drawn.max(drawn);
+        pass.bare.held = pass.bare.held.saturating_add(held);
         Ok(())
     }
 }

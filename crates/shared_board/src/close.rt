@@ -8,9 +8,9 @@ ghost use Rattle.shared_board.specs.Values.{IsPassOf};
 ghost use Rattle.shared_board.specs.Closing.{kept_rows, IsKept, IsRefusal};
 
 use crate::board::Board;
-use crate::pass::Pass;
+use crate::pass::{BarePass, Pass};
 use crate::words::bound_of_word;
-use atomic_table::Closed as Words;
+use atomic_table::Closed as ClosedWords;
 use plan_book::Book;
 use seq::Seq;
 use sim_game::Game;
@@ -48,7 +48,7 @@ pub enum CloseError<G: Game> {
 }
 
 /// The claimed rows among so many, in order.
-fn keep_rows(words: &Words<(), Global>, rows: u32, kept: &mut Vec<Kept>)
+fn keep_rows(words: &ClosedWords<(), Global>, rows: u32, kept: &mut Vec<Kept>)
     requires words { IsFull words.now.words × (slots_len words.now.words ≡ 3 * rows + 1) × (rows ≤ 1048576) }
     requires bounds { (side : Side) (i : ℕ) → i < rows → bound_at (slots_items words.now.words) side i ≤ 8000000000 }
     requires kept { (kept.old.items ≡ []) × (rows ≤ vec_capacity kept.old) }
@@ -84,9 +84,9 @@ impl<G: Game> Board<G> {
         ensures kept { IfOk result (λ c. IsKept (G.model self.game) self.rows pass.view pass.entries c.kept) }
         ensures err { IfErr result (IsRefusal self pass) }
     {
-        if pass.held < pass.drawn {
-            let drawn = pass.drawn;
-            let held = pass.held;
+        if pass.bare.held < pass.bare.drawn {
+            let drawn = pass.bare.drawn;
+            let held = pass.bare.held;
             return Err(CloseError::MissingPass {
                 drawn,
                 held,
@@ -105,11 +105,13 @@ impl<G: Game> Board<G> {
             alloc: _,
         } = self;
         let Pass {
-            seat,
-            book,
-            lead: _,
-            drawn: _,
-            held: _,
+            bare: BarePass {
+                seat,
+                book,
+                lead: _,
+                drawn: _,
+                held: _,
+            },
         } = pass;
         let closed = words.close_with(seat);
         keep_rows(&closed, rows, &mut kept);

@@ -1,9 +1,10 @@
 //! A pass at its board.
-ghost use Rattle.std.specs.Prelude.{◌≡◌, ◌≢◌, ℕ, ◌+◌, ◌<◌, ◌≤◌, Some, IsSome, List, length, IfOk, IfErr, OnOk, OnErr};
+ghost use Rattle.std.specs.Prelude.{◌≡◌, ◌≢◌, ◌++◌, ◌∷◌, [], ℕ, ◌<◌, ◌≤◌, Some, IsSome, List, length, IfOk, IfErr, OnOk, OnErr};
 ghost use Rattle.sim_game.specs.declared.Side.{Side};
 ghost use Rattle.sim_game.specs.declared.Side.TheVariants.{One, Two};
 ghost use Rattle.sim_game.specs.Model.{Reachable};
-ghost use Rattle.bounds_board.specs.Views.{IsInnerKey, IsPostable, IsLater, IsRead, IsEnclosure};
+ghost use Rattle.sim_game.specs.Sides.{IsNoTighter, opening_bound};
+ghost use Rattle.bounds_board.specs.Views.{IsInnerKey, IsFull, IsPostable, IsLater, IsRead, IsEnclosure};
 ghost use Rattle.shared_board.specs.Words.{word_of, bound_of, IsLooser};
 ghost use Rattle.shared_board.specs.Rule.{Has, seen, seen_at};
 ghost use Rattle.shared_board.specs.Plays.{more_keys, reading, posting, IsApart, AllNamed};
@@ -13,11 +14,11 @@ ghost use Rattle.shared_board.specs.Values.{IsPassOf, viewing, entering, desk_vi
 use crate::board::Board;
 use crate::known::KnownRows;
 use crate::pass::Pass;
-use crate::steps::{claim_row, load_lower, load_upper, post_word};
+use crate::steps::{claim_row, load_word, post_word};
 use crate::words::{bound_of_word, word_of_bound};
 use bounds_board::{Bounds, Enclosure, Full, Row};
 use plan_book::Entry;
-use sim_game::{Game, NoMemory};
+use sim_game::{Game, NoMemory, Side};
 use std::marker::Model;
 
 /// A pass at its board, through which a thread claims, reads and posts.
@@ -66,22 +67,6 @@ impl<'a, G: Game> Desk<'a, G> {
         pass
     }
 
-    fn game_of(&self) -> G
-        ensures { result ≡ self.now.board.game }
-    {
-        let board = self.board;
-        board.game
-    }
-
-    fn total_of(&self) -> u32
-        ensures total { result ≡ self.now.board.total }
-        ensures low { 8192 ≤ result }
-        ensures high { result ≤ 1048576 }
-    {
-        let board = self.board;
-        board.total
-    }
-
     /// The row of a key, claimed for it if need be.
     fn claim_key(&mut self, key: u64) -> Result<Row, Full>
         requires { IsInnerKey (G.model self.old.board.game) key }
@@ -97,7 +82,7 @@ impl<'a, G: Game> Desk<'a, G> {
         }
         let board = self.board;
         let pass = &mut self.pass;
-        match claim_row(&board.words.shared, &mut pass.seat, board.rows, key) {
+        match claim_row(&board.words.shared, &mut pass.bare.seat, board.rows, key) {
             Some(row) => {
                 self.known.keep(key, row);
                 Ok(Row::new(row))
@@ -110,7 +95,6 @@ impl<'a, G: Game> Desk<'a, G> {
     fn read_row(&mut self, row: Row) -> Enclosure
         requires { (k : ℕ) × Has (row, k) self.old.pass.view.keys }
         ensures view { (a b : ℕ) × (self.new ≡ viewing self.old (reading Two (reading One self.old.pass.view row a) row b)) × (result.lower ≡ bound_of a) × (result.upper ≡ bound_of b) }
-        ensures loads { self.new.pass.view.loads ≡ self.old.pass.view.loads + 2 }
         ensures lower { IsAnswer (G.model self.old.board.game) One self.old.pass.view row result.lower }
         ensures upper { IsAnswer (G.model self.old.board.game) Two self.old.pass.view row result.upper }
         ensures shaped { (side : Side) → (row < self.old.board.rows) × (length (seen side self.old.pass.view) ≡ self.old.board.rows) }
@@ -118,9 +102,10 @@ impl<'a, G: Game> Desk<'a, G> {
     {
         let board = self.board;
         let pass = &mut self.pass;
+        let words = &board.words.shared;
         let place = row.place();
-        let lower = load_lower(&board.words.shared, &mut pass.seat, board.rows, place);
-        let upper = load_upper(&board.words.shared, &mut pass.seat, board.rows, place);
+        let lower = load_word(words, &mut pass.bare.seat, board.rows, Side::One, place);
+        let upper = load_word(words, &mut pass.bare.seat, board.rows, Side::Two, place);
         Enclosure {
             lower: bound_of_word(lower),
             upper: bound_of_word(upper),
@@ -136,36 +121,56 @@ impl<'a, G: Game> Desk<'a, G> {
     {
         let board = self.board;
         let pass = &mut self.pass;
-        pass.book.reserve(1)?;
+        pass.bare.book.reserve(1)?;
         self.known.make_places(board.alloc, board.rows)?;
         let bound = word_of_bound(e.bound);
         post_word(
             &board.words.shared,
-            &mut pass.seat,
+            &mut pass.bare.seat,
             board.rows,
             e.side,
             row.place(),
             bound,
         );
-        pass.book.push(e);
+        pass.bare.book.push(e);
         Ok(())
     }
 }
 
+// A method's clauses here stand in place of the trait's, which are repeated, with what the call does to the desk. They
+// follow from the clauses of the functions above, which open the desk.
 impl<'a, G: Game> Bounds<G> for Desk<'a, G> {
     ghost Name = { DeskName };
 
     ghost view = { desk_view G.model };
 
     fn game(&self) -> G {
-        self.game_of()
+        let board = self.board;
+        board.game
+    }
+
+    fn knows_inner_keys(&self) {
+        let pass = &self.pass;
+        let _held = pass.bare.held;
     }
 
     fn total(&self) -> u32 {
-        self.total_of()
+        let board = self.board;
+        board.total
     }
 
-    fn claim(&mut self, key: u64) -> Result<Row, Full> {
+    /// The row that has the key, claimed if need be. It takes no memory, and the pass learns no more than keys of rows.
+    fn claim(&mut self, key: u64) -> Result<Row, Full>
+        requires { IsInnerKey (G.model (desk_view G.model self.old).game) key }
+        ensures later { IsLater (desk_view G.model self.old) (desk_view G.model self.new) }
+        ensures entries { (desk_view G.model self.new).entries ≡ (desk_view G.model self.old).entries }
+        ensures ok { IfOk result (λ row. (desk_view G.model self.new).key_at row ≡ Some key) }
+        ensures alone { IfOk result (λ row. (other : ℕ) → (desk_view G.model self.new).key_at other ≡ Some key → other ≡ row) }
+        ensures opened { OnOk result ((side : Side) → IsNoTighter side (opening_bound (G.model (desk_view G.model self.old).game) side) ((desk_view G.model self.new).seen side key)) }
+        ensures unseen { OnErr result ((side : Side) (other : ℕ) → (desk_view G.model self.new).seen side other ≡ (desk_view G.model self.old).seen side other) }
+        ensures full { OnErr result (IsFull (G.model (desk_view G.model self.old).game) (desk_view G.model self.new) key) }
+        ensures learns { (ks : List (ℕ × ℕ)) × (self.new ≡ viewing self.old (more_keys ks self.old.pass.view)) }
+    {
         self.claim_key(key)
     }
 
@@ -177,12 +182,23 @@ impl<'a, G: Game> Bounds<G> for Desk<'a, G> {
         ensures seen { (key : ℕ) → (desk_view G.model self.old).key_at row ≡ Some key → IsRead (desk_view G.model self.new) result.lower result.upper key }
         ensures backed { (s : G.State) → Reachable (G.model (desk_view G.model self.old).game) s → (desk_view G.model self.old).key_at row ≡ Some ((G.model (desk_view G.model self.old).game).key s)
             → IsEnclosure (G.model (desk_view G.model self.old).game) result.lower result.upper s }
-        ensures loads { self.new.pass.view.loads ≡ self.old.pass.view.loads + 2 }
+        ensures loaded { (a b : ℕ) × (self.new ≡ viewing self.old (reading Two (reading One self.old.pass.view row a) row b)) × (result.lower ≡ bound_of a) × (result.upper ≡ bound_of b) }
     {
         self.read_row(row)
     }
 
-    fn post(&mut self, row: Row, e: Entry) -> Result<(), NoMemory> {
+    /// Raises the lower or cuts the upper bound of the row by one atomic step, and keeps the entry. Without memory it makes
+    /// no step.
+    fn post(&mut self, row: Row, e: Entry) -> Result<(), NoMemory>
+        requires row { (desk_view G.model self.old).key_at row ≡ Some e.key }
+        requires entry { IsPostable (G.model (desk_view G.model self.old).game) (desk_view G.model self.old) e }
+        ensures later { IsLater (desk_view G.model self.old) (desk_view G.model self.new) }
+        ensures ok { OnOk result ((desk_view G.model self.new).entries ≡ (desk_view G.model self.old).entries ++ e ∷ []) }
+        ensures seen { OnOk result (IsNoTighter e.side e.bound ((desk_view G.model self.new).seen e.side e.key)) }
+        ensures err { OnErr result (desk_view G.model self.new ≡ desk_view G.model self.old) }
+        ensures posted { OnOk result ((n : ℕ) × (self.new ≡ entering self.old (posting e.side self.old.pass.view row (word_of e.bound) n) e)) }
+        ensures refused { OnErr result (self.new ≡ self.old) }
+    {
         self.post_entry(row, e)
     }
 }

@@ -11,23 +11,18 @@ use std::marker::Model;
 /// What a thread knows of a board, and the entries that it has posted.
 #[derive(Drop)]
 pub struct Pass<G: Game> {
-    pub(crate) seat: Seat<(), View<G>>,
-    pub(crate) book: Book,
-    pub(crate) lead: bool,
-    pub(crate) drawn: u32,
-    /// How many numbers it holds, and no more than the greatest number of the type.
-    pub(crate) held: u32,
+    pub(crate) bare: BarePass<G>,
 }
 
 impl<G: Game> Model for Pass<G> {
-    ghost use Rattle.shared_board.specs.Passes.{IsPass};
+    ghost use Rattle.shared_board.specs.Bare.{pass_of, IsSound};
     ghost use Rattle.shared_board.specs.Values.{PassValue};
 
     ghost Value = { PassValue G };
 
-    ghost view = { λ p. record { name = p.seat.table_id; view = p.seat.me.0; total = p.book.total; entries = p.book.entries } };
+    ghost view = { λ p. pass_of p.bare };
 
-    ghost invariant = { λ p. IsPass G.model p.seat.table_id.words p.seat.me.0 p.seat.me.1 p.book.total p.book.entries p.lead p.drawn p.held };
+    ghost invariant = { λ p. IsSound G.model p.bare };
 }
 
 /// A pass without what its type says of it, which its clauses say. A closure in generic code may take and return it.
@@ -37,6 +32,7 @@ pub struct BarePass<G> {
     pub book: Book,
     pub lead: bool,
     pub drawn: u32,
+    /// How many numbers it holds, and no more than the greatest number of the type.
     pub held: u32,
 }
 
@@ -45,7 +41,7 @@ impl<G: Game> Pass<G> {
     pub fn lead(&self) -> bool
         ensures { result ≡ self.now.view.lead }
     {
-        self.lead
+        self.bare.lead
     }
 
     /// The pass as its fields alone.
@@ -53,20 +49,8 @@ impl<G: Game> Pass<G> {
         ensures same { pass_of result ≡ self }
         ensures sound { IsSound G.model result }
     {
-        let Pass {
-            seat,
-            book,
-            lead,
-            drawn,
-            held,
-        } = self;
-        BarePass {
-            seat,
-            book,
-            lead,
-            drawn,
-            held,
-        }
+        let Pass { bare } = self;
+        bare
     }
 
     /// The pass of these fields.
@@ -74,19 +58,6 @@ impl<G: Game> Pass<G> {
         requires { IsSound G.model bare }
         ensures { result ≡ pass_of bare }
     {
-        let BarePass {
-            seat,
-            book,
-            lead,
-            drawn,
-            held,
-        } = bare;
-        Pass {
-            seat,
-            book,
-            lead,
-            drawn,
-            held,
-        }
+        Pass { bare }
     }
 }

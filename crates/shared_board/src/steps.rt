@@ -3,7 +3,6 @@ ghost use Rattle.std.specs.Prelude.{◌≡◌, ◌≢◌, ℕ, ◌+◌, ◌*◌,
 ghost use Rattle.bounds_board.specs.Views.{IsInnerKey};
 ghost use Rattle.shared_board.specs.Rule.{Has};
 ghost use Rattle.shared_board.specs.Plays.{more_keys, reading, posting, IsBound, IsApart, AllNamed, IsAt, IsSized, MayPost};
-ghost use Rattle.sim_game.specs.declared.Side.TheVariants.{One, Two};
 
 use crate::rule::{Claim, Cut, Raise, ReadLower, ReadUpper, Rules};
 use crate::view::View;
@@ -11,14 +10,14 @@ use atomic_table::{Seat, Shared};
 use bounds_board::row_behind;
 use sim_game::{Game, Side};
 
-pub(crate) type Words<G> = Shared<(), View<G>, (G, u32), Rules>;
+pub(crate) type SharedWords<G> = Shared<(), View<G>, (G, u32), Rules>;
 
-pub(crate) type Place<G> = Seat<(), View<G>>;
+pub(crate) type BoardSeat<G> = Seat<(), View<G>>;
 
 /// Finds the row of a key, or claims one for it.
 pub(crate) fn claim_row<G: Game>(
-    words: &Words<G>,
-    seat: &mut Place<G>,
+    words: &SharedWords<G>,
+    seat: &mut BoardSeat<G>,
     rows: u32,
     key: u64,
 ) -> Option<u32>
@@ -45,36 +44,32 @@ pub(crate) fn claim_row<G: Game>(
     None
 }
 
-/// Loads the lower bound of a row.
-pub(crate) fn load_lower<G: Game>(words: &Words<G>, seat: &mut Place<G>, rows: u32, row: u32) -> u64
+/// Loads the bound of a side in a row.
+pub(crate) fn load_word<G: Game>(
+    words: &SharedWords<G>,
+    seat: &mut BoardSeat<G>,
+    rows: u32,
+    side: Side,
+    row: u32,
+) -> u64
     requires board { IsSized words.now.table_id words.now.key.1 rows }
     requires seat { IsAt words.now.table_id seat.old.table_id seat.old.me }
     requires row { row < rows }
     ensures seat { IsAt words.now.table_id seat.new.table_id seat.new.me × (seat.new.id ≡ seat.old.id) }
-    ensures view { seat.new.me.0 ≡ reading One seat.old.me.0 row result }
+    ensures view { seat.new.me.0 ≡ reading side seat.old.me.0 row result }
     ensures apart { IsApart seat.old.me.0.keys }
-    ensures told { (g : G) → seat.old.me.0.game ≡ Some g → IsBound G.model One seat.old.me.0 row result g }
+    ensures told { (g : G) → seat.old.me.0.game ≡ Some g → IsBound G.model side seat.old.me.0 row result g }
 {
-    words.load::<ReadLower<G>>(seat, 3 * row as usize + 2)
-}
-
-/// Loads the upper bound of a row.
-pub(crate) fn load_upper<G: Game>(words: &Words<G>, seat: &mut Place<G>, rows: u32, row: u32) -> u64
-    requires board { IsSized words.now.table_id words.now.key.1 rows }
-    requires seat { IsAt words.now.table_id seat.old.table_id seat.old.me }
-    requires row { row < rows }
-    ensures seat { IsAt words.now.table_id seat.new.table_id seat.new.me × (seat.new.id ≡ seat.old.id) }
-    ensures view { seat.new.me.0 ≡ reading Two seat.old.me.0 row result }
-    ensures apart { IsApart seat.old.me.0.keys }
-    ensures told { (g : G) → seat.old.me.0.game ≡ Some g → IsBound G.model Two seat.old.me.0 row result g }
-{
-    words.load::<ReadUpper<G>>(seat, 3 * row as usize + 3)
+    match side {
+        Side::One => words.load::<ReadLower<G>>(seat, 3 * row as usize + 2),
+        Side::Two => words.load::<ReadUpper<G>>(seat, 3 * row as usize + 3),
+    }
 }
 
 /// Posts a bound for a side.
 pub(crate) fn post_word<G: Game>(
-    words: &Words<G>,
-    seat: &mut Place<G>,
+    words: &SharedWords<G>,
+    seat: &mut BoardSeat<G>,
     rows: u32,
     side: Side,
     row: u32,

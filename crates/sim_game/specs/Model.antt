@@ -57,6 +57,12 @@ abbrev pub after_history : {S : Type 0} → GameModel S → S → List Turn → 
 after_history m s [] = s
 after_history m s (t ∷ h) = after_history m (after_turn m s t) h
 
+-- some history leads from the one state to the other
+pub record LeadsTo {S : Type 0} (m : GameModel S) (s t : S) : Type 0 where
+  pub history : List Turn
+  pub legal : IsHistory m s history
+  pub leads : after_history m s history ≡ t
+
 -- some history leads from the root to the state
 pub record Reachable {S : Type 0} (m : GameModel S) (s : S) : Type 0 where
   pub history : List Turn

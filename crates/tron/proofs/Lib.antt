@@ -1,3 +1,3 @@
 mod Examples
-mod PositionLemmas
+pub mod PositionLemmas
 mod TrailLemmas

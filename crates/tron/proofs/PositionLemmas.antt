@@ -1,5 +1,5 @@
 -- The cells that a position names.
-use Rattle.std.proofs.Common.{◌≡◌, ℕ, ◌+◌, ◌*◌, ◌^◌, ◌<◌, ◌≤◌, ◌≢◌, false, eqb, leb, List, [], ◌∷◌, ◌++◌, length, get_or, None, position, refl, subst, ◌∙◌, inl, inr, arith}
+use Rattle.std.proofs.Common.{◌≡◌, ℕ, ◌+◌, ◌*◌, ◌^◌, ◌<◌, ◌≤◌, ◌≢◌, false, eqb, leb, List, [], ◌∷◌, ◌++◌, length, get_or, None, position, refl, sym, subst, ◌∙◌, inl, inr, arith}
 use Rattle.std.proofs.Math.Seq.{get_or-append_seam}
 use Rattle.std.proofs.lemmas.Bool.{cases_lt, lt-ltb, leb-false, eqb-false, ne_eqb}
 use Rattle.std.proofs.lemmas.Bool.Decides.{nat_tests}
@@ -12,8 +12,8 @@ use Rattle.std.specs.Int.{bit_at}
 use Rattle.std.specs.List.{All, list_any, position_or_len}
 use Rattle.tron.specs.declared.Setting.{Setting}
 use Rattle.tron.specs.Cells.{is_listed, with_cell, IsSetOf}
-use Rattle.tron.specs.CellLaws.{set_more, below_bits}
-use Rattle.tron.specs.Position.{is_outside, named_cells, first_fault, IsGrid, IsPosition}
+use Rattle.tron.specs.CellLaws.{set_more, same_set, below_bits}
+use Rattle.tron.specs.Position.{is_outside, named_cells, first_fault, IsGrid, IsSettingOf, IsPosition}
 
 pub none_past : (bound : ℕ) (cells : List ℕ) → position (λ cell. leb bound cell) cells ≡ None → All (λ cell. cell < bound) cells
 none_past bound cells none =
@@ -72,3 +72,11 @@ position_of g walls grid below one two s =
       two_on_grid = two;
       taken_on_grid = set_small (g.height * g.width) (named_cells walls g.one g.two) g.taken all s;
     }
+
+pub one_setting : (height width : ℕ) (walls : List ℕ) (one two : ℕ) (g h : Setting) → IsSettingOf height width walls one two g → IsSettingOf height width walls one two h → g ≡ h
+one_setting height width walls one two g h p q =
+    let made : ℕ → ℕ → ℕ → ℕ → ℕ → Setting = λ height width taken one two. record { height = height; width = width; taken = taken; one = one; two = two } in
+    let taken : g.taken ≡ h.taken = same_set g.taken h.taken (λ cell. p.taken_is.same cell ∙ sym (q.taken_is.same cell)) in
+    let e : made g.height g.width g.taken g.one g.two ≡ made h.height h.width h.taken h.one h.two =
+    rw (p.height_is ∙ sym q.height_is, p.width_is ∙ sym q.width_is, taken, p.one_is ∙ sym q.one_is, p.two_is ∙ sym q.two_is) refl in
+    e

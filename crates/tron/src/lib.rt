@@ -8,7 +8,9 @@ ghost use Rattle.tron.specs.Position.{first_fault, IsPosition, IsSettingOf};
 ghost use Rattle.tron.specs.Rules.{arena_of, directions_of, entered, goes_on, head_of, is_open, is_over, neighbour, number_of, tron_game, ways, KeepsRules};
 
 mod position;
+mod refusals;
 
+pub use position::position_has_one_game;
 use position::{cell_count, check_cells, is_taken, set_of, western_column, with_cell};
 use sim_game::{CHANCE, Game, Side};
 use state_key::{Key, put};

@@ -1,7 +1,8 @@
 //! Sets of cells, and the rules that the lists of a position keep.
-ghost use Rattle.std.specs.Prelude.{◌≡◌, ◌<◌, ◌≤◌, ◌^◌, ◌*◌, ◌%◌, ◌==◌, ℕ, nat_le, IfSome, All, length, position, MatchResult, None, Some};
+ghost use Rattle.std.specs.Prelude.{◌≡◌, ◌<◌, ◌≤◌, ◌^◌, ◌*◌, ◌%◌, ◌==◌, ℕ, List, nat_le, IfSome, All, length, position, MatchResult, None, Some};
 ghost use Rattle.tron.specs.Cells.{is_taken, with_cell, IsSetOf};
-ghost use Rattle.tron.specs.Position.{named_cells, cell_range};
+ghost use Rattle.tron.specs.declared.Setting.{Setting};
+ghost use Rattle.tron.specs.Position.{named_cells, cell_range, IsSettingOf};
 
 use crate::TronError;
 
@@ -90,3 +91,9 @@ pub(crate) fn set_of(cells: &[u8]) -> u64
     }
     taken
 }
+
+/// The same grid, walls and heads give one setting, and so one game.
+pub fn position_has_one_game()
+    ensures { (height width : ℕ) (walls : List ℕ) (one two : ℕ) (g h : Setting)
+        → IsSettingOf height width walls one two g → IsSettingOf height width walls one two h → g ≡ h }
+{}

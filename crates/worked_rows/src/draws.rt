@@ -1,10 +1,10 @@
 use crate::chance::OneInThree;
-use crate::steps::bound_state;
+use crate::steps::{bound_state, search_root, step_root};
 use bounds_board::PlainBoard;
 use matrix_game::Turns;
-use oracle_search::{OpenGate, SearchEnd, Settled, search};
+use oracle_search::SearchEnd;
 use restricted_game::{Restricted, StepEnd};
-use serial_ab::{SerialEnd, Visits};
+use serial_ab::SerialEnd;
 use sim_game::{Game, Side, opening_bound, resolution};
 use std::test::Fail;
 
@@ -24,7 +24,7 @@ fn a_step_rounds_for_each_side(rt: HostRuntime) -> Result<(), Fail> {
     let g = OneInThree;
     let mut board = PlainBoard::new(rt.alloc(), g, 1, 8192)?;
     let mut held = Restricted::new(rt.alloc(), 1, 1, (0, 0))?;
-    let end = held.step(g, g.root(), &mut board, &mut Turns::new(1));
+    let end = step_root(g, &mut held, &mut board, &mut Turns::new(1));
     let want = StepEnd::Done {
         lower: 333333,
         upper: 333334,
@@ -37,21 +37,9 @@ fn a_step_rounds_for_each_side(rt: HostRuntime) -> Result<(), Fail> {
 fn a_search_settles_above_a_gap_of_nothing(rt: HostRuntime) -> Result<(), Fail> {
     let g = OneInThree;
     let mut board = PlainBoard::new(rt.alloc(), g, 1, 8192)?;
-    let mut turns = Turns::new(1);
-    let end = search(
-        rt.alloc(),
-        g,
-        g.root(),
-        0,
-        0,
-        &OpenGate,
-        &mut turns,
-        &mut Visits::new(1000),
-        &mut Settled::new(rt.alloc()),
-        &mut board,
-    )?;
+    let (end, turns) = search_root(rt.alloc(), g, 1, 1000, &mut board)?;
     assert_eq!(rt; end, SearchEnd::Settled);
-    assert_eq!(rt; turns.spent(), 1);
+    assert_eq!(rt; turns, 1);
     assert_eq!(rt; resolution(g, 8192), 15627);
     Ok(())
 }

@@ -14,8 +14,12 @@ mod games;
 #[cfg(test)]
 mod passes;
 #[cfg(test)]
+mod played;
+#[cfg(test)]
 mod reports;
 #[cfg(test)]
 mod steps;
 #[cfg(test)]
 mod workers;
+#[cfg(test)]
+mod worst_cases;

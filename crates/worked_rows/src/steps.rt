@@ -7,10 +7,10 @@ ghost use Rattle.sim_game.specs.Model.{Reachable};
 use crate::games::{four_cards, two_cards};
 use bounds_board::{BoardFault, Bounds, PlainBoard};
 use matrix_game::Turns;
-use oracle_search::{OpenGate, SearchEnd, Settled, search};
+use oracle_search::{OpenGate, SearchEnd, Setup, Worker, search};
 use restricted_game::{Restricted, StepEnd, StepFault};
 use serial_ab::{SerialEnd, Visits, serial};
-use sim_game::{Game, Side, opening_bound};
+use sim_game::{Game, NoMemory, Side, opening_bound};
 use std::alloc::Global;
 use std::process::Abort;
 use std::test::Fail;
@@ -74,7 +74,7 @@ pub(crate) fn bound_pairs<G: Game, B: Bounds<G>>(
 }
 
 // Makes a step at the root.
-fn step_root<G: Game, B: Bounds<G>>(
+pub(crate) fn step_root<G: Game, B: Bounds<G>>(
     g: G,
     held: &mut Restricted,
     board: &mut B,
@@ -88,9 +88,34 @@ fn step_root<G: Game, B: Bounds<G>>(
     ensures rows { held.new.most_rows ≡ held.old.most_rows }
     ensures cols { held.new.most_cols ≡ held.old.most_cols }
 {
-    match held.step(g, g.root(), board, turns) {
-        Ok(end) => Ok(end),
-        Err(fault) => Err(fault),
+    let root = g.root();
+    match board.claim(g.key(root)) {
+        Ok(row) => held.step(g, root, row, board, turns),
+        Err(_) => Err(StepFault::Full),
+    }
+}
+
+// Searches the root for a gap of nothing: how that ended, and how many turns it took.
+pub(crate) fn search_root<G: Game, B: Bounds<G>>(
+    alloc: Global,
+    g: G,
+    turns: u64,
+    visits: u64,
+    board: &mut B,
+) -> Result<(SearchEnd, u64), NoMemory>
+    requires game { (B.view board.old).game ≡ g }
+    ensures later { IsLater (B.view board.old) (B.view board.new) }
+{
+    let setup = Setup {
+        alloc,
+        game: g,
+        worker: 0,
+        gate: &OpenGate,
+    };
+    let mut worker = Worker::new(alloc, Turns::new(turns), Visits::new(visits));
+    match search(&setup, g.root(), 0, &mut worker, board) {
+        Ok(end) => Ok((end, worker.turns().spent())),
+        Err(_) => Err(NoMemory),
     }
 }
 
@@ -177,19 +202,7 @@ fn a_step_without_a_turn_changes_nothing(rt: HostRuntime) -> Result<(), Fail> {
 fn a_search_leaves_most_states_out(rt: HostRuntime) -> Result<(), Fail> {
     let g = four_cards(&rt);
     let mut board = PlainBoard::new(rt.alloc(), g, 48, 65536)?;
-    let mut settled = Settled::new(rt.alloc());
-    let end = search(
-        rt.alloc(),
-        g,
-        g.root(),
-        0,
-        0,
-        &OpenGate,
-        &mut Turns::new(1000),
-        &mut Visits::new(0),
-        &mut settled,
-        &mut board,
-    )?;
+    let (end, _turns) = search_root(rt.alloc(), g, 1000, 0, &mut board)?;
     assert_eq!(rt; end, SearchEnd::Reached, "69 states are no ends");
     assert_eq!(rt; root_bounds(&rt, g, &mut board), Some((4000000, 4000000)));
     Ok(())

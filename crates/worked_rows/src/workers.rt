@@ -2,12 +2,11 @@ ghost use Rattle.std.specs.Prelude.{◌≡◌, ◌≤◌};
 
 use crate::games::two_cards;
 use crate::reports::CARDS;
+use crate::steps::search_root;
 use certificate::{Ask, read, write};
 use lazy_workers::solve;
-use matrix_game::Turns;
-use oracle_search::{Gate, OpenGate, SearchEnd, Settled, search};
+use oracle_search::{Gate, OpenGate, SearchEnd};
 use seq::Seq;
-use serial_ab::Visits;
 use shared_board::{Board, Desk, Kept};
 use sim_game::Game;
 use std::alloc::Global;
@@ -102,21 +101,9 @@ fn a_search_through_a_desk(rt: HostRuntime) -> Result<(), Fail> {
     let alloc = rt.alloc();
     let (board, lead) = Board::create(alloc, g, 1024, 65536)?;
     let mut desk = Desk::new(&board, lead);
-    let mut turns = Turns::new(1000);
-    let end = search(
-        alloc,
-        g,
-        g.root(),
-        0,
-        0,
-        &OpenGate,
-        &mut turns,
-        &mut Visits::new(1000),
-        &mut Settled::new(alloc),
-        &mut desk,
-    )?;
+    let (end, turns) = search_root(alloc, g, 1000, 1000, &mut desk)?;
     assert_eq!(rt; end, SearchEnd::Reached);
-    assert_eq!(rt; turns.spent(), 3);
+    assert_eq!(rt; turns, 3);
     let lead = desk.into_pass();
     let Ok(closed) = board.close(lead) else {
         panic!(rt; "each pass was joined");

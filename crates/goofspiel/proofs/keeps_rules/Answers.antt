@@ -1,7 +1,7 @@
 use Rattle.std.proofs.Common.{ℕ, take, length, refl, ap, ◌∙◌}
 use Rattle.std.proofs.lemmas.List.{nil_from_length}
-use Rattle.goofspiel.specs.CardLaws.{cards_increase, cards_hand}
-use Rattle.goofspiel.specs.Laws.{sound, one_bid, two_bid, same_hands, goofspiel_is_game}
+use Rattle.goofspiel.specs.DealLaws.{same_hands, is_deal}
+use Rattle.goofspiel.specs.Laws.{gone, sound, bids_for, goofspiel_is_game}
 use Rattle.goofspiel.specs.Rules.{deal_of}
 use Rattle.goofspiel.proofs.HandLemmas.{array_prizes}
 use Rattle.goofspiel.proofs.keeps_rules.Goals as goal
@@ -13,12 +13,8 @@ returns c =
     record {
       root = λ one two prizes score pay is. same_hands _ _ is.one_is is.two_is is.score_is;
       prizes = λ one two prizes score pay is. ap (λ (n : ℕ). take n g.prizes) is.count_is ∙ array_prizes prizes g.prizes is.prizes_are;
-      is_deal = λ s r. let here = sound g p s r in record {
-        one_hand = (cards_increase s.one, cards_hand s.one here.one_small);
-        two_hand = (cards_increase s.two, cards_hand s.two here.two_small);
-        one_length = here.same_count;
-      };
-      follows = λ s t r turn. let here = sound g p s r in same_hands _ _ (one_bid g p s t here turn).again (two_bid g p s t here turn).again refl;
+      is_deal = λ s r. is_deal g (gone g s) s (sound g p s r);
+      follows = λ s t r turn. (bids_for g p s t (sound g p s r) turn).follows;
       moves = λ side s. refl;
       label = λ side s i. refl;
       rank = λ s. refl;

@@ -1,48 +1,52 @@
 use Rattle.std.proofs.Common.{ℕ, ◌+◌, ◌-◌, ◌*◌, ◌<◌, Contains, slice_index}
 use Rattle.restricted_game.specs.Held.{count_held}
-use Rattle.oracle_search.specs.Searches.{at_work, IsDone, AreDone}
+use Rattle.oracle_search.specs.Workers.{at_work}
+use Rattle.oracle_search.specs.Searches.{IsDone, AreDone}
 use Rattle.oracle_search.proofs.GrowLemmas.{IsPassed, IsGrowing}
 use Rattle.oracle_search.proofs.+search.Given as goal
 
 abbrev pub decreases-children::search_child : goal.decreases-children::search_child
-decreases-children::search_child g l = 8 * (g.G.Game.model l.g).rank l.s + 8
+decreases-children::search_child g l = 8 * (g.G.Game.model l.setup.now.game).rank l.s + 8
 
 abbrev pub decreases-children::search_children : goal.decreases-children::search_children
-decreases-children::search_children g l = 8 * (g.G.Game.model l.g).rank l.s + 4
+decreases-children::search_children g l = 8 * (g.G.Game.model l.setup.now.game).rank l.s + 4
 
 abbrev pub decreases-children::search_draws : goal.decreases-children::search_draws
-decreases-children::search_draws g l = 8 * (g.G.Game.model l.g).rank l.s + 2
+decreases-children::search_draws g l = 8 * (g.G.Game.model l.setup.now.game).rank l.s + 2
 
 abbrev pub decreases-children::search_row_children : goal.decreases-children::search_row_children
-decreases-children::search_row_children g l = 8 * (g.G.Game.model l.g).rank l.s + 3
+decreases-children::search_row_children g l = 8 * (g.G.Game.model l.setup.now.game).rank l.s + 3
 
 abbrev pub decreases-growth::grow : goal.decreases-growth::grow
-decreases-growth::grow g l = 8 * (g.G.Game.model l.g).rank l.s + 5
+decreases-growth::grow g l = 8 * (g.G.Game.model l.setup.now.game).rank l.s + 5
 
-abbrev pub decreases-state::search : goal.decreases-state::search
-decreases-state::search g l = 8 * (g.G.Game.model l.g).rank l.s + 7
+abbrev pub decreases-state::search_state : goal.decreases-state::search_state
+decreases-state::search_state g l = 8 * (g.G.Game.model l.setup.now.game).rank l.s + 7
 
 abbrev pub decreases-state::search_row : goal.decreases-state::search_row
-decreases-state::search_row g l = 8 * (g.G.Game.model l.g).rank l.s + 6
+decreases-state::search_row g l = 8 * (g.G.Game.model l.setup.now.game).rank l.s + 6
 
 abbrev pub invariant-children::search_children-loop-one : goal.invariant-children::search_children-loop-one
 invariant-children::search_children-loop-one g l =
-    IsPassed (g.G.Game.model l.g) ((g.G.Game.model l.g).rank l.s) (at_work (g.B.Bounds.view l.initial.board) l.initial.turns l.initial.visits l.initial.settled) (at_work (g.B.Bounds.view l.board) l.turns l.visits l.settled)
-    ((i two : ℕ) → i < l.one-index → Contains l.cols two → AreDone (g.G.Game.model l.g) (g.B.Bounds.view l.board) l.s (slice_index l.rows i) two)
+    let m = g.G.Game.model l.setup.game in
+    IsPassed m l.s (m.rank l.s) (at_work (g.B.Bounds.view l.initial.board) l.initial.worker) (at_work (g.B.Bounds.view l.board) l.worker)
+    ((i two : ℕ) → i < l.one-index → Contains l.cols two → AreDone m (g.B.Bounds.view l.board) l.s (slice_index l.rows i) two)
 
 abbrev pub invariant-children::search_draws-loop-draw : goal.invariant-children::search_draws-loop-draw
 invariant-children::search_draws-loop-draw g l =
-    IsPassed (g.G.Game.model l.g) ((g.G.Game.model l.g).rank l.s) (at_work (g.B.Bounds.view l.initial.board) l.initial.turns l.initial.visits l.initial.settled) (at_work (g.B.Bounds.view l.board) l.turns l.visits l.settled)
-    ((d : ℕ) → d < l.draw → IsDone (g.G.Game.model l.g) (g.B.Bounds.view l.board) ((g.G.Game.model l.g).drawn l.s l.one l.two d))
+    let m = g.G.Game.model l.setup.game in
+    IsPassed m l.s (m.rank l.s) (at_work (g.B.Bounds.view l.initial.board) l.initial.worker) (at_work (g.B.Bounds.view l.board) l.worker)
+    ((d : ℕ) → d < l.draw → IsDone m (g.B.Bounds.view l.board) (m.drawn l.s l.one l.two d))
 
 abbrev pub invariant-children::search_row_children-loop-two : goal.invariant-children::search_row_children-loop-two
 invariant-children::search_row_children-loop-two g l =
-    IsPassed (g.G.Game.model l.g) ((g.G.Game.model l.g).rank l.s) (at_work (g.B.Bounds.view l.initial.board) l.initial.turns l.initial.visits l.initial.settled) (at_work (g.B.Bounds.view l.board) l.turns l.visits l.settled)
-    ((j : ℕ) → j < l.two-index → AreDone (g.G.Game.model l.g) (g.B.Bounds.view l.board) l.s l.one (slice_index l.cols j))
+    let m = g.G.Game.model l.setup.game in
+    IsPassed m l.s (m.rank l.s) (at_work (g.B.Bounds.view l.initial.board) l.initial.worker) (at_work (g.B.Bounds.view l.board) l.worker)
+    ((j : ℕ) → j < l.two-index → AreDone m (g.B.Bounds.view l.board) l.s l.one (slice_index l.cols j))
 
 abbrev pub invariant-growth::grow-growth : goal.invariant-growth::grow-growth
 invariant-growth::grow-growth g l =
-    IsGrowing (g.G.Game.model l.g) l.s (at_work (g.B.Bounds.view l.initial.board) l.initial.turns l.initial.visits l.initial.settled) (at_work (g.B.Bounds.view l.board) l.turns l.visits l.settled) l.held
+    IsGrowing (g.G.Game.model l.setup.game) l.s (at_work (g.B.Bounds.view l.initial.board) l.initial.worker) (at_work (g.B.Bounds.view l.board) l.worker) l.held
 
 abbrev pub decreases-growth::grow-growth : goal.decreases-growth::grow-growth
 decreases-growth::grow-growth g l = 64 - count_held l.held

@@ -1,5 +1,5 @@
 use Rattle.std.proofs.Common.{◌≡◌, length}
-use Rattle.certificate.specs.Reading.{naturals_in}
+use Rattle.certificate.specs.Readers.{naturals_in}
 use Rattle.certificate.proofs.ListLemmas.{behind}
 use Rattle.certificate.proofs.lists.weights.Given as goal
 

@@ -2,10 +2,11 @@ use Rattle.std.proofs.Common.{rules, arith, ◌≡◌, nat_cmp}
 use Rattle.std.specs.BTreeMap.{get}
 use Rattle.plan_book.specs.Children.{children_of}
 use Rattle.plan_book.specs.Sheets.{row_at}
+use Rattle.plan_book.proofs.PlayedLemmas.{row_found_at}
 use Rattle.plan_book.proofs.SheetLemmas.{reached_reachable}
 use Rattle.plan_book.proofs.WalkLemmas.{walk_start, walk_more, walk_done, item_below, some_is}
 use Rattle.checker.specs.Found.{marks}
-use Rattle.checker.proofs.FoundLemmas.{row_of, weights_of, marks_more, states_more}
+use Rattle.checker.proofs.FoundLemmas.{weights_of, marks_more, states_more}
 use Rattle.checker.proofs.reach.+gather.Goals as goal
 
 pub key-key-requires : goal.key-key-requires
@@ -20,7 +21,7 @@ loop-child-init g t c =
     let sheet = c.args.sheet.now in
     let before = get nat_cmp c.args.found.now in
     let now = get nat_cmp c.insert.new.self in
-    let row = row_of sheet.rows c.as_slice-rows.result.now (m.key c.args.s) c.key-key.result c.in-Some.place c.index-rows-place.result c.as_slice-rows.ensures c.key-key.ensures c.in-Some.ensures.found c.in-Some.ensures.within
+    let row = row_found_at sheet.rows c.as_slice-rows.result.now (m.key c.args.s) c.key-key.result c.in-Some.place c.index-rows-place.result c.as_slice-rows.ensures c.key-key.ensures c.in-Some.ensures.found c.in-Some.ensures.within
     c.index-rows-place.is in
     record {
       walk = walk_start m sheet.side (row_at sheet.rows) c.args.s c.deref-child-items.result.now 0 (marks before) (marks now) c.requires.reached (some_is _ _ row)
@@ -32,7 +33,7 @@ pub gather-requires : goal.gather-requires
 gather-requires g t c κs within =
     let m = g.G.Game.model c.args.g in
     let sheet = c.args.sheet.now in
-    let row = row_of sheet.rows c.as_slice-rows.result.now (m.key c.args.s) c.key-key.result c.in-Some.place c.index-rows-place.result c.as_slice-rows.ensures c.key-key.ensures c.in-Some.ensures.found c.in-Some.ensures.within
+    let row = row_found_at sheet.rows c.as_slice-rows.result.now (m.key c.args.s) c.key-key.result c.in-Some.place c.index-rows-place.result c.as_slice-rows.ensures c.key-key.ensures c.in-Some.ensures.found c.in-Some.ensures.within
     c.index-rows-place.is in
     let weights = weights_of c.as_slice-rows.result.now c.in-Some.place c.index-rows-place.result c.as_slice.result.now c.index-rows-place.is c.as_slice.ensures in
     let items : c.deref-child-items.result.now ≡ children_of m sheet.side c.as_slice.result.now c.args.s = rw c.deref-child-items.ensures.value c.in_ok-below.ensures in
@@ -51,7 +52,7 @@ pub returns-clause-gathered : goal.returns-clause-gathered
 returns-clause-gathered g t c =
     let m = g.G.Game.model c.args.g in
     let sheet = c.args.sheet.now in
-    let row = row_of sheet.rows c.as_slice-rows.result.now (m.key c.args.s) c.key-key.result c.in-Some.place c.index-rows-place.result c.as_slice-rows.ensures c.key-key.ensures c.in-Some.ensures.found c.in-Some.ensures.within
+    let row = row_found_at sheet.rows c.as_slice-rows.result.now (m.key c.args.s) c.key-key.result c.in-Some.place c.index-rows-place.result c.as_slice-rows.ensures c.key-key.ensures c.in-Some.ensures.found c.in-Some.ensures.within
     c.index-rows-place.is in
     let weights = weights_of c.as_slice-rows.result.now c.in-Some.place c.index-rows-place.result c.as_slice.result.now c.index-rows-place.is c.as_slice.ensures in
     let items : c.deref-child-items.result.now ≡ children_of m sheet.side c.as_slice.result.now c.args.s = rw c.deref-child-items.ensures.value c.in_ok-below.ensures in

@@ -10,19 +10,8 @@ use Rattle.plan_book.proofs.gather.+gather.Goals as goal
 pub key-key-requires : goal.key-key-requires
 key-key-requires g t c = reached_reachable _ c.args.side (best_row c.args.side c.args.entries.now) c.args.s c.requires.reached
 
-pub children-requires-clause-reachable : goal.children-requires-clause-reachable
-children-requires-clause-reachable g t c = reached_reachable _ c.args.side (best_row c.args.side c.args.entries.now) c.args.s c.requires.reached
-
-pub children-requires-clause-weights : goal.children-requires-clause-weights
-children-requires-clause-weights g t c =
-    let m = g.G.Game.model c.args.g in
-    let entries = c.args.entries.now in
-    let e = c.index-entries-place.result in
-    let place : get nat_cmp c.args.best.now (m.key c.args.s) ≡ Some c.in-Some.field-0.now = ap (λ (k : ℕ). get nat_cmp c.args.best.now k) (sym c.key-key.ensures) ∙ sym c.in-Some.ensures.value in
-    let entry = entry_here c.args.side entries (get nat_cmp c.args.best.now) (m.key c.args.s) c.in-Some.field-0.now e c.requires.places place c.index-entries-place.is in
-    let row = row_here c.args.side entries (m.key c.args.s) e entry in
-    let weights : e.weights ≡ c.as_slice.result.now = ap (λ (x : Entry). x.weights) c.index-entries-place.is ∙ sym c.as_slice.ensures in
-    rw (← weights) (c.requires.fit.one_each c.args.s e (reached_reachable _ c.args.side (best_row c.args.side entries) c.args.s c.requires.reached) entry)
+pub children-requires : goal.children-requires
+children-requires g t c = reached_reachable _ c.args.side (best_row c.args.side c.args.entries.now) c.args.s c.requires.reached
 
 pub loop-child-init : goal.loop-child-init
 loop-child-init g t c =
@@ -49,7 +38,6 @@ gather-requires g t c =
     c.requires.reached row weights (rw (← items) c.loop-child-test.true) (rw (← items) c.child-item.is) in
     let lower : (g.G.Game.model c.args.g).rank c.child-item.result < t = omega (arith, below.lower, c.decreases) in
     let reached = below.reached in
-    let fit = c.requires.fit in
     let places = c.requires.places in
     search rules
 

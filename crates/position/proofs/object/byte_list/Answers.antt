@@ -1,4 +1,4 @@
-use Rattle.position.specs.Position.{bytes_at}
+use Rattle.position.specs.Objects.{bytes_at}
 use Rattle.position.proofs.ValueLemmas.{list_of-items_view}
 use Rattle.position.proofs.object.byte_list.Goals as goal
 

@@ -1,4 +1,4 @@
-use Rattle.position.specs.Building.{HasShortLists-in_range}
+use Rattle.position.specs.Games.{HasShortLists-in_range}
 use Rattle.position.proofs.reading.task_in.Goals as goal
 
 pub build-requires : goal.build-requires

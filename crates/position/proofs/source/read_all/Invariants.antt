@@ -5,8 +5,8 @@ use Rattle.position.proofs.source.read_all.Given as goal
 abbrev pub invariant-pieces : goal.invariant-pieces
 invariant-pieces g l = record {
   within : vec_len l.bytes ≤ l.limit;
-  front : Consumes (g.S.Source.left l.initial.source) (g.S.Source.left l.source) l.bytes.items;
-  later : g.S.Source.faults l.initial.source ≤ g.S.Source.faults l.source;
+  front : Consumes (g.S.Source.state l.initial.source).left (g.S.Source.state l.source).left l.bytes.items;
+  later : (g.S.Source.state l.initial.source).faults ≤ (g.S.Source.state l.source).faults;
 }
 
 abbrev pub decreases-pieces : goal.decreases-pieces

@@ -2,7 +2,7 @@ use Rattle.std.proofs.Common.{rules, ◌≡◌, ◌<◌, ◌≤◌, ℕ, unsigne
 use Rattle.std.proofs.lemmas.Int.{to_z-of_z}
 use Rattle.sums.specs.Sums.{sum_below}
 use Rattle.plan_book.specs.Steps.{rounded}
-use Rattle.restricted_game.specs.Numbers.{bound_in}
+use Rattle.bounds_board.specs.Views.{bound_in}
 use Rattle.restricted_game.specs.Tables.{enclosure_in}
 use Rattle.restricted_game.proofs.CellLemmas.{chance_light, cell_small, sum_step}
 use Rattle.restricted_game.proofs.cells.pair_cell.Goals as goal

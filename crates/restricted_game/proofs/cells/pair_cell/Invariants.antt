@@ -1,6 +1,6 @@
 use Rattle.std.proofs.Common.{◌≡◌, ◌*◌, ◌≤◌, pos, ◌*ℤ◌, unsigned_abs}
 use Rattle.sums.specs.Sums.{sum_below}
-use Rattle.restricted_game.specs.Numbers.{bound_in}
+use Rattle.bounds_board.specs.Views.{bound_in}
 use Rattle.restricted_game.specs.Tables.{enclosure_in}
 use Rattle.restricted_game.proofs.cells.pair_cell.Given as goal
 

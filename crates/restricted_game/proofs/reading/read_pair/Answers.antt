@@ -15,6 +15,11 @@ read_state-requires-clause-reachable g c =
     subst (Reachable m) (sym c.drawn.ensures)
     (reachable_turn m c.args.s (record { one = c.args.one; two = c.args.two; draw = c.loop-draw.draw }) c.requires.reachable (record { one_below = c.requires.one; two_below = c.requires.two; draw_below = below }))
 
+pub returns-in-Err-clause-full : goal.returns-in-Err-clause-full
+returns-in-Err-clause-full g c =
+    let below : c.loop-draw.draw < (g.G.Game.model c.args.g).draws c.args.s c.args.one c.args.two = search rules in
+    record { state = c.drawn.result; is_asked = record { draw = c.loop-draw.draw; draw_below = below; leads = sym c.drawn.ensures }; full = c.in-Err.ensures.full }
+
 pub loop-draw-preserved : goal.loop-draw-preserved
 loop-draw-preserved g c =
     let m = g.G.Game.model c.args.g in

@@ -2,6 +2,7 @@ use Rattle.std.proofs.Common.{rules, ◌+◌, ◌*◌, ◌/◌, ◌%◌, ◌<◌
 use Rattle.std.proofs.Math.Nat.{mul-le-mul_right}
 use Rattle.std.proofs.lemmas.Nat.{div-add-mod'}
 use Rattle.sim_game.specs.declared.Side.TheVariants.{One, Two}
+use Rattle.bounds_board.proofs.FullLemmas.{full_weaker}
 use Rattle.bounds_board.proofs.ViewLemmas.{later_refl, later_trans}
 use Rattle.restricted_game.specs.Numbers.{IsWanted}
 use Rattle.restricted_game.proofs.TableLemmas.{filled_more, filled_skip}
@@ -21,6 +22,13 @@ read_pair-requires-clause-room g c =
 
 pub returns-in-Err-clause-later : goal.returns-in-Err-clause-later
 returns-in-Err-clause-later g c = later_trans _ _ _ c.loop-pair.invariant.later c.in-Err.ensures.later
+
+pub returns-in-Err-clause-full : goal.returns-in-Err-clause-full
+returns-in-Err-clause-full g c =
+    let one : c.loop-pair.pair / c.moves-width.result < (g.G.Game.model c.args.g).moves One c.args.s = search rules in
+    let two : c.loop-pair.pair % c.moves-width.result < (g.G.Game.model c.args.g).moves Two c.args.s = search rules in
+    let wanted : IsWanted c.args.rows.now c.args.cols.now (c.loop-pair.pair / c.moves-width.result) (c.loop-pair.pair % c.moves-width.result) = search rules in
+    full_weaker _ _ _ _ (λ t drawn. record { one = _; two = _; one_below = one; two_below = two; wanted = wanted; drawn = drawn }) c.in-Err.ensures.full
 
 pub loop-pair-preserved : goal.loop-pair-preserved
 loop-pair-preserved g c =

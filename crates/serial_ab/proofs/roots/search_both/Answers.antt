@@ -1,5 +1,6 @@
 use Rattle.std.proofs.Common.{◌∙◌}
 use Rattle.sim_game.specs.declared.Side.TheVariants.{Two}
+use Rattle.sim_game.specs.Model.{LeadsTo}
 use Rattle.plan_book.specs.Serial.{tree_size}
 use Rattle.serial_ab.proofs.RootLemmas.{cut_before, no_room}
 use Rattle.serial_ab.proofs.roots.search_both.Goals as goal
@@ -20,10 +21,10 @@ returns-in-Err-Full-search_root-clause-ends g c =
     let first = c.in-Ok.ensures.ends in
     let second = rw c.in-Err-Full-search_root.field-0-is at c.in-Err-Full-search_root.ensures.ends in
     let rows = c.search_root-in-Ok.ensures.kept.later.rows ∙ c.search_root.ensures.kept.later.rows in
-    (c.requires.searched, first.had_left c.requires.searched, no_room m (g.B.Bounds.view c.search_root-in-Ok.new.board) (g.B.Bounds.view c.args.board.now).rows rows second.1)
+    (c.requires.searched, first.had_left c.requires.searched, no_room m (g.B.Bounds.view c.search_root-in-Ok.new.board) (LeadsTo m m.root) (g.B.Bounds.view c.args.board.now).rows rows second.1)
 
 pub returns-in-Err-Full-clause-ends : goal.returns-in-Err-Full-clause-ends
 returns-in-Err-Full-clause-ends g c =
     let m = g.G.Game.model c.args.g in
     let first = rw c.in-Err-Full.field-0-is at c.in-Err-Full.ensures.ends in
-    (c.requires.searched, first.0, no_room m (g.B.Bounds.view c.search_root.new.board) (g.B.Bounds.view c.args.board.now).rows c.search_root.ensures.kept.later.rows first.1)
+    (c.requires.searched, first.0, no_room m (g.B.Bounds.view c.search_root.new.board) (LeadsTo m m.root) (g.B.Bounds.view c.args.board.now).rows c.search_root.ensures.kept.later.rows first.1)

@@ -17,4 +17,4 @@ returns-clause-ends g c =
     let worse : SFits w64 c.opening_bound-worse.result = search rules in
     let better : SFits w64 c.opening_bound-better.result = search rules in
     let ends = rw (to_z-of_z w64 c.opening_bound-worse.result worse, to_z-of_z w64 c.opening_bound-better.result better, c.opening_bound-worse.ensures, c.opening_bound-better.ensures, c.other.ensures, c.root-root.ensures) at c.search_state.ensures.ends in
-    root_ends (g.G.Game.model c.args.g) (g.met.G.Game.lawful c.args.g) c.args.side (g.B.Bounds.view c.search_state.new.board) c.args.visits.now c.search_state.new.visits c.search_state.result c.requires.searched c.search_state.ensures.none_left c.search_state.ensures.entered ends
+    root_ends (g.G.Game.model c.args.g) (g.met.G.Game.lawful c.args.g) c.args.side (g.B.Bounds.view c.search_state.new.board) c.args.visits.now c.search_state.new.visits c.search_state.result c.requires.searched c.search_state.ensures.none_left (c.search_state.ensures.below (rw c.root-root.ensures c.requires.searched.goes_on)) ends

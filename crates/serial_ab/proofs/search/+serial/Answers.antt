@@ -2,7 +2,7 @@ use Rattle.std.proofs.Common.{rules, length, Err, ◌≡◌, ◌<◌, ℕ, [], �
 use Rattle.std.proofs.lemmas.Int.{ints, to_z-of_z}
 use Rattle.std.proofs.lemmas.Grind.{common_steps}
 use Rattle.sums.specs.Sums.{sum_below, count_below}
-use Rattle.sim_game.specs.Model.{Reachable}
+use Rattle.sim_game.specs.Model.{Reachable, LeadsTo}
 use Rattle.sim_game.specs.Sides.{other_side, draws_of, child_of, chance_of, better}
 use Rattle.plan_book.specs.Entries.{concat_below}
 use Rattle.plan_book.specs.Serial.{tree_size, serial_bound}
@@ -13,9 +13,9 @@ use Rattle.serial_ab.specs.Values.{pair_value, pair_nodes, move_nodes, inner_nod
 use Rattle.serial_ab.specs.Searches.{IsWindow, IsReplied, IsFound, IsMoveFound, IsPairFound, IsGoodNumber}
 use Rattle.serial_ab.proofs.CountLemmas.{counts_none, cut_after}
 use Rattle.serial_ab.proofs.DrawLemmas.{product_fits, added_fits, added_is, listed_more, good_more, sum_low}
-use Rattle.serial_ab.proofs.KeptLemmas.{kept_none, kept_after, kept_counted, kept_quiet, kept_posted, part_kept, part_more, part_cut, stops_more, ends_more}
+use Rattle.serial_ab.proofs.KeptLemmas.{kept_none, kept_after, kept_counted, kept_quiet, kept_posted, part_kept, part_more, part_cut, stops_below, stops_more, ends_more, ok_more}
 use Rattle.serial_ab.proofs.SearchLemmas.{MovesSoFar, RepliesSoFar, moves_start, move_window, pair_window, moves_stop, moves_more, moves_end, replies_start, replies_stop, replies_more, replies_end, part_of, pair_one, pair_several, whole_window, whole_range}
-use Rattle.serial_ab.proofs.ValueLemmas.{tree_moves, child_is, child_lower}
+use Rattle.serial_ab.proofs.ValueLemmas.{tree_moves, child_is, child_lower, some_draws, full_below}
 use Rattle.serial_ab.proofs.search.+serial.Given as given
 use Rattle.serial_ab.proofs.search.+serial.Goals as goal
 use Rattle.serial_ab.proofs.search.+serial.Goals.{search_draws-After-drawn-child, search_draws-After-chance, search_move-After-is_tighter, search_moves-After-is_tighter, search_pair-After-drawn-child}
@@ -44,7 +44,7 @@ number g t c =
     (at, rw (c.move_of_one-one.ensures, c.move_of_two-two.ensures) at c.chance.ensures, is.0, is.1)
 
 pub search_draws-loop-d-init : goal.search_draws-loop-d-init
-search_draws-loop-d-init g t c = record { kept = kept_none; summed = refl; listed = sym (append-nil c.args.reads.now.items); good = λ d h. absurd (omega arith) }
+search_draws-loop-d-init g t c = record { kept = kept_none; below = λ some. absurd (omega arith); summed = refl; listed = sym (append-nil c.args.reads.now.items); good = λ d h. absurd (omega arith) }
 
 pub search_draws-search_state-requires : goal.search_draws-search_state-requires
 search_draws-search_state-requires g t c =
@@ -84,9 +84,11 @@ search_draws-returns-in_err-found g t c =
     let stopped : c.from_residual.result ≡ Err c.in_err-found.field-0.0 = search rules in
     record {
       kept = part_kept nodes c.loop-d.d (draws_of m c.args.side c.args.s c.args.own c.args.reply) c.loop-d.invariant.kept d.0 (rw d.1 at c.search_state.ensures.kept);
-      ends = rw stopped (λ floor ceiling. stops_more (WasFull m (g.B.Bounds.view c.search_state.new.board)) c.in_err-found.field-0.0
+      ends = rw stopped (λ floor ceiling. stops_below (WasFull m (g.B.Bounds.view c.search_state.new.board) (LeadsTo m c.drawn-child.result)) (WasFull m (g.B.Bounds.view c.search_state.new.board) (LeadsTo m c.args.s)) c.in_err-found.field-0.0
           (λ (cut : IsCut c.args.side (tree_size m c.drawn-child.result) c.loop-d.visits c.search_state.new.visits). part_cut nodes c.loop-d.d (draws_of m c.args.side c.args.s c.args.own c.args.reply) c.loop-d.invariant.kept d.0 (rw d.1 at cut))
+          (λ (full : WasFull m (g.B.Bounds.view c.search_state.new.board) (LeadsTo m c.drawn-child.result)). full_below m (g.met.G.Game.lawful c.args.g.now) (g.B.Bounds.view c.search_state.new.board) c.args.side c.args.s c.args.own c.args.reply c.loop-d.d c.requires.own_move c.requires.reply d.0 (rw d.1 at full))
           c.in_err-found.ensures.ends);
+      below = search rules;
     }
 
 pub search_draws-loop-d-preserved : goal.search_draws-loop-d-preserved
@@ -97,6 +99,7 @@ search_draws-loop-d-preserved g t c =
     let d = drawn g t here.After-drawn-child in
     let n = number g t here.After-chance in
     record {
+      below = λ _. let so_far = c.loop-d.invariant.kept.visits.rises in let now = c.in_ok-found.ensures.counted in omega (arith, so_far, now);
       kept = part_more (λ d. tree_size m (child_of m c.args.side c.args.s c.args.own c.args.reply d)) c.loop-d.d (draws_of m c.args.side c.args.s c.args.own c.args.reply) c.loop-d.invariant.kept (rw d.1 at c.search_state.ensures.kept);
       summed = added_is m game c.args.side c.args.s c.args.own c.args.reply c.requires.reachable c.requires.own_move c.requires.reply c.loop-d.d n.0 c.chance.result n.1 c.in_ok-found.found n.2 (to_z w64 c.loop-d.sum-bits) c.loop-d.invariant.summed;
       listed = listed_more m game c.args.side c.args.s c.args.own c.args.reply c.requires.reachable c.requires.own_move c.requires.reply c.loop-d.d n.0 c.chance.result n.1 c.in_ok-found.found n.2 c.args.reads.now.items c.loop-d.reads.items c.search_state.new.reads.items c.keep.new.reads.items c.loop-d.invariant.listed c.in_ok-found.ensures.same_reads c.in_ok-keep.ensures.ok;
@@ -109,6 +112,11 @@ search_draws-quotient-requires-clause-negatable g t c =
     let all : c.loop-d.d ≡ draws_of m c.args.side c.args.s c.args.own c.args.reply = omega (arith, c.requires.draws, c.loop-d-test.false, c.loop-d.auto.d-end) in
     let low = sum_low m (g.met.G.Game.lawful c.args.g.now) c.args.side c.args.s c.args.own c.args.reply c.requires.reachable c.requires.own_move c.requires.reply c.loop-d.d (omega arith) in
     rw c.loop-d.invariant.summed (omega (arith, ints))
+
+pub search_draws-returns-clause-below : goal.search_draws-returns-clause-below
+search_draws-returns-clause-below g t c =
+    let some = some_draws (g.G.Game.model c.args.g.now) (g.met.G.Game.lawful c.args.g.now) c.args.side c.args.s c.args.own c.args.reply c.requires.reachable c.requires.own_move c.requires.reply in
+    c.loop-d.invariant.below (omega (arith, some, c.requires.draws, c.loop-d-test.false, c.loop-d.auto.d-end))
 
 pub search_draws-returns-clause-ends : goal.search_draws-returns-clause-ends
 search_draws-returns-clause-ends g t c =
@@ -143,6 +151,7 @@ search_move-loop-reply-init g t c =
     let fo : SFits w64 c.opening_bound-least.result = search rules in
     rw (to_z-of_z w64 c.args.floor c.ranges.floor, to_z-of_z w64 c.args.better c.ranges.better, to_z-of_z w64 c.opening_bound-least.result fo, c.opening_bound-least.ensures, c.other.ensures) (record {
       kept = kept_none;
+      below = λ some. absurd (omega arith);
       so_far = replies_start (g.G.Game.model c.args.g.now) (g.met.G.Game.lawful c.args.g.now) c.args.side c.args.s c.requires.reachable c.requires.goes_on c.args.own c.requires.own_move c.args.floor c.args.better (g.B.Bounds.view c.args.board.now) c.args.reads.now.items c.requires.window;
     })
 
@@ -168,6 +177,7 @@ search_move-returns-then-not-is_tighter g t c =
       kept = part_kept (pair_nodes m c.args.side c.args.s c.args.own) c.loop-reply.reply (m.moves (other_side c.args.side) c.args.s) c.loop-reply.invariant.kept at c.search_pair.ensures.kept;
       ends = rw r.2 (replies_stop m (g.met.G.Game.lawful c.args.g.now) c.args.side c.args.s c.requires.reachable c.requires.goes_on c.args.own c.requires.own_move c.args.floor c.args.better c.loop-reply.reply at (to_z w64 c.loop-reply.least-bits) c.in_ok-found.found (g.B.Bounds.view c.loop-reply.board) (g.B.Bounds.view c.search_pair.new.board) c.search_pair.ensures.kept.later c.args.reads.now.items c.loop-reply.reads.items c.search_pair.new.reads.items r.0 r.1 test);
       same_reads = grind (arith, common_steps);
+      below = let so_far = c.loop-reply.invariant.kept.visits.rises in let now = c.in_ok-found.ensures.below in omega (arith, so_far, now);
     }
 
 pub search_move-returns-in_err-found : goal.search_move-returns-in_err-found
@@ -177,8 +187,9 @@ search_move-returns-in_err-found g t c =
     let stopped : c.from_residual.result ≡ Err c.in_err-found.field-0.0 = search rules in
     record {
       kept = part_kept (pair_nodes m c.args.side c.args.s c.args.own) c.loop-reply.reply (m.moves (other_side c.args.side) c.args.s) c.loop-reply.invariant.kept at c.search_pair.ensures.kept;
-      ends = rw stopped (stops_more (WasFull m (g.B.Bounds.view c.search_pair.new.board)) c.in_err-found.field-0.0 (part_cut (pair_nodes m c.args.side c.args.s c.args.own) c.loop-reply.reply (m.moves (other_side c.args.side) c.args.s) c.loop-reply.invariant.kept at) c.in_err-found.ensures.ends);
+      ends = rw stopped (stops_more (WasFull m (g.B.Bounds.view c.search_pair.new.board) (LeadsTo m c.args.s)) c.in_err-found.field-0.0 (part_cut (pair_nodes m c.args.side c.args.s c.args.own) c.loop-reply.reply (m.moves (other_side c.args.side) c.args.s) c.loop-reply.invariant.kept at) c.in_err-found.ensures.ends);
       same_reads = search rules;
+      below = search rules;
     }
 
 pub search_move-loop-reply-preserved : goal.search_move-loop-reply-preserved
@@ -188,6 +199,7 @@ search_move-loop-reply-preserved g t c =
     let r = replied g t (goal.at.search_move-loop-reply-preserved g t c).After-is_tighter in
     let test = rw (r.2, to_z-of_z w64 c.args.floor c.ranges.floor) at c.if-not-is_tighter.ensures in
     rw (to_z-of_z w64 c.args.floor c.ranges.floor, to_z-of_z w64 c.args.better c.ranges.better, r.2) (record {
+      below = λ _. let so_far = c.loop-reply.invariant.kept.visits.rises in let now = c.in_ok-found.ensures.below in omega (arith, so_far, now);
       kept = part_more (pair_nodes m c.args.side c.args.s c.args.own) c.loop-reply.reply (m.moves (other_side c.args.side) c.args.s) c.loop-reply.invariant.kept c.search_pair.ensures.kept;
       so_far = replies_more m (g.met.G.Game.lawful c.args.g.now) c.args.side c.args.s c.requires.reachable c.requires.goes_on c.args.own c.requires.own_move c.args.floor c.args.better c.loop-reply.reply at (to_z w64 c.loop-reply.least-bits) c.in_ok-found.found (g.B.Bounds.view c.loop-reply.board) (g.B.Bounds.view c.search_pair.new.board) c.search_pair.ensures.kept.later c.args.reads.now.items c.loop-reply.reads.items c.search_pair.new.reads.items r.0 r.1 test;
     })
@@ -219,6 +231,7 @@ search_move-returns g t c =
       kept = kept_after {b = 0} c.loop-reply.invariant.kept (kept_posted c.post_move.ensures.later c.post_move.ensures.posted) (omega (arith, ap (λ (n : ℕ). count_below n (pair_nodes m c.args.side c.args.s c.args.own)) all));
       ends = replies_end m (g.met.G.Game.lawful c.args.g.now) c.args.side c.args.s c.requires.reachable c.requires.goes_on c.args.own c.requires.own_move c.args.floor c.args.better (to_z w64 c.loop-reply.least-bits) (g.B.Bounds.view c.loop-reply.board) (g.B.Bounds.view c.post_move.new.board) c.args.reads.now.items c.loop-reply.reads.items so_far c.in_ok-post_move.ensures.seen;
       same_reads = grind (arith, common_steps);
+      below = let some = (g.met.G.Game.lawful c.args.g.now).other_moves (other_side c.args.side) c.args.s c.requires.reachable c.requires.goes_on in c.loop-reply.invariant.below (omega (arith, all, some));
     }
 
 -- ---- the moves of a state
@@ -241,6 +254,7 @@ search_moves-loop-own-init g t c =
     let fo : SFits w64 c.opening_bound-value.result = search rules in
     rw (to_z-of_z w64 c.args.worse c.ranges.worse, to_z-of_z w64 c.args.better c.ranges.better, to_z-of_z w64 c.opening_bound-value.result fo, c.opening_bound-value.ensures) (record {
       kept = kept_none;
+      below = λ some. absurd (omega arith);
       so_far = moves_start (g.G.Game.model c.args.g.now) (g.met.G.Game.lawful c.args.g.now) c.args.side c.args.s c.requires.reachable c.requires.goes_on c.args.worse c.args.better (g.B.Bounds.view c.args.board.now) c.requires.window c.requires.opened;
       same_reads = refl;
     })
@@ -267,6 +281,7 @@ search_moves-returns-then-not-is_tighter g t c =
       kept = part_kept (move_nodes m c.args.side c.args.s) c.loop-own.own (m.moves c.args.side c.args.s) c.loop-own.invariant.kept at c.search_move.ensures.kept;
       ends = rw r.2 (moves_stop m (g.met.G.Game.lawful c.args.g.now) c.args.side c.args.s c.requires.reachable c.requires.goes_on c.args.worse c.args.better c.loop-own.own at (to_z w64 c.loop-own.value-bits) c.in_ok-found.found (g.B.Bounds.view c.loop-own.board) (g.B.Bounds.view c.search_move.new.board) c.search_move.ensures.kept.later r.0 r.1 test);
       same_reads = search rules;
+      below = let so_far = c.loop-own.invariant.kept.visits.rises in let now = c.in_ok-found.ensures.below in omega (arith, so_far, now);
     }
 
 pub search_moves-returns-in_err-found : goal.search_moves-returns-in_err-found
@@ -276,8 +291,9 @@ search_moves-returns-in_err-found g t c =
     let stopped : c.from_residual.result ≡ Err c.in_err-found.field-0.0 = search rules in
     record {
       kept = part_kept (move_nodes m c.args.side c.args.s) c.loop-own.own (m.moves c.args.side c.args.s) c.loop-own.invariant.kept at c.search_move.ensures.kept;
-      ends = rw stopped (stops_more (WasFull m (g.B.Bounds.view c.search_move.new.board)) c.in_err-found.field-0.0 (part_cut (move_nodes m c.args.side c.args.s) c.loop-own.own (m.moves c.args.side c.args.s) c.loop-own.invariant.kept at) c.in_err-found.ensures.ends);
+      ends = rw stopped (stops_more (WasFull m (g.B.Bounds.view c.search_move.new.board) (LeadsTo m c.args.s)) c.in_err-found.field-0.0 (part_cut (move_nodes m c.args.side c.args.s) c.loop-own.own (m.moves c.args.side c.args.s) c.loop-own.invariant.kept at) c.in_err-found.ensures.ends);
       same_reads = search rules;
+      below = search rules;
     }
 
 pub search_moves-loop-own-preserved : goal.search_moves-loop-own-preserved
@@ -287,10 +303,16 @@ search_moves-loop-own-preserved g t c =
     let r = moved g t (goal.at.search_moves-loop-own-preserved g t c).After-is_tighter in
     let test = rw (to_z-of_z w64 c.args.better c.ranges.better, r.2) at c.if-not-is_tighter.ensures in
     rw (to_z-of_z w64 c.args.worse c.ranges.worse, to_z-of_z w64 c.args.better c.ranges.better, r.2) (record {
+      below = λ _. let so_far = c.loop-own.invariant.kept.visits.rises in let now = c.in_ok-found.ensures.below in omega (arith, so_far, now);
       kept = part_more (move_nodes m c.args.side c.args.s) c.loop-own.own (m.moves c.args.side c.args.s) c.loop-own.invariant.kept c.search_move.ensures.kept;
       so_far = moves_more m (g.met.G.Game.lawful c.args.g.now) c.args.side c.args.s c.requires.reachable c.requires.goes_on c.args.worse c.args.better c.loop-own.own at (to_z w64 c.loop-own.value-bits) c.in_ok-found.found (g.B.Bounds.view c.loop-own.board) (g.B.Bounds.view c.search_move.new.board) c.search_move.ensures.kept.later r.0 r.1 test;
       same_reads = c.in_ok-found.ensures.same_reads ∙ c.loop-own.invariant.same_reads;
     })
+
+pub search_moves-returns-clause-below : goal.search_moves-returns-clause-below
+search_moves-returns-clause-below g t c =
+    let some = (g.met.G.Game.lawful c.args.g.now).other_moves c.args.side c.args.s c.requires.reachable c.requires.goes_on in
+    c.loop-own.invariant.below (omega (arith, some, c.moves-own-end.ensures, c.loop-own-test.false, c.loop-own.auto.own-end))
 
 pub search_moves-returns-clause-ends : goal.search_moves-returns-clause-ends
 search_moves-returns-clause-ends g t c =
@@ -339,8 +361,10 @@ search_pair-returns-in_err-found-clause-ends g t c =
     let m = g.G.Game.model c.args.g.now in
     let one = alone g t (goal.at.search_pair-returns-in_err-found-clause-ends g t c).After-drawn-child in
     let stopped : c.from_residual.result ≡ Err c.in_err-found.field-0.0 = search rules in
-    rw stopped (stops_more (WasFull m (g.B.Bounds.view c.search_state.new.board)) c.in_err-found.field-0.0
+    let some : 0 < draws_of m c.args.side c.args.s c.args.own c.args.reply = omega (arith, one.0) in
+    rw stopped (stops_below (WasFull m (g.B.Bounds.view c.search_state.new.board) (LeadsTo m c.drawn-child.result)) (WasFull m (g.B.Bounds.view c.search_state.new.board) (LeadsTo m c.args.s)) c.in_err-found.field-0.0
     (λ (cut : IsCut c.args.side (tree_size m c.drawn-child.result) c.args.visits.now c.search_state.new.visits). rw one.0 (cut_after {a = 0} counts_none (omega arith) (rw one.1 at cut)))
+    (λ (full : WasFull m (g.B.Bounds.view c.search_state.new.board) (LeadsTo m c.drawn-child.result)). full_below m (g.met.G.Game.lawful c.args.g.now) (g.B.Bounds.view c.search_state.new.board) c.args.side c.args.s c.args.own c.args.reply 0 c.requires.own_move c.requires.reply some (rw one.1 at full))
     c.in_err-found.ensures.ends)
 
 -- ---- a state
@@ -361,10 +385,12 @@ search_state-returns-in-Ok g t c =
     let ends = rw (to_z-of_z w64 c.args.worse c.ranges.worse, to_z-of_z w64 c.args.better c.ranges.better) at c.search_moves.ensures.ends in
     record {
       kept = kept_after {a = 1} (kept_after {a = 1} {b = 0} (kept_counted c.spend.ensures.counts) (kept_quiet c.claim.ensures.later c.claim.ensures.entries) (omega arith)) c.search_moves.ensures.kept (omega arith);
-      ends = ends_more (IsFound m c.args.side c.args.s c.args.worse c.args.better (g.B.Bounds.view c.search_moves.new.board)) (WasFull m (g.B.Bounds.view c.search_moves.new.board)) c.search_moves.result (cut_after {b = inner_nodes m c.args.side c.args.s} c.spend.ensures.counts (omega arith)) ends;
+      ends = ends_more (IsFound m c.args.side c.args.s c.args.worse c.args.better (g.B.Bounds.view c.search_moves.new.board)) (WasFull m (g.B.Bounds.view c.search_moves.new.board) (LeadsTo m c.args.s)) c.search_moves.result (cut_after {b = inner_nodes m c.args.side c.args.s} c.spend.ensures.counts (omega arith)) ends;
       same_reads = search rules;
       none_left = search rules;
       entered = search rules;
+      counted = ok_more c.search_moves.result (λ below. let one = c.spend.ensures.one in omega (arith, one, below)) c.search_moves.ensures.below;
+      below = λ _. ok_more c.search_moves.result (λ below. let one = c.spend.ensures.one in omega (arith, one, below)) c.search_moves.ensures.below;
     }
 
 pub search_state-returns-in-Err-clause-kept : goal.search_state-returns-in-Err-clause-kept

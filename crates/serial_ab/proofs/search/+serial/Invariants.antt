@@ -1,8 +1,9 @@
-use Rattle.std.proofs.Common.{◌≡◌, ◌<◌, ℕ, pos, ◌+◌, ◌*◌, ◌*ℤ◌, [], ◌∷◌, ◌++◌}
+use Rattle.std.proofs.Common.{◌≡◌, ◌<◌, ◌≤◌, ℕ, pos, ◌+◌, ◌*◌, ◌*ℤ◌, [], ◌∷◌, ◌++◌}
 use Rattle.sums.specs.Sums.{sum_below, count_below}
 use Rattle.sim_game.specs.Sides.{chance_of, child_of}
 use Rattle.plan_book.specs.Serial.{serial_bound, tree_size}
 use Rattle.plan_book.specs.Entries.{concat_below}
+use Rattle.serial_ab.specs.Counts.{spent_on}
 use Rattle.serial_ab.specs.Values.{pair_nodes, move_nodes}
 use Rattle.serial_ab.specs.Searches.{IsKept, IsGoodNumber}
 use Rattle.serial_ab.proofs.SearchLemmas.{MovesSoFar, RepliesSoFar}
@@ -29,12 +30,14 @@ invariant-search_draws-loop-d g l = record {
   summed : l.sum ≡ sum_below l.d (λ d. pos (chance_of (g.G.Game.model l.g) l.side l.s l.own l.reply d) *ℤ serial_bound (g.G.Game.model l.g) l.side (child_of (g.G.Game.model l.g) l.side l.s l.own l.reply d));
   listed : l.reads.items ≡ l.initial.reads.items ++ concat_below l.d (λ d. serial_bound (g.G.Game.model l.g) l.side (child_of (g.G.Game.model l.g) l.side l.s l.own l.reply d) ∷ []);
   good : (d : ℕ) → d < l.d → IsGoodNumber (g.G.Game.model l.g) l.side (g.B.Bounds.view l.board) (child_of (g.G.Game.model l.g) l.side l.s l.own l.reply d) (serial_bound (g.G.Game.model l.g) l.side (child_of (g.G.Game.model l.g) l.side l.s l.own l.reply d));
+  below : 1 ≤ l.d → spent_on l.side l.initial.visits + 1 ≤ spent_on l.side l.visits;
 }
 
 abbrev pub invariant-search_move-loop-reply : goal.invariant-search_move-loop-reply
 invariant-search_move-loop-reply g l = record {
   kept : IsKept (g.G.Game.model l.g) l.side (count_below l.reply (pair_nodes (g.G.Game.model l.g) l.side l.s l.own)) (g.B.Bounds.view l.initial.board) (g.B.Bounds.view l.board) l.initial.visits l.visits;
   so_far : RepliesSoFar (g.G.Game.model l.g) l.side l.s l.own l.floor l.better l.reply l.least (g.B.Bounds.view l.board) l.initial.reads.items l.reads.items;
+  below : 1 ≤ l.reply → spent_on l.side l.initial.visits + 1 ≤ spent_on l.side l.visits;
 }
 
 abbrev pub invariant-search_moves-loop-own : goal.invariant-search_moves-loop-own
@@ -42,4 +45,5 @@ invariant-search_moves-loop-own g l = record {
   kept : IsKept (g.G.Game.model l.g) l.side (count_below l.own (move_nodes (g.G.Game.model l.g) l.side l.s)) (g.B.Bounds.view l.initial.board) (g.B.Bounds.view l.board) l.initial.visits l.visits;
   so_far : MovesSoFar (g.G.Game.model l.g) l.side l.s l.worse l.better l.own l.value (g.B.Bounds.view l.board);
   same_reads : l.reads.items ≡ l.initial.reads.items;
+  below : 1 ≤ l.own → spent_on l.side l.initial.visits + 1 ≤ spent_on l.side l.visits;
 }

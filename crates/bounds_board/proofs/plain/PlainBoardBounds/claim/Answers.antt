@@ -6,7 +6,7 @@ use Rattle.bounds_board.specs.Plain.{PlainValue}
 use Rattle.bounds_board.specs.Views.{IsInnerKey}
 use Rattle.plan_book.proofs.BookLemmas.{best_opening}
 use Rattle.bounds_board.proofs.TableLemmas.{key_pushed}
-use Rattle.bounds_board.proofs.PlainLemmas.{few_rows, claim_full, claim_room, claim_keeps, claim_later, opening_returned}
+use Rattle.bounds_board.proofs.PlainLemmas.{few_rows, claim_full, claim_room, claim_keeps, claim_alone, claim_later, opening_returned}
 use Rattle.bounds_board.proofs.plain.PlainBoardBounds.claim.Goals as goal
 
 pub overflow_cast-row : goal.overflow_cast-row
@@ -37,6 +37,11 @@ returns-in-Free-clause-later g c = rw (← c.self.view_is, c.push_reserved.ensur
 
 pub returns-in-Free-clause-ok : goal.returns-in-Free-clause-ok
 returns-in-Free-clause-ok g c = rw (c.push_reserved.ensures.items, c.new-in-Free.ensures, c.len-row.ensures, c.self.inside.slots.ok.0) (key_pushed c.self.inside.slots.items _)
+
+pub returns-in-Free-clause-alone : goal.returns-in-Free-clause-alone
+returns-in-Free-clause-alone g c =
+    let free = rw (c.as_slice.ensures.value, c.as_slice-2.ensures.value) at c.in-Free.ensures in
+    rw (c.push_reserved.ensures.items, c.new-in-Free.ensures, c.len-row.ensures, c.self.inside.slots.ok.0) (claim_alone _ _ _ _ _ c.self.invariant.0 _ _ free _ _)
 
 pub returns-in-Free-clause-opened : goal.returns-in-Free-clause-opened
 returns-in-Free-clause-opened g c = rw (← c.self.view_is) (λ side. best_opening (g.G.Game.model c.self.inside.game) c.self.inside.book.entries side c.args.key)

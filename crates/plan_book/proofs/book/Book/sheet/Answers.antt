@@ -1,16 +1,10 @@
-use Rattle.std.proofs.Common.{◌≡◌, ℕ, List, sym, ap, subst, ◌∙◌}
+use Rattle.std.proofs.Common.{◌≡◌, ℕ, List, ap, subst, ◌∙◌}
 use Rattle.std.specs.Prelude.{IfOk}
 use Rattle.plan_book.specs.declared.Entry.{Entry}
 use Rattle.plan_book.specs.declared.Sheet.{Sheet}
-use Rattle.plan_book.specs.Books.{AreFit, IsBooked, IsBestSheet}
-use Rattle.plan_book.proofs.BestLemmas.{entry_fit, result_lawful}
+use Rattle.plan_book.specs.Books.{IsBestSheet}
+use Rattle.plan_book.proofs.BestLemmas.{result_lawful}
 use Rattle.plan_book.proofs.book.Book.sheet.Goals as goal
-
-pub best_sheet-requires : goal.best_sheet-requires
-best_sheet-requires g c =
-    let m = g.G.Game.model c.args.g in
-    let same : c.as_slice.result.now ≡ c.args.self.now.entries = c.as_slice.ensures.value ∙ ap (λ v. v.entries) c.self.view_is in
-    subst (AreFit m c.args.side) (sym same) (entry_fit m (g.met.G.Game.lawful c.args.g) c.args.side c.args.self.now.entries c.args.self.now.total (IsBooked m c.args.self.now.entries) c.requires.closed)
 
 pub returns-clause-lawful : goal.returns-clause-lawful
 returns-clause-lawful g c =

@@ -1,9 +1,8 @@
-use Rattle.std.proofs.Common.{rules, ◌⊎◌, ◌<◌, ◌≤◌, inl, inr, w64, SFits, ap, subst, ◌∙◌}
+use Rattle.std.proofs.Common.{rules, ◌⊎◌, inl, inr, w64, SFits, subst}
 use Rattle.std.proofs.lemmas.Int.{to_z-of_z}
 use Rattle.std.specs.Prelude.{IsSome}
 use Rattle.restricted_game.specs.declared.held.StepEnd.TheVariants.{Grown, Done}
-use Rattle.restricted_game.specs.Gaps.{HasStepGap}
-use Rattle.restricted_game.specs.Held.{HeldMoves, count_held, held_after}
+use Rattle.restricted_game.specs.Held.{HeldMoves}
 use Rattle.restricted_game.specs.Runs.{IsStepEnd, grows, stays}
 use Rattle.restricted_game.proofs.EndLemmas.{row_room, col_room, holding_after, has_grown, none_from, end_gap}
 use Rattle.restricted_game.proofs.held.Restricted.step.Goals as goal
@@ -17,7 +16,7 @@ returns-then-is_none-2-clause-ended g c =
     let upper : SFits w64 c.in-Ok.found.upper = search rules in
     let run = rw (c.as_slice-rows.ensures.value, c.as_slice-cols.ensures.value, none_from c.in-Ok.found.row c.if-is_none.ensures, none_from c.in-Ok.found.col c.if-is_none-2.ensures) at c.in-Ok.ensures.run in
     rw (to_z-of_z w64 c.in-Ok.found.lower lower, to_z-of_z w64 c.in-Ok.found.upper upper)
-    (subst (λ (h : HeldMoves). IsStepEnd m u (g.B.Bounds.view c.find.new.board) c.args.s u.total h (Done c.in-Ok.found.lower c.in-Ok.found.upper)) c.self.view_is (stays _ _ run))
+    (subst (λ (h : HeldMoves). IsStepEnd m u (g.B.Bounds.view c.find.new.board) c.args.s h (Done c.in-Ok.found.lower c.in-Ok.found.upper)) c.self.view_is (stays _ _ run))
 
 pub returns-then-is_none-2-clause-gap : goal.returns-then-is_none-2-clause-gap
 returns-then-is_none-2-clause-gap g c =
@@ -26,36 +25,27 @@ returns-then-is_none-2-clause-gap g c =
     let lower : SFits w64 c.in-Ok.found.lower = search rules in
     let upper : SFits w64 c.in-Ok.found.upper = search rules in
     let run = rw (c.as_slice-rows.ensures.value, c.as_slice-cols.ensures.value, none_from c.in-Ok.found.row c.if-is_none.ensures, none_from c.in-Ok.found.col c.if-is_none-2.ensures) at c.in-Ok.ensures.run in
-    let most_rows = ap (λ (h : HeldMoves). h.most_rows) c.self.view_is ∙ c.requires.rows in
-    let most_cols = ap (λ (h : HeldMoves). h.most_cols) c.self.view_is ∙ c.requires.cols in
     rw (to_z-of_z w64 c.in-Ok.found.lower lower, to_z-of_z w64 c.in-Ok.found.upper upper)
-    (subst (λ (h : HeldMoves). HasStepGap m u (g.B.Bounds.view c.find.new.board) c.args.s u.total h (Done c.in-Ok.found.lower c.in-Ok.found.upper)) c.self.view_is
-    (end_gap m (g.met.G.Game.lawful c.args.g) u (g.B.Bounds.view c.find.new.board) c.args.s c.requires.reachable u.total _ c.self.invariant.0 most_rows most_cols c.in-Ok.ensures.total _ _ run))
+    (end_gap m (g.met.G.Game.lawful c.args.g) u (g.B.Bounds.view c.find.new.board) c.args.s c.requires.reachable _ _ c.self.view_is c.self.invariant.0 c.requires.rows c.requires.cols c.in-Ok.ensures.total _ _ run)
 
 pub hold-requires : goal.hold-requires
 hold-requires g c =
     let m = g.G.Game.model c.args.g in
     let run = rw (c.as_slice-rows.ensures.value, c.as_slice-cols.ensures.value) at c.in-Ok.ensures.run in
-    let most_rows = ap (λ (h : HeldMoves). h.most_rows) c.self.view_is ∙ c.requires.rows in
-    let most_cols = ap (λ (h : HeldMoves). h.most_cols) c.self.view_is ∙ c.requires.cols in
-    row_room m (g.met.G.Game.lawful c.args.g) _ _ c.args.s c.requires.reachable _ _ c.self.invariant.0 most_rows most_cols c.in-Ok.found.row c.in-Ok.found.col _ _ run _ c.self.inside.rows.len c.self.inside.rows.ok.0 c.self.invariant.1
+    row_room m (g.met.G.Game.lawful c.args.g) _ _ c.args.s c.requires.reachable _ _ c.self.view_is c.self.invariant.0 c.requires.rows c.requires.cols c.in-Ok.found.row c.in-Ok.found.col _ _ run _ c.self.inside.rows.len c.self.inside.rows.ok.0 c.self.invariant.1
 
 pub hold-requires-2 : goal.hold-requires-2
 hold-requires-2 g c =
     let m = g.G.Game.model c.args.g in
     let run = rw (c.as_slice-rows.ensures.value, c.as_slice-cols.ensures.value) at c.in-Ok.ensures.run in
-    let most_rows = ap (λ (h : HeldMoves). h.most_rows) c.self.view_is ∙ c.requires.rows in
-    let most_cols = ap (λ (h : HeldMoves). h.most_cols) c.self.view_is ∙ c.requires.cols in
-    col_room m (g.met.G.Game.lawful c.args.g) _ _ c.args.s c.requires.reachable _ _ c.self.invariant.0 most_rows most_cols c.in-Ok.found.row c.in-Ok.found.col _ _ run _ c.self.inside.cols.len c.self.inside.cols.ok.0 c.self.invariant.2
+    col_room m (g.met.G.Game.lawful c.args.g) _ _ c.args.s c.requires.reachable _ _ c.self.view_is c.self.invariant.0 c.requires.rows c.requires.cols c.in-Ok.found.row c.in-Ok.found.col _ _ run _ c.self.inside.cols.len c.self.inside.cols.ok.0 c.self.invariant.2
 
 pub invariant_of-self : goal.invariant_of-self
 invariant_of-self g c =
     let m = g.G.Game.model c.args.g in
     let run = rw (c.as_slice-rows.ensures.value, c.as_slice-cols.ensures.value) at c.in-Ok.ensures.run in
-    let most_rows = ap (λ (h : HeldMoves). h.most_rows) c.self.view_is ∙ c.requires.rows in
-    let most_cols = ap (λ (h : HeldMoves). h.most_cols) c.self.view_is ∙ c.requires.cols in
     rw (c.hold.ensures.items, c.hold-2.ensures.items, c.hold.ensures.room, c.hold-2.ensures.room)
-    (holding_after m (g.met.G.Game.lawful c.args.g) _ _ c.args.s c.requires.reachable _ _ c.self.invariant.0 most_rows most_cols c.in-Ok.found.row c.in-Ok.found.col _ _ run, c.self.invariant.1, c.self.invariant.2)
+    (holding_after m (g.met.G.Game.lawful c.args.g) _ _ c.args.s c.requires.reachable _ _ c.self.view_is c.self.invariant.0 c.requires.rows c.requires.cols c.in-Ok.found.row c.in-Ok.found.col _ _ run, c.self.invariant.1, c.self.invariant.2)
 
 pub returns-clause-ended : goal.returns-clause-ended
 returns-clause-ended g c =
@@ -64,18 +54,13 @@ returns-clause-ended g c =
     let run = rw (c.as_slice-rows.ensures.value, c.as_slice-cols.ensures.value) at c.in-Ok.ensures.run in
     let some : IsSome c.in-Ok.found.row ⊎ IsSome c.in-Ok.found.col =
     elim c.else-is_none.branch [ else-is_none-via-then-is_none+else-is_none-2 w ↦ inr w.if-is_none-2.ensures | else-is_none-via-else-is_none w ↦ inl w.if-is_none.ensures ] in
-    subst (λ (h : HeldMoves). IsStepEnd m u (g.B.Bounds.view c.find.new.board) c.args.s u.total h (Grown c.in-Ok.found.row c.in-Ok.found.col)) c.self.view_is (grows _ _ _ _ run some)
+    subst (λ (h : HeldMoves). IsStepEnd m u (g.B.Bounds.view c.find.new.board) c.args.s h (Grown c.in-Ok.found.row c.in-Ok.found.col)) c.self.view_is (grows _ _ _ _ run some)
 
 pub returns-clause-grown : goal.returns-clause-grown
 returns-clause-grown g c =
     let m = g.G.Game.model c.args.g in
     let run = rw (c.as_slice-rows.ensures.value, c.as_slice-cols.ensures.value) at c.in-Ok.ensures.run in
-    let most_rows = ap (λ (h : HeldMoves). h.most_rows) c.self.view_is ∙ c.requires.rows in
-    let most_cols = ap (λ (h : HeldMoves). h.most_cols) c.self.view_is ∙ c.requires.cols in
     let some : IsSome c.in-Ok.found.row ⊎ IsSome c.in-Ok.found.col =
     elim c.else-is_none.branch [ else-is_none-via-then-is_none+else-is_none-2 w ↦ inr w.if-is_none-2.ensures | else-is_none-via-else-is_none w ↦ inl w.if-is_none.ensures ] in
-    let before : HeldMoves = record { rows = c.self.inside.rows.items; cols = c.self.inside.cols.items; most_rows = c.self.inside.most_rows; most_cols = c.self.inside.most_cols } in
-    let after : HeldMoves = held_after before (Grown c.in-Ok.found.row c.in-Ok.found.col) in
     rw (c.hold.ensures.items, c.hold-2.ensures.items)
-    (subst (λ (h : HeldMoves). (count_held h < count_held after) × (count_held after ≤ 64)) c.self.view_is
-    (has_grown m (g.met.G.Game.lawful c.args.g) _ _ c.args.s c.requires.reachable _ before c.self.invariant.0 most_rows most_cols c.in-Ok.found.row c.in-Ok.found.col _ _ run some))
+    (has_grown m (g.met.G.Game.lawful c.args.g) _ _ c.args.s c.requires.reachable _ _ c.self.view_is c.self.invariant.0 c.requires.rows c.requires.cols c.in-Ok.found.row c.in-Ok.found.col _ _ run some)

@@ -1,7 +1,7 @@
 use Rattle.std.proofs.Common.{rules, ◌<◌, ◌≤◌, ℤ, unsigned_abs, length, w64, SFits, sym, ap, subst, ◌∙◌, arith}
 use Rattle.std.proofs.lemmas.Int.{to_z-of_z}
 use Rattle.std.proofs.lemmas.List.{get_or_read}
-use Rattle.restricted_game.specs.Numbers.{bound_in}
+use Rattle.bounds_board.specs.Views.{bound_in}
 use Rattle.restricted_game.specs.Tables.{place_of}
 use Rattle.restricted_game.proofs.PlaceLemmas.{place_within}
 use Rattle.restricted_game.proofs.CellLemmas.{bound_small}
@@ -10,10 +10,10 @@ use Rattle.restricted_game.proofs.table.Table.number.Goals as goal
 pub returns-clause-value : goal.returns-clause-value
 returns-clause-value c =
     let t = c.args.self.now in
-    let f : SFits w64 c.bound_in.result = search rules in
+    let f : SFits w64 c.of.result = search rules in
     let inside : place_of c.args.self.now.width c.args.self.now.stride c.args.one c.args.two c.args.draw < length c.args.self.now.enclosures.items =
     omega (arith, place_within t.height t.width t.stride c.args.one c.args.two c.args.draw c.requires.one c.requires.two c.requires.draw, t.room, t.enclosures.ok.0) in
-    to_z-of_z w64 c.bound_in.result f ∙ c.bound_in.ensures ∙ ap (bound_in c.args.side) (get_or_read t.enclosures.items _ _ inside c.index.ensures _)
+    to_z-of_z w64 c.of.result f ∙ c.of.ensures ∙ ap (bound_in c.args.side) (get_or_read t.enclosures.items _ _ inside c.index.ensures _)
 
 pub returns-clause-small : goal.returns-clause-small
 returns-clause-small c =

@@ -18,7 +18,7 @@ keep_rows-requires-clause-bounds g c side i l = let did = c.close_with-closed.en
     subst (λ (ws : List ℕ). bound_at ws side i ≤ 8000000000) did.2 small
 
 pub returns-clause-whole : goal.returns-clause-whole
-returns-clause-whole g c = let did = c.close_with-closed.ensures.values.2 in let key = c.self.inside.words.shared.key in let p = c.pass.invariant in let seat = c.pass.inside.seat in let v = seat.me.0 in let book = c.pass.inside.book in
+returns-clause-whole g c = let did = c.close_with-closed.ensures.values.2 in let key = c.self.inside.words.shared.key in let p = c.pass.invariant in let seat = c.pass.inside.bare.seat in let v = seat.me.0 in let book = c.pass.inside.bare.book in
     let laws = g.met.G.Game.lawful key.0 in let m = g.G.Game.model key.0 in
     let lead : v.lead ≡ true = search rules in let d = p.draws in let h = p.holds in let few = p.few in let enough = c.if-pass.false in let whole : v.drawn ≤ length v.numbers = omega arith in
     let view : v ≡ c.args.pass.view = search rules in let is : v.game ≡ Some key.0 = search rules in
@@ -26,7 +26,7 @@ returns-clause-whole g c = let did = c.close_with-closed.ensures.values.2 in let
     subst (λ (u : View g.row.G.Denot). length u.numbers ≡ u.drawn) view full
 
 pub returns-clause-closed : goal.returns-clause-closed
-returns-clause-closed g c = let did = c.close_with-closed.ensures.values.2 in let key = c.self.inside.words.shared.key in let p = c.pass.invariant in let seat = c.pass.inside.seat in let v = seat.me.0 in let book = c.pass.inside.book in
+returns-clause-closed g c = let did = c.close_with-closed.ensures.values.2 in let key = c.self.inside.words.shared.key in let p = c.pass.invariant in let seat = c.pass.inside.bare.seat in let v = seat.me.0 in let book = c.pass.inside.bare.book in
     let laws = g.met.G.Game.lawful key.0 in let m = g.G.Game.model key.0 in
     let lead : v.lead ≡ true = search rules in let d = p.draws in let h = p.holds in let few = p.few in let enough = c.if-pass.false in let whole : v.drawn ≤ length v.numbers = omega arith in
     let game : key.0 ≡ c.args.self.game = search rules in let total : book.total ≡ c.args.pass.total = search rules in let entries : book.entries ≡ c.args.pass.entries = search rules in
@@ -35,7 +35,7 @@ returns-clause-closed g c = let did = c.close_with-closed.ensures.values.2 in le
     subst (λ (y : g.row.G.Denot × ℕ × List Entry). IsClosed (g.G.Game.model y.0) y.1 y.2) (λ k. (game k, total k, entries k)) made
 
 pub returns-clause-kept : goal.returns-clause-kept
-returns-clause-kept g c = let did = c.close_with-closed.ensures.values.2 in let key = c.self.inside.words.shared.key in let p = c.pass.invariant in let seat = c.pass.inside.seat in let v = seat.me.0 in let book = c.pass.inside.book in
+returns-clause-kept g c = let did = c.close_with-closed.ensures.values.2 in let key = c.self.inside.words.shared.key in let p = c.pass.invariant in let seat = c.pass.inside.bare.seat in let v = seat.me.0 in let book = c.pass.inside.bare.book in
     let laws = g.met.G.Game.lawful key.0 in let m = g.G.Game.model key.0 in
     let lead : v.lead ≡ true = search rules in let d = p.draws in let h = p.holds in let few = p.few in let enough = c.if-pass.false in let whole : v.drawn ≤ length v.numbers = omega arith in
     let game : key.0 ≡ c.args.self.game = search rules in let rows : key.1 ≡ c.args.self.rows = search rules in

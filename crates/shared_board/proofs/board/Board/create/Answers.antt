@@ -13,7 +13,7 @@ of_words-requires g c = let m = g.G.Game.model c.args.game in let game = g.met.G
     let blank : IsBlank c.as_slice.result.now c.args.rows (opening_word m One) (opening_word m Two) = rw c.as_slice.ensures.value (rw (← low, ← high) c.in_ok-opening.ensures) in
     starts m c.args.game c.args.rows c.as_slice.result.now blank
 
-pub invariant_of-pass : goal.invariant_of-pass
-invariant_of-pass g c = let made = c.in_ok-words.ensures in
+pub invariant_of-result : goal.invariant_of-result
+invariant_of-result g c = let made = c.in_ok-words.ensures in
     let words : c.in_ok-words.seat.table_id.words ≡ 3 * c.args.rows + 1 = ap (λ z. z.words) made.2 ∙ (made.0 ∙ (ap (λ (ws : List ℕ). length ws) c.as_slice.ensures.value ∙ c.in_ok-opening.ensures.wide)) in
     pass_first g.G.Game.model c.args.game c.args.rows c.in_ok-words.seat.table_id.words c.new.result.total c.new.result.entries c.in_ok-words.seat.me words made.4 c.new.ensures.entries

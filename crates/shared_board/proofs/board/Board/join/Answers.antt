@@ -10,10 +10,10 @@ use Rattle.shared_board.proofs.board.Board.join.Goals.{then-pass, else-pass}
 
 pub join_seat-requires : goal.join_seat-requires
 join_seat-requires g c = let key = c.self.inside.words.shared.key in let b = c.self.invariant in
-    (search rules, search rules, search rules, omega arith, joins (g.G.Game.model key.0) key.0 key.1 c.pass.inside.seat.id c.other.inside.seat.id c.pass.inside.seat.me.0 c.other.inside.seat.me.0 c.pass.invariant.holder c.other.invariant.holder)
+    (search rules, search rules, search rules, omega arith, joins (g.G.Game.model key.0) key.0 key.1 c.pass.inside.bare.seat.id c.other.inside.bare.seat.id c.pass.inside.bare.seat.me.0 c.other.inside.bare.seat.me.0 c.pass.invariant.holder c.other.invariant.holder)
 
 pub invariant_of-pass-2 : goal.invariant_of-pass-2
-invariant_of-pass-2 g c = let mine = c.pass.inside in let theirs = c.other.inside in
+invariant_of-pass-2 g c = let mine = c.pass.inside.bare in let theirs = c.other.inside.bare in
     let same : theirs.seat.table_id ≡ mine.seat.table_id = search rules in
     let game : mine.seat.me.0.game ≡ theirs.seat.me.0.game = search rules in
     let total : c.join.new.self.total ≡ mine.book.total = search rules in
@@ -25,14 +25,14 @@ invariant_of-pass-2 g c = let mine = c.pass.inside in let theirs = c.other.insid
     (pass_joined g.G.Game.model _ _ _ _ _ _ _ _ _ _ _ _ _ _ _ _ _ _ _ _ c.pass.invariant q game c.join_seat.ensures.2 (ap (λ z. z.words) c.join_seat.ensures.0) entries leads c.max-pass-inside.ensures c.saturating_add-pass-inside.ensures)
 
 pub returns-clause-mine : goal.returns-clause-mine
-returns-clause-mine g c = let mine = c.pass.inside in let theirs = c.other.inside in let m = g.G.Game.model c.args.self.now.game in
+returns-clause-mine g c = let mine = c.pass.inside.bare in let theirs = c.other.inside.bare in let m = g.G.Game.model c.args.self.now.game in
     let same : theirs.seat.table_id ≡ mine.seat.table_id = search rules in
     let long = λ (side : Side). long_both g.G.Game.model _ _ _ _ _ _ _ _ _ _ _ _ _ _ _ _ c.pass.invariant c.other.invariant (ap (λ z. z.words) (sym same)) side in
     let view : mine.seat.me.0 ≡ c.args.pass.now.view = search rules in
     subst (λ (y : View g.row.G.Denot × View g.row.G.Denot). KnowsNoLess m y.0 y.1) (λ k. (view k, (sym c.join_seat.ensures.2 k).0)) (knows_left m mine.seat.me.0 theirs.seat.me.0 long)
 
 pub returns-clause-theirs : goal.returns-clause-theirs
-returns-clause-theirs g c = let mine = c.pass.inside in let theirs = c.other.inside in let m = g.G.Game.model c.args.self.now.game in
+returns-clause-theirs g c = let mine = c.pass.inside.bare in let theirs = c.other.inside.bare in let m = g.G.Game.model c.args.self.now.game in
     let same : theirs.seat.table_id ≡ mine.seat.table_id = search rules in
     let long = λ (side : Side). long_both g.G.Game.model _ _ _ _ _ _ _ _ _ _ _ _ _ _ _ _ c.pass.invariant c.other.invariant (ap (λ z. z.words) (sym same)) side in
     let view : theirs.seat.me.0 ≡ c.args.other.view = search rules in

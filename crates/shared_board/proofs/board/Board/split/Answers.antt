@@ -5,8 +5,8 @@ use Rattle.shared_board.proofs.board.Board.split.Goals as goal
 
 pub split_seat-seat-requires : goal.split_seat-seat-requires
 split_seat-seat-requires g c = let key = c.self.inside.words.shared.key in let p = c.pass.invariant in let b = c.self.invariant in let d = p.draws in let room = c.if-pass-ge-MOST_DRAWN.false in
-    let lead : c.pass.inside.seat.me.0.lead ≡ true = search rules in
-    (search rules, omega arith, splits (g.G.Game.model key.0) key.0 key.1 c.pass.inside.seat.id c.pass.inside.seat.me.0 lead (omega arith))
+    let lead : c.pass.inside.bare.seat.me.0.lead ≡ true = search rules in
+    (search rules, omega arith, splits (g.G.Game.model key.0) key.0 key.1 c.pass.inside.bare.seat.id c.pass.inside.bare.seat.me.0 lead (omega arith))
 
 pub invariant_of-result : goal.invariant_of-result
 invariant_of-result g c = pass_drawn g.G.Game.model _ _ _ _ _ _ _ _ _ _ _ _ c.pass.invariant (search rules) (search rules) (ap (λ z. z.words) c.split_seat-seat.ensures.3)

@@ -22,27 +22,27 @@ invariant_of-self g c =
     let before = subst (λ ks. AreKnown ks c.self.inside.known.places.items) (sym (ap (λ p. p.view.keys) c.pass.view_is)) c.self.invariant.1 in (
       search rules,
       known_kept c.claim_row.new.seat.me.0.keys c.self.inside.known c.keep.new.self x c.keep.ensures here
-          (known_more did.keys.0 c.pass.inside.seat.me.0.keys c.claim_row.new.seat.me.0.keys c.self.inside.known.places.items (ap (λ v. v.keys) did.keys.1) did.apart before),
+          (known_more did.keys.0 c.pass.inside.bare.seat.me.0.keys c.claim_row.new.seat.me.0.keys c.self.inside.known.places.items (ap (λ v. v.keys) did.keys.1) did.apart before),
     )
 
 pub invariant_of-self-in-None : goal.invariant_of-self-in-None
 invariant_of-self-in-None g c =
     let did = c.claim_row.ensures in
     let before = subst (λ ks. AreKnown ks c.self.inside.known.places.items) (sym (ap (λ p. p.view.keys) c.pass.view_is)) c.self.invariant.1 in
-    (search rules, known_more did.keys.0 c.pass.inside.seat.me.0.keys c.claim_row.new.seat.me.0.keys c.self.inside.known.places.items (ap (λ v. v.keys) did.keys.1) did.apart before)
+    (search rules, known_more did.keys.0 c.pass.inside.bare.seat.me.0.keys c.claim_row.new.seat.me.0.keys c.self.inside.known.places.items (ap (λ v. v.keys) did.keys.1) did.apart before)
 
 pub invariant_of-pass : goal.invariant_of-pass
 invariant_of-pass g c = let did = c.claim_row.ensures in let board = c.board.invariant in let p = c.pass.invariant in
-    let same : c.pass.inside.seat.table_id ≡ c.board.inside.words.shared.table_id = search rules in
-    let words : c.pass.inside.seat.table_id.words ≡ 3 * c.board.inside.rows + 1 = ap (λ z. z.words) same ∙ board.1 in
-    let now : c.claim_row.new.seat.table_id.words ≡ c.pass.inside.seat.table_id.words = ap (λ z. z.words) did.seat.0.0 ∙ sym (ap (λ z. z.words) same) in
-    let within : (i k : ℕ) → Has (i, k) c.pass.inside.seat.me.0.keys → i < c.board.inside.rows = λ i k h. (let x = p.inside i k h in omega arith) in
+    let same : c.pass.inside.bare.seat.table_id ≡ c.board.inside.words.shared.table_id = search rules in
+    let words : c.pass.inside.bare.seat.table_id.words ≡ 3 * c.board.inside.rows + 1 = ap (λ z. z.words) same ∙ board.1 in
+    let now : c.claim_row.new.seat.table_id.words ≡ c.pass.inside.bare.seat.table_id.words = ap (λ z. z.words) did.seat.0.0 ∙ sym (ap (λ z. z.words) same) in
+    let within : (i k : ℕ) → Has (i, k) c.pass.inside.bare.seat.me.0.keys → i < c.board.inside.rows = λ i k h. (let x = p.inside i k h in omega arith) in
     pass_claimed g.G.Game.model _ _ _ _ _ _ _ _ _ _ did.keys.0 p did.keys.1 did.seat.0.2 now did.named (λ i k h. (let x = did.inside within i k h in omega arith))
 
 pub returns-in-None-clause-err : goal.returns-in-None-clause-err
 returns-in-None-clause-err g c =
-    let game = c.args.self.now.board.game in let is : c.pass.inside.seat.me.0.game ≡ Some game = search rules in
-    let view : c.pass.inside.seat.me.0 ≡ c.args.self.now.pass.view = search rules in
+    let game = c.args.self.now.board.game in let is : c.pass.inside.bare.seat.me.0.game ≡ Some game = search rules in
+    let view : c.pass.inside.bare.seat.me.0 ≡ c.args.self.now.pass.view = search rules in
     let told = c.pass.invariant.told game is in let rows : c.board.inside.rows ≡ c.args.self.now.board.rows = search rules in (
       λ i l. c.in-None.ensures.none i (omega arith),
       c.claim_row.ensures.named game is told.named,

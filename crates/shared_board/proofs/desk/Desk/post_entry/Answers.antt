@@ -13,15 +13,15 @@ use Rattle.shared_board.proofs.PassStepLemmas.{pass_posted, entry_in_range, entr
 use Rattle.shared_board.proofs.desk.Desk.post_entry.Goals as goal
 
 pub post_word-requires-clause-post : goal.post_word-requires-clause-post
-post_word-requires-clause-post g c = let view : c.pass.inside.seat.me.0 ≡ c.args.self.now.pass.view = search rules in
+post_word-requires-clause-post g c = let view : c.pass.inside.bare.seat.me.0 ≡ c.args.self.now.pass.view = search rules in
     let known = subst (λ (v : View g.row.G.Denot). Has (c.args.row, c.args.e.key) v.keys) (sym view) c.requires.known in
-    let same : c.pass.inside.seat.table_id ≡ c.board.inside.words.shared.table_id = search rules in let words = ap (λ z. z.words) same ∙ c.board.invariant.1 in
+    let same : c.pass.inside.bare.seat.table_id ≡ c.board.inside.words.shared.table_id = search rules in let words = ap (λ z. z.words) same ∙ c.board.invariant.1 in
     let x = c.pass.invariant.inside c.args.row c.args.e.key known in let game = c.args.self.now.board.game in let m = g.G.Game.model game in
     let key : game ≡ c.board.inside.words.shared.key.0 = search rules in
     let game_laws = g.met.G.Game.lawful game in
     let bound : word_of c.args.e.bound ≡ c.word_of_bound-bound.result = search rules in
     let here : c.place.result ≡ c.args.row = c.place.ensures in
-    subst (λ (y : g.row.G.Denot × ℕ × ℕ). MayPost (g.G.Game.model y.0) c.board.inside.rows c.args.e.side c.pass.inside.seat.me.0 y.1 y.2) (λ k. (key k, sym here k, bound k)) (record {
+    subst (λ (y : g.row.G.Denot × ℕ × ℕ). MayPost (g.G.Game.model y.0) c.board.inside.rows c.args.e.side c.pass.inside.bare.seat.me.0 y.1 y.2) (λ k. (key k, sym here k, bound k)) (record {
       holder = c.pass.invariant.holder;
       inside = omega arith;
       key = c.args.e.key;
@@ -31,33 +31,33 @@ post_word-requires-clause-post g c = let view : c.pass.inside.seat.me.0 ≡ c.ar
     })
 
 pub invariant_of-pass-2 : goal.invariant_of-pass-2
-invariant_of-pass-2 g c = let view : c.pass.inside.seat.me.0 ≡ c.args.self.now.pass.view = search rules in let m = g.G.Game.model in
+invariant_of-pass-2 g c = let view : c.pass.inside.bare.seat.me.0 ≡ c.args.self.now.pass.view = search rules in let m = g.G.Game.model in
     let known = subst (λ (v : View g.row.G.Denot). Has (c.args.row, c.args.e.key) v.keys) (sym view) c.requires.known in
-    let same : c.pass.inside.seat.table_id ≡ c.board.inside.words.shared.table_id = search rules in let words = ap (λ z. z.words) same ∙ c.board.invariant.1 in
+    let same : c.pass.inside.bare.seat.table_id ≡ c.board.inside.words.shared.table_id = search rules in let words = ap (λ z. z.words) same ∙ c.board.invariant.1 in
     let x = c.pass.invariant.inside c.args.row c.args.e.key known in let did = c.post_word.ensures in let game = c.args.self.now.board.game in
-    let is : c.pass.inside.seat.me.0.game ≡ Some game = search rules in
+    let is : c.pass.inside.bare.seat.me.0.game ≡ Some game = search rules in
     let told = subst (λ (v : View g.row.G.Denot). AllNamed (g.G.Game.model game) v.keys) view (c.pass.invariant.told game is).named in
     let lawful0 : IsEntry (g.G.Game.model game) c.args.self.now.board.total (IsKnown (g.G.Game.model game) c.args.self.now.pass.view) c.args.e = known_entry (g.G.Game.model game) (g.met.G.Game.lawful game) c.args.self.now.pass.view told _ c.args.e (λ side key. refl) c.requires.lawful in
-    let end : c.post_word.new.seat.table_id.words ≡ c.pass.inside.seat.table_id.words = ap (λ z. z.words) (did.seat.0.0 ∙ sym same) in
-    let total : c.push.new.self.total ≡ c.pass.inside.book.total = search rules in
-    let whole : c.args.self.now.board.total ≡ c.pass.inside.book.total = search rules in
-    let entries : c.push.new.self.entries ≡ c.pass.inside.book.entries ++ c.args.e ∷ [] = search rules in
+    let end : c.post_word.new.seat.table_id.words ≡ c.pass.inside.bare.seat.table_id.words = ap (λ z. z.words) (did.seat.0.0 ∙ sym same) in
+    let total : c.push.new.self.total ≡ c.pass.inside.bare.book.total = search rules in
+    let whole : c.args.self.now.board.total ≡ c.pass.inside.bare.book.total = search rules in
+    let entries : c.push.new.self.entries ≡ c.pass.inside.bare.book.entries ++ c.args.e ∷ [] = search rules in
     let bound : c.word_of_bound-bound.result ≡ word_of c.args.e.bound = search rules in
     let here : c.place.result ≡ c.args.row = c.place.ensures in
-    let there = subst (λ (z : ℕ). Has (z, c.args.e.key) c.pass.inside.seat.me.0.keys) (sym here) known in
-    let now : c.post_word.new.seat.me.0 ≡ posting c.args.e.side c.pass.inside.seat.me.0 c.place.result (word_of c.args.e.bound) did.view.0 = did.view.1 ∙ ap (λ (y : ℕ). posting c.args.e.side c.pass.inside.seat.me.0 c.place.result y did.view.0) bound in
+    let there = subst (λ (z : ℕ). Has (z, c.args.e.key) c.pass.inside.bare.seat.me.0.keys) (sym here) known in
+    let now : c.post_word.new.seat.me.0 ≡ posting c.args.e.side c.pass.inside.bare.seat.me.0 c.place.result (word_of c.args.e.bound) did.view.0 = did.view.1 ∙ ap (λ (y : ℕ). posting c.args.e.side c.pass.inside.bare.seat.me.0 c.place.result y did.view.0) bound in
     let lawful = subst (λ (y : ℕ × View g.row.G.Denot). IsEntry (m game) y.0 (IsKnown (m game) y.1) c.args.e) (λ k. (whole k, sym view k)) lawful0 in
     let made = pass_posted m _ _ _ _ _ _ _ _ _ _ c.post_word.new.seat.me c.board.inside.rows c.place.result did.view.0 c.args.e c.pass.invariant now did.seat.0.2 end words (omega arith) did.view.2 entries there
-    (λ h other. let q : game ≡ h = game_is game h (sym is ∙ other) in subst (λ (z : g.row.G.Denot). IsEntry (m z) c.pass.inside.book.total (IsKnown (m z) c.pass.inside.seat.me.0) c.args.e) q lawful) in
-    subst (λ (t : ℕ). IsPass m c.post_word.new.seat.table_id.words c.post_word.new.seat.me.0 c.post_word.new.seat.me.1 t c.push.new.self.entries c.pass.inside.lead c.pass.inside.drawn c.pass.inside.held) (sym total) made
+    (λ h other. let q : game ≡ h = game_is game h (sym is ∙ other) in subst (λ (z : g.row.G.Denot). IsEntry (m z) c.pass.inside.bare.book.total (IsKnown (m z) c.pass.inside.bare.seat.me.0) c.args.e) q lawful) in
+    subst (λ (t : ℕ). IsPass m c.post_word.new.seat.table_id.words c.post_word.new.seat.me.0 c.post_word.new.seat.me.1 t c.push.new.self.entries c.pass.inside.bare.lead c.pass.inside.bare.drawn c.pass.inside.bare.held) (sym total) made
 
 pub returns-clause-ok : goal.returns-clause-ok
-returns-clause-ok g c = let view : c.pass.inside.seat.me.0 ≡ c.args.self.now.pass.view = search rules in let m = g.G.Game.model in
+returns-clause-ok g c = let view : c.pass.inside.bare.seat.me.0 ≡ c.args.self.now.pass.view = search rules in let m = g.G.Game.model in
     let known = subst (λ (v : View g.row.G.Denot). Has (c.args.row, c.args.e.key) v.keys) (sym view) c.requires.known in
-    let same : c.pass.inside.seat.table_id ≡ c.board.inside.words.shared.table_id = search rules in let words = ap (λ z. z.words) same ∙ c.board.invariant.1 in
+    let same : c.pass.inside.bare.seat.table_id ≡ c.board.inside.words.shared.table_id = search rules in let words = ap (λ z. z.words) same ∙ c.board.invariant.1 in
     let x = c.pass.invariant.inside c.args.row c.args.e.key known in let y = c.pass.invariant.shaped c.args.e.side in let did = c.post_word.ensures in let game = c.args.self.now.board.game in
-    let is : c.pass.inside.seat.me.0.game ≡ Some game = search rules in let rows : c.board.inside.rows ≡ c.args.self.now.board.rows = search rules in
-    let long : length (seen c.args.e.side c.pass.inside.seat.me.0) ≡ c.args.self.now.board.rows = omega arith in
+    let is : c.pass.inside.bare.seat.me.0.game ≡ Some game = search rules in let rows : c.board.inside.rows ≡ c.args.self.now.board.rows = search rules in
+    let long : length (seen c.args.e.side c.pass.inside.bare.seat.me.0) ≡ c.args.self.now.board.rows = omega arith in
     let bound : c.word_of_bound-bound.result ≡ word_of c.args.e.bound = search rules in
     let here : c.place.result ≡ c.args.row = c.place.ensures in
     let now : c.post_word.new.seat.me.0 ≡ posting c.args.e.side c.args.self.now.pass.view c.args.row (word_of c.args.e.bound) did.view.0 = did.view.1 ∙ (λ k. posting c.args.e.side (view k) (here k) (bound k) did.view.0) in

@@ -1,0 +1,6 @@
+pub mod RunLemmas
+pub mod CheckLemmas
+pub mod MatchLemmas
+pub mod LawLemmas
+pub mod SampleLemmas
+pub mod SizeLemmas

@@ -1,0 +1,25 @@
+use Rattle.std.proofs.Common.{subst}
+use Rattle.checker.specs.Verdicts.{IsVerdict}
+use Rattle.position.specs.Games.{model_of}
+use Rattle.commands.specs.declared.reports.ReportFault.TheVariants as faults
+use Rattle.commands.specs.Reports.{accepted_text, fault_text}
+use Rattle.commands.specs.Checks.{IsChecked}
+use Rattle.commands.proofs.RunLemmas.{answers, answers_where}
+use Rattle.commands.proofs.check.checked.Goals as goal
+
+pub returns-in-Ok-Accepted : goal.returns-in-Ok-Accepted
+returns-in-Ok-Accepted c =
+    let bytes = c.args.bytes.now in let r = c.in-Ok.field-0.report in let game = c.in-Ok.field-0.game in
+    answers (IsChecked bytes) 0 (accepted_text r) c.accepted.result
+    (IsChecked.accepted r c.in-Ok.ensures.0 (game, c.in-Ok.ensures.2, subst (IsVerdict (model_of game) r) c.in-Ok-Accepted.field-0-is c.in-Ok-Accepted.ensures)) c.accepted.ensures
+
+pub returns-in-Ok-Refused : goal.returns-in-Ok-Refused
+returns-in-Ok-Refused c =
+    let bytes = c.args.bytes.now in let r = c.in-Ok.field-0.report in let game = c.in-Ok.field-0.game in let w = c.in-Ok-Refused.why in
+    answers_where (IsChecked bytes) _ 9 (fault_text (faults.Refused w)) c.faulty.result
+    (λ _. IsChecked.refused r w c.in-Ok.ensures.0 (game, c.in-Ok.ensures.2, subst (IsVerdict (model_of game) r) c.in-Ok-Refused.field-0-is c.in-Ok-Refused.ensures)) c.faulty.ensures
+
+pub returns : goal.returns
+returns c =
+    let bytes = c.args.bytes.now in let fault = c.in-Err.fault in
+    answers_where (IsChecked bytes) _ 9 (fault_text fault) c.faulty-in-Err.result (λ memory. IsChecked.unread fault (c.in-Err.ensures memory)) c.faulty-in-Err.ensures

@@ -1,0 +1,16 @@
+use Rattle.certificate.specs.Texts.{report_text}
+use Rattle.commands.specs.Runs.{status_of, IsSolved}
+use Rattle.commands.specs.Texts.{input_text}
+use Rattle.commands.proofs.RunLemmas.{answers_where, fails_unless}
+use Rattle.commands.proofs.solve.solved.Goals as goal
+
+pub returns-in-Ok-solve_any : goal.returns-in-Ok-solve_any
+returns-in-Ok-solve_any g c =
+    let bytes = c.args.bytes.now in let task = c.in-Ok.task in let r = c.in-Ok-solve_any.solved.report in
+    answers_where (IsSolved bytes) _ (status_of r.outcome) (report_text r) c.reported.result
+    (λ again. IsSolved.reported (record { text = task.text; ask = task.ask }) r c.in-Ok.ensures.exact (task.game, c.in-Ok.ensures.game, c.in-Ok-solve_any.ensures.solution) again) c.reported.ensures
+
+pub returns-in-Err : goal.returns-in-Err
+returns-in-Err g c =
+    let bytes = c.args.bytes.now in let e = c.in-Err.error in
+    answers_where (IsSolved bytes) _ 2 (input_text e) c.refused.result (λ memory. IsSolved.refused e (fails_unless bytes e c.in-Err.ensures.exact memory)) c.refused.ensures

@@ -1,0 +1,9 @@
+pub mod Words
+pub mod Texts
+pub mod Reports
+pub mod Checks
+pub mod Bounded
+pub mod Measured
+pub mod Matches
+pub mod Samples
+pub mod Runs

@@ -1,0 +1,107 @@
+//! The answer to the bytes of a report.
+
+ghost use Rattle.std.specs.Prelude.{◌≡◌, ◌≢◌, ◌≤◌, length, IfOk, MatchResult};
+ghost use Rattle.std.specs.declared.result.Result.TheVariants.{Ok, Err};
+ghost use Rattle.certificate.specs.Ranges.{IsInRange};
+ghost use Rattle.checker.specs.Verdicts.{IsVerdict};
+ghost use Rattle.position.specs.Games.{IsGameOf};
+ghost use Rattle.commands.specs.Reports.{accepted_text, fault_text};
+ghost use Rattle.commands.specs.Checks.{most_report, report_in, IsChecked};
+
+use crate::reports::{ReportFault, accepted_text, fault_text};
+use crate::run::Answer;
+use certificate::{Report, TextError, read};
+use checker::{Verdict, check};
+use position::{AnyGame, GameVisitor, build};
+use seq::Seq;
+use sim_game::{Game, NoMemory};
+use std::alloc::Global;
+
+/// A report that was read, and the game of its position.
+#[derive(Drop)]
+pub(crate) struct ReportedGame {
+    pub(crate) report: Report,
+    pub(crate) game: AnyGame,
+}
+
+/// The report of the bytes, which are not too many, and its game; or what is wrong first.
+pub(crate) fn report_in(alloc: Global, bytes: &[u8]) -> Result<ReportedGame, ReportFault>
+    requires { length bytes.now ≤ most_report }
+    ensures { MatchResult result
+        (λ found. (report_in bytes.now ≡ Ok found.report) × IsInRange found.report
+        × IsGameOf found.report.position found.game)
+        (λ fault. fault ≢ ReportFault.Text TextError.NoMemory → report_in bytes.now ≡ Err fault) }
+{
+    match read(alloc, bytes) {
+        Ok(report) => match build(&report.position) {
+            Ok(game) => Ok(ReportedGame { report, game }),
+            Err(error) => Err(ReportFault::Position(error)),
+        },
+        Err(error) => Err(ReportFault::Text(error)),
+    }
+}
+
+/// Has the checker judge a report.
+#[derive(Drop)]
+struct Judge<'a> {
+    alloc: Global,
+    report: &'a Report,
+}
+
+impl<'a> GameVisitor for Judge<'a> {
+    type Answer = Result<Verdict, NoMemory>;
+
+    ghost can_visit = { λ v. IsInRange v.report.now };
+
+    ghost says = { λ v _ m answer. IfOk answer (IsVerdict m v.report.now) };
+
+    fn visit<G: Game + Send + Sync>(self, game: G) -> Result<Verdict, NoMemory>
+    where
+        G::State: Send + Sync,
+    {
+        check(self.alloc, game, self.report)
+    }
+}
+
+/// The answer to the bytes of a report, which are not too many.
+pub(crate) fn checked(alloc: Global, bytes: &[u8]) -> Result<Answer, NoMemory>
+    requires { length bytes.now ≤ most_report }
+    ensures { IfOk result (λ a. IsChecked bytes.now a.status a.text) }
+{
+    match report_in(alloc, bytes) {
+        Ok(ReportedGame { report, game }) => match game.accept(Judge {
+            alloc,
+            report: &report,
+        }) {
+            Ok(Verdict::Accepted) => accepted(alloc, &report),
+            Ok(Verdict::Refused(why)) => faulty(alloc, ReportFault::Refused(why)),
+            Err(_) => Err(NoMemory),
+        },
+        Err(fault) => faulty(alloc, fault),
+    }
+}
+
+fn accepted(alloc: Global, report: &Report) -> Result<Answer, NoMemory>
+    ensures { IfOk result (λ a. (a.status ≡ 0) × (a.text ≡ accepted_text report.now)) }
+{
+    let text = accepted_text(alloc, report)?;
+    Ok(Answer {
+        status: 0,
+        text: Seq::from_vec(text),
+    })
+}
+
+/// The answer to the bytes of a report that has a fault.
+pub(crate) fn faulty(alloc: Global, fault: ReportFault) -> Result<Answer, NoMemory>
+    ensures { IfOk result (λ a. (a.status ≡ 9) × (a.text ≡ fault_text fault)
+        × (fault ≢ ReportFault.Text TextError.NoMemory)) }
+{
+    if fault == ReportFault::Text(TextError::NoMemory) {
+        return Err(NoMemory);
+    }
+    let text = fault_text(alloc, fault)?;
+    Ok(Answer {
+        status: 9,
+        text: Seq::from_vec(text),
+    })
+}

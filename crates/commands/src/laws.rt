@@ -1,0 +1,61 @@
+//! What the answers of the commands say of each other.
+
+ghost use Rattle.std.specs.Prelude.{◌≡◌, ◌≢◌, ◌⊎◌, ℕ, List};
+ghost use Rattle.sim_game.specs.Model.{HasAtMost};
+ghost use Rattle.plan_book.specs.Serial.{tree_size};
+ghost use Rattle.certificate.specs.declared.report.Ask.{Ask};
+ghost use Rattle.certificate.specs.declared.report.PositionText.{PositionText};
+ghost use Rattle.checker.specs.declared.verdict.Verdict.{Verdict};
+ghost use Rattle.checker.specs.declared.verdict.Verdict.TheVariants.{Accepted};
+ghost use Rattle.checker.specs.Verdicts.{IsVerdict};
+ghost use Rattle.lazy_workers.specs.Solutions.{IsSolution};
+ghost use Rattle.certificate.specs.Texts.{report_text};
+ghost use Rattle.certificate.specs.declared.report.Report.{Report};
+ghost use Rattle.commands.specs.Checks.{IsChecked};
+ghost use Rattle.commands.specs.Reports.{accepted_text};
+ghost use Rattle.position.specs.Games.{OfGame};
+ghost use Rattle.commands.specs.Runs.{IsSolved, IsSampled};
+ghost use Rattle.commands.specs.Samples.{sample_position};
+
+use crate::sample::sample_game;
+use certificate::Report;
+use checker::one_verdict;
+use sim_game::Game;
+
+/// `check` has at most one answer to the bytes of a report.
+pub fn check_has_one_answer()
+    ensures { (bytes text other : List ℕ) (status state : ℕ) → IsChecked bytes status text → IsChecked bytes state other
+        → (status ≡ state) × (text ≡ other) }
+{}
+
+/// The checker accepts each report that is a solution of its game, and has no other verdict on it.
+pub fn solutions_are_accepted<G: Game>(g: &G, r: &Report)
+    ensures accepted { (text : PositionText) (ask : Ask) → IsSolution (G.model g.now) text ask r.now
+        → IsVerdict (G.model g.now) r.now Accepted }
+    ensures only { (text : PositionText) (ask : Ask) → IsSolution (G.model g.now) text ask r.now
+        → (v : Verdict) → IsVerdict (G.model g.now) r.now v → v ≡ Accepted }
+{
+    one_verdict(g, r);
+}
+
+/// `check` accepts each report that `solve` prints, and has no other answer to it. Of `solve`'s statuses 2 alone is
+/// that of a refusal.
+pub fn printed_reports_are_accepted()
+    ensures accepted { (bytes text : List ℕ) (status : ℕ) → IsSolved bytes status text → status ≢ 2
+        → (r : Report) × (text ≡ report_text r) × IsChecked text 0 (accepted_text r) }
+    ensures only { (bytes text answer : List ℕ) (status state : ℕ) → IsSolved bytes status text → status ≢ 2
+        → IsChecked text state answer → state ≡ 0 }
+{}
+
+/// The game of each sample has at most 3682 states, and 32826 nodes in its tree.
+pub fn samples_are_small(number: u32)
+    ensures states { OfGame (sample_position number) (λ S m. HasAtMost m 3682) }
+    ensures nodes { OfGame (sample_position number) (λ S m. tree_size m m.root ≡ 32826) }
+{
+    sample_game(number);
+}
+
+/// `sample` has the statuses 0 and 3 alone: neither turns nor rows run out.
+pub fn samples_are_solved()
+    ensures { (number status : ℕ) (text : List ℕ) → IsSampled number status text → (status ≡ 0) ⊎ (status ≡ 3) }
+{}

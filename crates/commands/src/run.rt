@@ -1,0 +1,139 @@
+//! A run of the program.
+
+ghost use Rattle.std.specs.Prelude.{◌≡◌, ◌≢◌, ◌≤◌, ◌+◌, ℕ, List, length, map, string_bytes, IfOk};
+ghost use Rattle.commands.specs.Words.{HasFewGames, command_of};
+ghost use Rattle.commands.specs.Texts.{usage_text, input_text};
+ghost use Rattle.commands.specs.Runs.{IsAnswerTo, limit_of, IsRun, IsWritten};
+
+use crate::bounds::bounded;
+use crate::check::{checked, faulty};
+use crate::measure::exploited;
+use crate::play::played;
+use crate::reports::ReportFault;
+use crate::sample::sampled;
+use crate::solve::solved;
+use crate::texts::input_text;
+use crate::words::{Command, ReadingCommand, command_of};
+use oracle_search::Gate;
+use position::{InputError, ReadError, Sink, Source, read_all, write_all};
+use seq::Seq;
+use sim_game::NoMemory;
+use std::alloc::Global;
+use std::thread::Threads;
+
+/// What is answered: the status of the program, and its whole text.
+#[derive(Drop)]
+pub(crate) struct Answer {
+    pub(crate) status: u8,
+    pub(crate) text: Seq<u8>,
+}
+
+const USAGE: &[u8] =
+    b"usage: dosolve solve, check, bounds, sample N, exploit SIDE or play COUNT SEED\n";
+
+/// Reads what the command needs, makes the whole answer, and writes it. The result is the status of the program.
+pub fn run<R: Threads + Sync, S: Source, K: Sink, T: Gate + Sync>(
+    rt: &R,
+    alloc: Global,
+    words: &[String],
+    source: &mut S,
+    sink: &mut K,
+    gate: &T,
+) -> u8
+    ensures { IsRun (command_of (map string_bytes words.now))
+        (S.state source.old) (S.state source.new) (K.state sink.old) (K.state sink.new) result }
+{
+    match command_of(words) {
+        None => respond(sink, usage(alloc)),
+        Some(Command::Sample(number)) => respond(sink, sampled(rt, alloc, number, gate)),
+        Some(Command::Reading(command)) => match read_all(alloc, source, limit_of(command)) {
+            Ok(bytes) => respond(sink, answer_to(rt, alloc, command, &bytes, gate)),
+            Err(ReadError::TooLong) => respond(sink, too_long(alloc, command)),
+            Err(ReadError::Failed) => 6,
+            Err(ReadError::NoMemory) => 8,
+        },
+    }
+}
+
+/// The most bytes that a command reads.
+fn limit_of(command: ReadingCommand) -> u64
+    ensures { result ≡ limit_of command }
+{
+    match command {
+        ReadingCommand::Solve => 1_048_576,
+        ReadingCommand::Check => 1_073_741_824,
+        ReadingCommand::Bounds => 1_048_576,
+        ReadingCommand::Exploit(_) | ReadingCommand::Play { .. } => 1_073_741_824,
+    }
+}
+
+/// The answer to the bytes that a command is given, where they are not too many.
+fn answer_to<R: Threads + Sync, T: Gate + Sync>(
+    rt: &R,
+    alloc: Global,
+    command: ReadingCommand,
+    bytes: &[u8],
+    gate: &T,
+) -> Result<Answer, NoMemory>
+    requires short { length bytes.now ≤ limit_of command }
+    requires few { HasFewGames command }
+    ensures { IfOk result (λ a. IsAnswerTo command bytes.now a.status a.text) }
+{
+    match command {
+        ReadingCommand::Solve => solved(rt, alloc, bytes, gate),
+        ReadingCommand::Check => checked(alloc, bytes),
+        ReadingCommand::Bounds => bounded(alloc, bytes),
+        ReadingCommand::Exploit(side) => exploited(alloc, side, bytes),
+        ReadingCommand::Play { games, seed } => played(alloc, games, seed, bytes),
+    }
+}
+
+/// The answer to more bytes than the command reads.
+fn too_long(alloc: Global, command: ReadingCommand) -> Result<Answer, NoMemory>
+    ensures { IfOk result (λ a. (bytes : List ℕ) → length bytes ≡ limit_of command + 1
+        → IsAnswerTo command bytes a.status a.text) }
+{
+    match command {
+        ReadingCommand::Solve => refused(alloc, InputError::TooLong),
+        ReadingCommand::Check => faulty(alloc, ReportFault::TooLong),
+        ReadingCommand::Bounds => refused(alloc, InputError::TooLong),
+        ReadingCommand::Exploit(_) => faulty(alloc, ReportFault::TooLong),
+        ReadingCommand::Play { .. } => faulty(alloc, ReportFault::TooLong),
+    }
+}
+
+/// Writes the answer. The result is its status, or that of a failed sink or of want of memory.
+fn respond<K: Sink>(sink: &mut K, answer: Result<Answer, NoMemory>) -> u8
+    ensures { IsWritten answer (K.state sink.old) (K.state sink.new) result }
+{
+    match answer {
+        Ok(answer) => match write_all(sink, answer.text.as_slice()) {
+            Ok(()) => answer.status,
+            Err(_) => 7,
+        },
+        Err(_) => 8,
+    }
+}
+
+fn usage(alloc: Global) -> Result<Answer, NoMemory>
+    ensures { IfOk result (λ a. (a.status ≡ 1) × (a.text ≡ usage_text)) }
+{
+    let text = USAGE.to_vec(alloc)?;
+    Ok(Answer {
+        status: 1,
+        text: Seq::from_vec(text),
+    })
+}
+
+pub(crate) fn refused(alloc: Global, error: InputError) -> Result<Answer, NoMemory>
+    ensures { IfOk result (λ a. (a.status ≡ 2) × (a.text ≡ input_text error) × (error ≢ InputError.NoMemory)) }
+{
+    if error == InputError::NoMemory {
+        return Err(NoMemory);
+    }
+    let text = input_text(alloc, error)?;
+    Ok(Answer {
+        status: 2,
+        text: Seq::from_vec(text),
+    })
+}

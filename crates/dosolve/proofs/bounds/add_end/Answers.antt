@@ -1,4 +1,0 @@
-use Rattle.dosolve.proofs.bounds.add_end.Goals as goal
-
-pub returns-in-Full : goal.returns-in-Full
-returns-in-Full c = rw c.in-Full.is c.word-in-Full.ensures

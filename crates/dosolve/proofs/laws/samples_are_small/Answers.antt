@@ -1,8 +1,0 @@
-use Rattle.dosolve.proofs.SizeLemmas.{few_states, size_is}
-use Rattle.dosolve.proofs.laws.samples_are_small.Goals as goal
-
-pub returns-clause-states : goal.returns-clause-states
-returns-clause-states c = let game = c.sample_game.result in (game.setting, game.valid, c.sample_game.ensures, few_states c.args.number game.setting game.valid c.sample_game.ensures)
-
-pub returns-clause-nodes : goal.returns-clause-nodes
-returns-clause-nodes c = let game = c.sample_game.result in (game.setting, game.valid, c.sample_game.ensures, size_is c.args.number game.setting game.valid c.sample_game.ensures)

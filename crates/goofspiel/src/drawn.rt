@@ -1,0 +1,182 @@
+//! Goofspiel with prizes drawn by chance: the first prize is bid for first, and after both bids each of those that
+//! are left is the next one with equal chances.
+
+ghost use Rattle.std.specs.Prelude.{◌≡◌, ℕ, ℤ, List, ◌<◌, ◌^◌, length, sum, MatchResult, None, Some};
+ghost use Rattle.goofspiel.specs.DrawnLaws.{drawn_is_game};
+ghost use Rattle.goofspiel.specs.DrawnRules.{drawn_game, KeepsDrawnRules};
+ghost use Rattle.goofspiel.specs.Position.{first_fault, prizes_of, IsPosition, IsSettingOf};
+ghost use Rattle.goofspiel.specs.Rules.{high_of, low_of};
+
+use crate::hands::{hands_key, played};
+use crate::sets::{number_at, size, take_out};
+use crate::{Goofspiel, GoofspielError, Pay, Setting, State};
+use sim_game::{CHANCE, Game, Side};
+use state_key::put;
+
+/// The hands and the score, the places of the prizes that are not drawn yet, packed, and the place of the prize that
+/// is bid for, 0 at an end. In the packed places the lowest bit stands for place 0, and that of each place that is
+/// not drawn is 1.
+#[derive(Clone, Copy, PartialEq, Eq, Debug)]
+pub struct DrawnState {
+    pub hands: State,
+    pub undrawn: u16,
+    pub place: u8,
+}
+
+/// A position of the game.
+#[derive(Clone, Copy, PartialEq, Eq, Debug)]
+pub struct GoofspielDrawn {
+    pub setting: Setting,
+    low: i32,
+    high: i32,
+    ghost valid: { IsPosition setting },
+    ghost low_is: { low ≡ low_of setting.pay setting.score (sum (prizes_of setting)) },
+    ghost high_is: { high ≡ high_of setting.pay setting.score (sum (prizes_of setting)) },
+}
+
+impl GoofspielDrawn {
+    /// The position with these cards, prizes and score, of which the first prize is bid for first. The ranges and the
+    /// errors are those of `Goofspiel::new`.
+    pub fn new(
+        one: &[u8],
+        two: &[u8],
+        prizes: &[u8],
+        score: i32,
+        pay: Pay,
+    ) -> Result<GoofspielDrawn, GoofspielError>
+        requires one { length one.now < 2 ^ 31 }
+        requires two { length two.now < 2 ^ 31 }
+        requires prizes { length prizes.now < 2 ^ 31 }
+        ensures { MatchResult result
+            (λ game. (first_fault one.now two.now prizes.now score ≡ None)
+            × IsSettingOf one.now two.now prizes.now score pay game.setting)
+            (λ fault. first_fault one.now two.now prizes.now score ≡ Some fault) }
+    {
+        let game = Goofspiel::new(one, two, prizes, score, pay)?;
+        Ok(GoofspielDrawn {
+            setting: game.setting,
+            low: game.low,
+            high: game.high,
+        })
+    }
+}
+
+impl Game for GoofspielDrawn {
+    type State = DrawnState;
+
+    ghost model = { λ game. drawn_game game.setting };
+
+    fn root(&self) -> DrawnState {
+        let later = self.setting.count.saturating_sub(1);
+        DrawnState {
+            hands: State {
+                one: self.setting.one,
+                two: self.setting.two,
+                score: self.setting.score,
+            },
+            undrawn: 2 * ((1 << later) - 1),
+            place: 0,
+        }
+    }
+
+    #[inline]
+    fn moves(&self, side: Side, s: DrawnState) -> u32 {
+        match side {
+            Side::One => size(s.hands.one),
+            Side::Two => size(s.hands.two),
+        }
+    }
+
+    #[inline]
+    fn next(&self, s: DrawnState, a: u32, b: u32) -> DrawnState {
+        self.drawn(s, a, b, 0)
+    }
+
+    #[inline]
+    fn payoff(&self, s: DrawnState) -> i32 {
+        match self.setting.pay {
+            Pay::Margin => s.hands.score,
+            Pay::Win => s.hands.score.signum(),
+        }
+    }
+
+    #[inline]
+    fn rank(&self, s: DrawnState) -> u32 {
+        size(s.hands.one)
+    }
+
+    #[inline]
+    fn key(&self, s: DrawnState) -> u64 {
+        let later = put(hands_key(s.hands), s.undrawn as u64, 13);
+        put(later, s.place as u64, 4).0
+    }
+
+    #[inline]
+    fn low(&self) -> i32 {
+        self.low
+    }
+
+    #[inline]
+    fn high(&self) -> i32 {
+        self.high
+    }
+
+    fn width(&self) -> u32 {
+        1.max(size(self.setting.one))
+    }
+
+    fn label(&self, side: Side, s: DrawnState, i: u32) -> u8 {
+        match side {
+            Side::One => number_at(s.hands.one, 1, i),
+            Side::Two => number_at(s.hands.two, 1, i),
+        }
+    }
+
+    #[inline]
+    fn chance_free(&self) -> bool {
+        false
+    }
+
+    #[inline]
+    fn draws(&self, s: DrawnState, _a: u32, _b: u32) -> u32 {
+        1.max(size(s.undrawn))
+    }
+
+    #[inline]
+    fn chance(&self, s: DrawnState, _a: u32, _b: u32, _d: u32) -> u32 {
+        CHANCE / 1.max(size(s.undrawn))
+    }
+
+    #[inline]
+    fn drawn(&self, s: DrawnState, a: u32, b: u32, d: u32) -> DrawnState {
+        let hands = played(s.hands, a, b, self.setting.prizes[s.place as usize]);
+        if s.undrawn == 0 {
+            return DrawnState {
+                hands,
+                undrawn: 0,
+                place: 0,
+            };
+        }
+        let (place, undrawn) = take_out(s.undrawn, 0, d);
+        DrawnState {
+            hands,
+            undrawn,
+            place,
+        }
+    }
+
+    ghost lawful = { λ game. drawn_is_game game.setting game.valid };
+}
+
+/// The states stand for hands of cards, a score and places, and every call answers by the rules on these, draws and
+/// chances too.
+pub fn keeps_drawn_rules(_game: &GoofspielDrawn)
+    ensures { KeepsDrawnRules _game.now.setting }
+{}
+
+/// The same cards, prizes, score and pay give one game.
+pub fn drawn_position_has_one_game()
+    ensures { (one two prizes : List ℕ) (score : ℤ) (pay : Pay) (g h : Setting)
+        → IsSettingOf one two prizes score pay g → IsSettingOf one two prizes score pay h
+        → drawn_game g ≡ drawn_game h }
+{}

@@ -1,0 +1,36 @@
+-- What a worker has left, and what it has done.
+use Rattle.std.specs.Prelude.{ℕ, true, false, [], ◌∷◌, ◌++◌}
+use Rattle.matrix_game.specs.Budget.{Budget}
+use Rattle.serial_ab.specs.Counts.{VisitsView}
+use Rattle.bounds_board.specs.Views.{BoardView}
+use Rattle.oracle_search.specs.Finished.{FinishedView}
+
+pub record WorkerView : Type 0 where
+  pub turns : Budget
+  pub visits : VisitsView
+  pub settled : FinishedView
+
+-- with no full board in mind, as each search begins
+abbrev pub without_full : WorkerView → WorkerView
+without_full w = record w { settled = record w.settled { was_full = false } }
+
+-- with a full board in mind
+abbrev pub with_full : WorkerView → WorkerView
+with_full w = record w { settled = record w.settled { was_full = true } }
+
+-- with one more finished state
+abbrev pub with_key : WorkerView → ℕ → WorkerView
+with_key w key = record w { settled = record w.settled { keys = w.settled.keys ++ key ∷ [] } }
+
+-- a worker and the board that it works on
+pub record WorkView (G N : Type 0) : Type 0 where
+  pub board : BoardView G N
+  pub turns : Budget
+  pub visits : VisitsView
+  pub settled : FinishedView
+
+abbrev pub at_work : {G N : Type 0} → BoardView G N → WorkerView → WorkView G N
+at_work board worker = record { board = board; turns = worker.turns; visits = worker.visits; settled = worker.settled }
+
+abbrev pub at_start : {G N : Type 0} → BoardView G N → WorkerView → WorkView G N
+at_start board worker = at_work board (without_full worker)

@@ -1,0 +1,113 @@
+//! One worker of a search.
+
+ghost use Rattle.std.specs.Prelude.{◌≡◌, [], false, MatchBool, OnOk, OnErr};
+ghost use Rattle.std.specs.List.{Contains};
+ghost use Rattle.oracle_search.specs.Workers.{with_key, with_full, without_full};
+
+use crate::finished::Settled;
+use crate::gate::Gate;
+use matrix_game::Turns;
+use serial_ab::Visits;
+use sim_game::{Game, NoMemory};
+use std::alloc::Global;
+use std::marker::Model;
+
+/// What all searches of a worker have in common.
+#[derive(Clone, Copy)]
+pub struct Setup<'a, G: Game, T: Gate> {
+    pub alloc: Global,
+    pub game: G,
+    /// The worker's number, which says with which moves it begins.
+    pub worker: u32,
+    pub gate: &'a T,
+}
+
+/// What a worker has left, and what it has done.
+#[derive(Drop)]
+pub struct Worker {
+    pub(crate) turns: Turns,
+    pub(crate) visits: Visits,
+    settled: Settled,
+}
+
+impl Model for Worker {
+    ghost use Rattle.oracle_search.specs.Workers.{WorkerView};
+
+    ghost Value = { WorkerView };
+
+    ghost view = { λ w. record { turns = w.turns; visits = w.visits; settled = w.settled } };
+}
+
+impl Worker {
+    /// A worker that has finished no state. It takes no memory.
+    pub fn new(alloc: Global, turns: Turns, visits: Visits) -> Worker
+        ensures { result ≡ record { turns = turns; visits = visits; settled = record { keys = []; was_full = false } } }
+    {
+        Worker {
+            turns,
+            visits,
+            settled: Settled::new(alloc),
+        }
+    }
+
+    pub fn turns(&self) -> &Turns
+        ensures { result.now ≡ self.now.turns }
+    {
+        &self.turns
+    }
+
+    pub fn visits(&self) -> &Visits
+        ensures { result.now ≡ self.now.visits }
+    {
+        &self.visits
+    }
+
+    /// The states that it has finished.
+    pub fn settled(&self) -> &Settled
+        ensures { result.now ≡ self.now.settled }
+    {
+        &self.settled
+    }
+
+    /// Whether a claim of its last search found the board full.
+    pub fn was_full(&self) -> bool
+        ensures { result ≡ self.now.settled.was_full }
+    {
+        self.settled.was_full()
+    }
+
+    pub fn into_turns(self) -> Turns
+        ensures { result ≡ self.turns }
+    {
+        self.turns
+    }
+
+    pub(crate) fn has(&self, key: u64) -> bool
+        ensures { MatchBool result (Contains self.now.settled.keys key) (Contains self.now.settled.keys key → ⊥) }
+    {
+        self.settled.has(key)
+    }
+
+    /// Adds the key of a finished state that is not there yet.
+    pub(crate) fn add(&mut self, key: u64) -> Result<(), NoMemory>
+        requires { Contains self.old.settled.keys key → ⊥ }
+        ensures ok { OnOk result (self.new ≡ with_key self.old key) }
+        ensures err { OnErr result (self.new ≡ self.old) }
+    {
+        self.settled.add(key)
+    }
+
+    /// Keeps in mind that a claim found the board full.
+    pub(crate) fn note_full(&mut self)
+        ensures { self.new ≡ with_full self.old }
+    {
+        self.settled.set_full(true);
+    }
+
+    /// Forgets the full boards of earlier searches.
+    pub(crate) fn begin(&mut self)
+        ensures { self.new ≡ without_full self.old }
+    {
+        self.settled.set_full(false);
+    }
+}

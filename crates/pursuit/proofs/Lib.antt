@@ -1,0 +1,4 @@
+mod Examples
+pub mod NodeLemmas
+pub mod PositionLemmas
+pub mod RoundLemmas

@@ -1,0 +1,12 @@
+use Rattle.pursuit.specs.Laws.{reach_listed, set_small}
+use Rattle.pursuit.proofs.Pursuit.reach.Goals as goal
+
+pub returns-clause-is : goal.returns-clause-is
+returns-clause-is c =
+    let g = c.args.self.now.setting in
+    rw c.with_node.ensures (reach_listed g.nodes g.neighbours c.args.node)
+
+pub returns-clause-small : goal.returns-clause-small
+returns-clause-small c =
+    let g = c.args.self.now.setting in
+    rw c.with_node.ensures (set_small g c.args.self.now.valid c.args.node c.requires)

@@ -1,0 +1,207 @@
+-- The rules of pursuit and evasion make a game.
+use Rattle.std.proofs.Common.{◌≡◌, ℕ, zero, suc, ◌+◌, ◌-◌, ◌^◌, ◌<◌, ◌≤◌, max, pos, neg_ℤ, ◌≤ℤ◌, Bool, true, false, ◌||◌, cond, eqb, List, [], length, get_or, refl, ap, sym, ◌∙◌, inl, inr, arith, add-one}
+use Rattle.std.proofs.lemmas.Bool.{cases_lt, eq-eqb, eqb-false, ne_eqb}
+use Rattle.std.proofs.lemmas.Int.{ints}
+use Rattle.std.proofs.lemmas.List.FromFn.{get_or-range_with_len, length-range_with_len}
+use Rattle.std.proofs.lemmas.List.Elements.{All-filter, All-from_get_or, All-get_or}
+use Rattle.std.proofs.lemmas.Nat.{ones-le}
+use Rattle.std.specs.Int.{bit_at}
+use Rattle.std.specs.Int.Count.{ones}
+use Rattle.std.specs.List.{All, filter, range_with_len}
+use Rattle.sim_game.specs.declared.Side.{Side}
+use Rattle.sim_game.specs.declared.Side.TheVariants.{One, Two}
+use Rattle.sim_game.specs.Model.{Turn, IsTurn, Reachable, IsGame, after_turn}
+use Rattle.sim_game.proofs.ReachLemmas.{reachable_induction}
+use Rattle.pursuit.specs.declared.Setting.{Setting}
+use Rattle.pursuit.specs.declared.State.{State}
+use Rattle.pursuit.specs.Nodes.{is_in, with_node, members, nodes_in}
+use Rattle.pursuit.specs.NodeLaws.{filter_agrees, in_with, members_count, ones_with, with_below}
+use Rattle.pursuit.specs.Position.{IsPosition}
+use Rattle.pursuit.specs.Rules.{Graph, degree, greatest_below, width_of, reach, node_of, is_over, ways, rank_of, key_of, graph_from, graph_of, pursuit_game}
+
+-- ---- sets and lists of nodes
+-- the nodes of a set that passes a test, below the number of nodes
+listed : (n set : ℕ) (p : ℕ → Bool) → ((node : ℕ) → is_in set node ≡ p node) → nodes_in n set ≡ filter p (range_with_len 0 n)
+unfolding members
+listed n set p h = filter_agrees (λ node. eqb (bit_at set (node - 0)) 1) p n 0 (λ node l u. let e : node - 0 ≡ node = omega arith in ap (λ (i : ℕ). eqb (bit_at set i) 1) e ∙ h node)
+
+pub neighbours_listed : (n : ℕ) (sets : List ℕ) (node : ℕ) → nodes_in n (get_or sets node 0) ≡ filter ((graph_from n sets).joined node) (range_with_len 0 n)
+neighbours_listed n sets node = listed n (get_or sets node 0) ((graph_from n sets).joined node) (λ other. refl)
+
+pub degree_is : (n : ℕ) (sets : List ℕ) (node : ℕ) → get_or sets node 0 < 2 ^ n → degree (graph_from n sets) node ≡ ones (get_or sets node 0)
+degree_is n sets node small = sym (ap length (neighbours_listed n sets node)) ∙ members_count n 0 (get_or sets node 0) small
+
+pub reach_listed : (n : ℕ) (sets : List ℕ) (node : ℕ) → nodes_in n (with_node (get_or sets node 0) node) ≡ reach (graph_from n sets) node
+reach_listed n sets node = listed n (with_node (get_or sets node 0) node) (λ other. is_in (get_or sets node 0) other || eqb node other) (λ other. in_with (get_or sets node 0) node other)
+
+pub greatest_above : (n : ℕ) (f : ℕ → ℕ) (i : ℕ) → i < n → f i ≤ greatest_below n f
+greatest_above zero f i h = absurd (omega arith)
+greatest_above (suc n) f i h = elim (cases_lt i n) [
+  | inl earlier ↦ omega (arith, greatest_above n f i earlier)
+  | inr last ↦ let e : i ≡ n = omega arith in rw e (omega arith)
+]
+
+pub greatest_more : (n : ℕ) (f : ℕ → ℕ) → greatest_below (n + 1) f ≡ max (greatest_below n f) (f n)
+greatest_more n f = ap (λ (k : ℕ). greatest_below k f) (add-one n)
+
+greatest_high : (n top : ℕ) (f : ℕ → ℕ) → ((i : ℕ) → i < n → f i ≤ top) → greatest_below n f ≤ top
+greatest_high zero top f h = omega arith
+greatest_high (suc n) top f h = omega (arith, h n (omega arith), greatest_high n top f (λ i l. h i (omega arith)))
+
+in_range : (r : Graph) (node i : ℕ) → i < length (reach r node) → get_or (reach r node) i 0 < r.nodes
+in_range r node i h =
+    let p : ℕ → Bool = λ other. r.joined node other || eqb node other in
+    let all : All (λ other. other < r.nodes) (range_with_len 0 r.nodes) = All-from_get_or (λ other. other < r.nodes) (range_with_len 0 r.nodes) 0
+    (λ k l. let e = get_or-range_with_len 0 r.nodes k 0 (omega (arith, length-range_with_len 0 r.nodes)) in omega (arith, length-range_with_len 0 r.nodes)) in
+    All-get_or (λ other. other < r.nodes) (reach r node) i 0 h (All-filter p (λ other. other < r.nodes) (range_with_len 0 r.nodes) all)
+
+-- ---- ends
+ways_open : (over : Bool) (xs : List ℕ) (i : ℕ) → i < length (cond over [] xs) → over ≡ false
+ways_open true xs i h = absurd (omega arith)
+ways_open false xs i h = refl
+
+ways_few : (over : Bool) (xs : List ℕ) (top : ℕ) → length xs ≤ top → length (cond over [] xs) ≤ top
+ways_few true xs top h = omega arith
+ways_few false xs top h = h
+
+over_at_end : (caught : Bool) (rounds : ℕ) → cond caught 0 rounds ≡ 0 → (caught || eqb rounds 0) ≡ true
+over_at_end true rounds h = refl
+over_at_end false rounds h = eq-eqb rounds 0 h
+
+pub goes_on : (caught : Bool) (rounds : ℕ) → 1 ≤ cond caught 0 rounds → (caught || eqb rounds 0) ≡ false
+goes_on true rounds h = absurd (omega arith)
+goes_on false rounds h = ne_eqb rounds 0 (λ none. absurd (omega arith))
+
+pub rank_now : (caught : Bool) (rounds : ℕ) → (caught || eqb rounds 0) ≡ false → (cond caught 0 rounds ≡ rounds) × (1 ≤ rounds)
+rank_now true rounds h = absurd (cc)
+rank_now false rounds h = let apart = eqb-false rounds 0 h in (refl, omega arith)
+
+pub rank_below : (caught : Bool) (rounds top : ℕ) → rounds ≤ top → cond caught 0 rounds ≤ top
+rank_below true rounds top h = omega arith
+rank_below false rounds top h = h
+
+payoff_small : (caught : Bool) → (neg_ℤ (pos 1) ≤ℤ cond caught (pos 1) (neg_ℤ (pos 1))) × (cond caught (pos 1) (neg_ℤ (pos 1)) ≤ℤ pos 1)
+payoff_small true = (omega (arith, ints), omega (arith, ints))
+payoff_small false = (omega (arith, ints), omega (arith, ints))
+
+-- ---- where the game goes on
+module _ (r : Graph) (side : Side) (s : State) where
+  pub open_ways : is_over s ≡ false → ways r side s ≡ reach r (node_of side s)
+  open_ways h = ap (λ (b : Bool). cond b [] (reach r (node_of side s))) h
+
+  pub turn_open : (i : ℕ) → i < length (ways r side s) → is_over s ≡ false
+  turn_open i h = ways_open (is_over s) (reach r (node_of side s)) i h
+
+  pub open_place : (i : ℕ) → i < length (ways r side s) → i < length (reach r (node_of side s))
+  open_place i h = rw (open_ways (turn_open i h)) at h
+
+  pub way_is : (i : ℕ) → i < length (ways r side s) → get_or (ways r side s) i 0 ≡ get_or (reach r (node_of side s)) i 0
+  way_is i h = ap (λ (xs : List ℕ). get_or xs i 0) (open_ways (turn_open i h))
+
+-- ---- states
+-- what holds of each reachable state
+pub record IsSound (g : Setting) (s : State) : Type 0 where
+  pub one_below : s.one < g.nodes
+  pub two_below : s.two < g.nodes
+  pub rounds_high : s.rounds ≤ g.rounds
+
+abbrev bit_of : Bool → ℕ
+bit_of b = cond b 1 0
+
+same_bit : (a b : Bool) → bit_of a ≡ bit_of b → a ≡ b
+same_bit true true e = refl
+same_bit false false e = refl
+same_bit true false e = absurd (let one : 1 ≡ 0 = e in omega arith)
+same_bit false true e = absurd (let one : 0 ≡ 1 = e in omega arith)
+
+pub bit_small : (b : Bool) → cond b 1 0 ≤ 1
+bit_small true = omega arith
+bit_small false = omega arith
+
+same_state : (s t : State) → s.one ≡ t.one → s.two ≡ t.two → s.rounds ≡ t.rounds → s.caught ≡ t.caught → s ≡ t
+same_state s t p q r u =
+    let made : ℕ → ℕ → ℕ → Bool → State = λ one two rounds caught. record { one = one; two = two; rounds = rounds; caught = caught } in
+    let e : made s.one s.two s.rounds s.caught ≡ made t.one t.two t.rounds t.caught = rw (p, q, r, u) refl in
+    e
+
+module _ (g : Setting) (p : IsPosition g) where
+  pub node_below : (side : Side) (s : State) → IsSound g s → node_of side s < g.nodes
+  node_below One s here = here.one_below
+  node_below Two s here = here.two_below
+
+  pub set_small : (node : ℕ) → node < g.nodes → with_node (get_or g.neighbours node 0) node < 2 ^ g.nodes
+  set_small node h = with_below g.nodes (get_or g.neighbours node 0) node h (p.within node)
+
+  -- a node reaches one node more than it has neighbours
+  pub reach_count : (node : ℕ) → node < g.nodes → length (reach (graph_of g) node) ≡ degree (graph_of g) node + 1
+  reach_count node h =
+      sym (ap length (reach_listed g.nodes g.neighbours node)) ∙ members_count g.nodes 0 (with_node (get_or g.neighbours node 0) node) (set_small node h)
+      ∙ ones_with (get_or g.neighbours node 0) node (p.no_loop node) ∙ ap (λ (n : ℕ). n + 1) (sym (degree_is g.nodes g.neighbours node (p.within node)))
+
+  few_ways : (side : Side) (s : State) → IsSound g s → length (reach (graph_of g) (node_of side s)) ≤ width_of (graph_of g)
+  few_ways side s here =
+      let node = node_of side s in
+      let below = node_below side s here in
+      omega (arith, reach_count node below, greatest_above g.nodes (degree (graph_of g)) node below)
+
+  width_high : width_of (graph_of g) ≤ 32
+  width_high =
+      let each : (node : ℕ) → node < g.nodes → degree (graph_of g) node ≤ 31 = λ node h.
+      let most = ones-le g.nodes (with_node (get_or g.neighbours node 0) node) (set_small node h) in
+      omega (arith, ones_with (get_or g.neighbours node 0) node (p.no_loop node), degree_is g.nodes g.neighbours node (p.within node), most, p.nodes_high) in
+      omega (arith, greatest_high g.nodes 31 (degree (graph_of g)) each)
+
+  sound_root : IsSound g (pursuit_game g).root
+  sound_root = record { one_below = p.one_below; two_below = p.two_below; rounds_high = omega arith }
+
+  pub sound_turn : (s : State) (t : Turn) → IsSound g s → IsTurn (pursuit_game g) s t → IsSound g (after_turn (pursuit_game g) s t)
+  sound_turn s t here turn = record {
+    one_below = rw (way_is (graph_of g) One s t.one turn.one_below) (in_range (graph_of g) s.one t.one (open_place (graph_of g) One s t.one turn.one_below));
+    two_below = rw (way_is (graph_of g) Two s t.two turn.two_below) (in_range (graph_of g) s.two t.two (open_place (graph_of g) Two s t.two turn.two_below));
+    rounds_high = omega (arith, here.rounds_high);
+  }
+
+  pub sound : (s : State) → Reachable (pursuit_game g) s → IsSound g s
+  sound = reachable_induction (pursuit_game g) (IsSound g) sound_root (λ s t _ here turn. sound_turn s t here turn)
+
+  rank_falls : (s : State) (t : Turn) → IsTurn (pursuit_game g) s t → rank_of (after_turn (pursuit_game g) s t) < rank_of s
+  rank_falls s t turn =
+      let now = rank_now s.caught s.rounds (turn_open (graph_of g) One s t.one turn.one_below) in
+      let next : State = after_turn (pursuit_game g) s t in
+      omega (arith, now.0, now.1, rank_below next.caught next.rounds (s.rounds - 1) (omega arith))
+
+  end_moves : (side : Side) (s : State) → rank_of s ≡ 0 → length (ways (graph_of g) side s) ≡ 0
+  end_moves side s h = rw (over_at_end s.caught s.rounds h) refl
+
+  some_moves : (side : Side) (s : State) → IsSound g s → 1 ≤ rank_of s → 1 ≤ length (ways (graph_of g) side s)
+  some_moves side s here h =
+      rw (open_ways (graph_of g) side s (goes_on s.caught s.rounds h)) (omega (arith, reach_count (node_of side s) (node_below side s here)))
+
+  equal_keys : (s t : State) → IsSound g s → IsSound g t → key_of s ≡ key_of t → s ≡ t
+  equal_keys s t here there e =
+      let a = here.one_below in let b = here.two_below in let c = there.one_below in let d = there.two_below in
+      let high = p.nodes_high in let most = p.rounds_high in let u = here.rounds_high in let v = there.rounds_high in
+      same_state s t (omega arith) (omega arith) (omega arith) (same_bit s.caught t.caught (omega arith))
+
+  pub pursuit_is_game : IsGame (pursuit_game g)
+  pursuit_is_game = record {
+    width_low = omega arith;
+    width_high = width_high;
+    low_least = omega (arith, ints);
+    low_high = omega (arith, ints);
+    high_most = omega (arith, ints);
+    end_moves = λ side s r h. end_moves side s h;
+    other_moves = λ side s r h. some_moves side s (sound s r) h;
+    moves_high = λ side s r. ways_few (is_over s) (reach (graph_of g) (node_of side s)) (width_of (graph_of g)) (few_ways side s (sound s r));
+    rank_high = λ s r. omega (arith, rank_below s.caught s.rounds 31 (omega (arith, (sound s r).rounds_high, p.rounds_high)));
+    rank_falls = λ s t r turn. rank_falls s t turn;
+    payoff_low = λ s r h. (payoff_small s.caught).0;
+    payoff_high = λ s r h. (payoff_small s.caught).1;
+    same_key = λ s t r r' e. equal_keys s t (sound s r) (sound t r') e;
+    key_high = λ s r. let here = sound s r in omega (arith, bit_small s.caught, here.one_below, here.two_below, here.rounds_high, p.nodes_high, p.rounds_high);
+    draws_low = λ s a b r h h'. omega arith;
+    draws_high = λ s a b r h h'. omega arith;
+    chance_low = λ s t r h. omega arith;
+    chance_sum = λ s a b r h h'. refl;
+    one_draw = λ s a b h r h' h''. refl;
+  }

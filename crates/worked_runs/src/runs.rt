@@ -1,0 +1,140 @@
+use commands::run::run;
+use oracle_search::OpenGate;
+use position::{MemorySink, MemorySource};
+use std::alloc::Global;
+use std::process::Abort;
+use std::test::Fail;
+use std::thread::Threads;
+
+// One has the cards 1 and 3, Two 2 and 3, and both prizes count one.
+const POSITION: &str =
+    "{\"game\":\"goofspiel\",\"one\":[1,3],\"two\":[2,3],\"prizes\":[1,1],\"score\":0,\"pay\":\"margin\",\"gap\":1000,\"weight\":65536,\"turns\":1000,\"visits\":10000,\"rows\":1024,\"workers\":1}\n";
+
+const REPORT: &str =
+    "dosolve report 1\ngame goofspiel 1,3 2,3 1,1 0 margin\nweight 65536\nturns 1000\nasked 1000\nresolution 62502\noutcome closed\nlower -500000\nupper -500000\nspent 3\none 5\n67127548 -1000000 65536\n67143933 0 65536\n268454139 0 65536\n268470523 -1000000 65536\n335595772 -500000 32768 32768\ntwo 5\n67127548 -1000000 65536\n67143933 0 65536\n268454139 0 65536\n268470523 -1000000 65536\n335595772 -500000 32768 32768\nend\n";
+
+const VERDICT: &str = "accepted -500000 -500000 closed\n";
+
+const WORST: &str = "exploit one exact -2147483648 65536 2\n";
+
+const GAMES: &str = "turn 1 2 0\nturn 3 3 0\npayoff -1\ngames 2 sum -2 least -1 most -1\n";
+
+// What a call of the sink takes at most.
+const CHUNK: u32 = 40;
+
+/// The words of a command, its input, and the status and the text of its answer.
+#[derive(Clone, Copy)]
+struct Case<'a> {
+    words: &'a [&'a str],
+    input: &'a str,
+    status: u8,
+    text: &'a str,
+}
+
+// Runs the command over devices in memory whose calls of these numbers fail, and compares the status and what is written.
+fn compare<'a, R: Threads + Abort + Sync>(
+    rt: &R,
+    alloc: Global,
+    case: Case<'a>,
+    failing: (&[u32], &[u32]),
+    want: (u8, &[u8]),
+) -> Result<(), Fail> {
+    let mut words = Vec::new(alloc);
+    for word in case.words {
+        words.push(String::from_str(alloc, word)?)?;
+    }
+    let input = case.input.as_bytes().to_vec(alloc)?;
+    let mut source = MemorySource::new(input, failing.0.to_vec(alloc)?);
+    let room = Vec::with_capacity(alloc, 400)?;
+    let mut sink = MemorySink::new(room, CHUNK, failing.1.to_vec(alloc)?);
+    let status = run(rt, alloc, &words, &mut source, &mut sink, &OpenGate);
+    assert_eq!(rt; status, want.0, "{}", case.text);
+    assert_eq!(rt; sink.written(), want.1);
+    Ok(())
+}
+
+// The plain run reads the input in one call and its end in another, and writes in so many calls.
+fn fail_each_call<'a, R: Threads + Abort + Sync>(
+    rt: &R,
+    alloc: Global,
+    case: Case<'a>,
+    writes: u32,
+) -> Result<(), Fail> {
+    for call in 0..2 {
+        compare(rt, alloc, case, (&[call], &[]), (6, &[]))?;
+    }
+    let text = case.text.as_bytes();
+    for call in 0..writes {
+        let front = &text[..text.len().min(CHUNK as usize * call as usize)];
+        compare(rt, alloc, case, (&[], &[call]), (7, front))?;
+    }
+    compare(rt, alloc, case, (&[2], &[writes]), (case.status, text))
+}
+
+#[test]
+fn solve_over_failing_devices(rt: HostRuntime) -> Result<(), Fail> {
+    let case = Case {
+        words: &["solve"],
+        input: POSITION,
+        status: 0,
+        text: REPORT,
+    };
+    fail_each_call(&rt, rt.alloc(), case, 10)
+}
+
+#[test]
+fn check_over_failing_devices(rt: HostRuntime) -> Result<(), Fail> {
+    let case = Case {
+        words: &["check"],
+        input: REPORT,
+        status: 0,
+        text: VERDICT,
+    };
+    fail_each_call(&rt, rt.alloc(), case, 1)
+}
+
+#[test]
+fn exploit_over_failing_devices(rt: HostRuntime) -> Result<(), Fail> {
+    let case = Case {
+        words: &["exploit", "one"],
+        input: REPORT,
+        status: 0,
+        text: WORST,
+    };
+    fail_each_call(&rt, rt.alloc(), case, 1)
+}
+
+#[test]
+fn play_over_failing_devices(rt: HostRuntime) -> Result<(), Fail> {
+    let case = Case {
+        words: &["play", "2", "7"],
+        input: REPORT,
+        status: 0,
+        text: GAMES,
+    };
+    fail_each_call(&rt, rt.alloc(), case, 2)
+}
+
+#[test]
+fn an_end_in_the_middle_of_a_number(rt: HostRuntime) -> Result<(), Fail> {
+    let (Some((position, _)), Some((report, _))) = (
+        POSITION.split_once("36,\"turns\""),
+        REPORT.split_once("768 32768\ntwo"),
+    ) else {
+        panic!(rt; "both numbers are there");
+    };
+    for (command, input, status, text) in [
+        ("solve", position, 2, "input 10 not json\n"),
+        ("bounds", position, 2, "input 10 not json\n"),
+        ("check", report, 9, "report short\n"),
+    ] {
+        let case = Case {
+            words: &[command],
+            input,
+            status,
+            text,
+        };
+        fail_each_call(&rt, rt.alloc(), case, 1)?;
+    }
+    Ok(())
+}

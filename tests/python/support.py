@@ -1,0 +1,69 @@
+"""What the tests of the package share: the program, the cases of tests/vectors, random positions.
+
+DOSOLVE names the program. Which of its commands and games are tried is what docs/FORMATS.md tells of it.
+"""
+from __future__ import annotations
+
+import random
+import re
+from pathlib import Path
+
+import dosolve
+
+TOP = Path(__file__).resolve().parents[2]
+VECTORS = TOP / "tests" / "vectors"
+_FORMATS = (TOP / "docs" / "FORMATS.md").read_text()
+
+
+def commands() -> set[str]:
+    """The commands that the page on formats tells."""
+    table = _FORMATS.split("## Commands")[1].split("| Status |")[0]
+    return set(re.findall(r"^\| `(\w+)", table, re.MULTILINE))
+
+
+def games() -> list[str]:
+    """The games that the page on formats tells."""
+    told = re.search(r"^\| each \| `game` \| text \|([^|]*)\|", _FORMATS, re.MULTILINE)
+    return re.findall(r"`(\w+)`", told[1]) if told else []
+
+
+def cases(command: str) -> list[tuple[str, bytes, bytes, int]]:
+    """Name, input, answer and status of each case of a command."""
+    found = []
+    for file in sorted((VECTORS / command).glob("*.args")):
+        given = file.with_suffix(".in").read_bytes()
+        if given.startswith(b"@spaces "):
+            given = b" " * int(given.split()[1])
+        status = int(file.with_suffix(".status").read_text())
+        found.append((f"{command}/{file.stem}", given, file.with_suffix(".out").read_bytes(), status))
+    return found
+
+
+def _goofspiel(kind: type[dosolve.Game], r: random.Random) -> dosolve.Game:
+    cards = r.choice([1, 2, 3, 3, 4] if kind.chance_free else [1, 2, 3])
+    hands = [r.sample(range(1, 14), cards) for _ in range(2)]
+    return kind(*hands, [r.randint(1, r.choice([3, 100])) for _ in range(cards)], r.randint(-9, 9), r.choice(["margin", "win"]))
+
+
+def _oshi_zumo(r: random.Random) -> dosolve.Game:
+    size = r.choice([0, 1, 2, 3])
+    return dosolve.OshiZumo(size, r.randint(1, 7), r.randint(1, 7), r.choice([1, 1, 2, 3]), r.randint(-size, size))
+
+
+def _tron(r: random.Random) -> dosolve.Game:
+    height, width = r.choice([(2, 3), (3, 3), (3, 4), (2, 5)])
+    one, two, *rest = r.sample(range(height * width), height * width)
+    return dosolve.Tron(height, width, rest[:r.randint(0, len(rest) // 3)], one, two)
+
+
+def _pursuit(r: random.Random) -> dosolve.Game:
+    nodes = r.randint(2, 9)
+    edges = [node for _ in range(r.randint(1, 2 * nodes)) for node in r.sample(range(nodes), 2)]
+    one, two = r.sample(range(nodes), 2)
+    return dosolve.Pursuit(nodes, edges, one, two, r.randint(1, 4))
+
+
+def random_game(name: str, r: random.Random) -> dosolve.Game:
+    """A small game of this name."""
+    made = {"oshi_zumo": _oshi_zumo, "tron": _tron, "pursuit": _pursuit}
+    return made[name](r) if name in made else _goofspiel(dosolve.GAMES[name], r)

@@ -1,0 +1,123 @@
+"""Plans: rounding to whole weights, wrong answers of players, what a sheet plays, samples."""
+import dataclasses
+import random
+import unittest
+from fractions import Fraction
+
+import dosolve
+from dosolve import Row, Sheet, whole_weights
+
+GAME = dosolve.Goofspiel([1, 3], [2, 3], [1, 1])
+ROOT = 335595772
+
+
+class Rounding(unittest.TestCase):
+    def test_worked_by_hand(self):
+        self.assertEqual(whole_weights([1, 1, 1], 3, 8192), (2731, 2731, 2730))
+        self.assertEqual(whole_weights([0.5, 0.25, 0.25], 3, 8193), (4097, 2048, 2048))
+        self.assertEqual(whole_weights([Fraction(1, 3), Fraction(2, 3)], 2, 8192), (2731, 5461))
+        self.assertEqual(whole_weights([True, False], 2, 8192), (8192, 0))
+        self.assertEqual(whole_weights([8000, 0, 192], 3, 8192), (8000, 0, 192))
+
+    def test_the_sum_is_the_total_and_no_weight_is_one_off(self):
+        source = random.Random(1)
+        for _ in range(2000):
+            values = [source.choice([0, source.random(), 1e-9]) for _ in range(source.randint(1, 32))]
+            if sum(values) < 1e-6:
+                continue
+            chances = [value / sum(values) for value in values]
+            total = source.randint(8192, 1_048_576)
+            weights = whole_weights(chances, len(chances), total)
+            self.assertEqual(sum(weights), total)
+            for weight, chance in zip(weights, chances):
+                self.assertLess(abs(weight - chance * total), 1.001)
+                self.assertGreaterEqual(weight, 0)
+
+    def test_what_is_no_plan_is_refused(self):
+        for values, words in (([0.5, -0.5, 1], "weight 1 is -0.5, and must not be negative"), ([1, 2], "2 weights for 3 moves"),
+                              ([0.5, 0.4, 0], "the probabilities sum to 0.9, and have to sum to 1"), ([0, 0, 0], "all 0"),
+                              (None, "None is no list of weights"), ([1, "x", 0], "weight 1 is 'x'"), ([float("nan"), 0, 1], "weight 0 is nan"),
+                              ([2.0, 1.0, 1.0], "sum to 4.0"), ([float("inf"), 0, 0], "weight 0 is inf")):
+            with self.assertRaisesRegex(dosolve.Invalid, words):
+                whole_weights(values, 3, 8192)
+
+
+class Sheets(unittest.TestCase):
+    def test_a_made_plan(self):
+        sheet = dosolve.plan(GAME, "one", lambda state: [0.5, 0.5] if state.key == ROOT else [1], 65536)
+        self.assertEqual([(row.key, row.bound, row.weights) for row in sheet.rows],
+                         [(67127548, -1000000, (65536,)), (67143933, 0, (65536,)), (268454139, 0, (65536,)),
+                          (268470523, -1000000, (65536,)), (ROOT, -500000, (32768, 32768))])
+
+    def test_a_wrong_answer_names_side_state_and_moves(self):
+        with self.assertRaisesRegex(dosolve.Invalid, r"3 weights for 2 moves: player two in .*moves are \(2, 3\)"):
+            dosolve.plan(GAME, "two", lambda state: [1, 1, 1])
+
+    def test_rows_that_are_no_good_play_the_first_move(self):
+        root = GAME.root()
+        for weights in ((8192,), (4096, 4095), (0, 8192, 0)):
+            self.assertEqual(Sheet(GAME, "one", 8192, [Row(ROOT, 0, weights)]).weights(root), (8192, 0))
+        self.assertEqual(Sheet(GAME, "one", 8192, [Row(ROOT, 0, (0, 8192))]).weights(root), (0, 8192))
+        self.assertEqual(Sheet(GAME, "one", 8192).weights(root), (8192, 0))
+        self.assertEqual(Sheet(GAME, "one", 8192).root_bound, -2_000_000)
+
+    def test_a_state_of_another_game_is_refused(self):
+        other = dataclasses.replace(GAME, prizes=(1, 2)).root()
+        with self.assertRaisesRegex(dosolve.Invalid, "goofspiel 1,3 2,3 1,2 0 margin is none of the plan's game"):
+            Sheet(GAME, "one", 8192).weights(other)
+
+    def test_wrong_rows_are_refused(self):
+        for make, words in ((lambda: Row(-1, 0, (8192,)), "the key of a row is -1"),
+                            (lambda: Row(5, 4 * 10**9 + 1, (1,)), "the bound of the row 5"),
+                            (lambda: Row(5, 0, (-1, 8193)), "weight 0 of the row 5 is -1"), (lambda: Row(5, 0, ()), "has 0 weights"),
+                            (lambda: Sheet(GAME, "one", 8191), "the total of a sheet is 8191"),
+                            (lambda: Sheet(GAME, "three", 8192), "a side is 'one' or 'two', not 'three'"),
+                            (lambda: Sheet(GAME, "one", 8192, [Row(2, 0, (1,)), Row(2, 0, (1,))]), "2 follows 2")):
+            with self.assertRaisesRegex(dosolve.Invalid, words):
+                make()
+
+    def test_wrong_reports_are_refused(self):
+        one, two = (Sheet(GAME, side, 8192) for side in dosolve.SIDES)
+        good = dosolve.Report.of(one, two)
+        for changes, words in (({"lower": 0.5}, "lower is 0.5"), ({"outcome": "won"}, "outcome is 'won'"), ({"spent": ()}, "spent has 0"),
+                               ({"one": two}, "the sheet one is of another"), ({"weight": 8193}, "the sheet one is of another"),
+                               ({"turns": -1}, "turns is -1")):
+            with self.assertRaisesRegex(dosolve.Invalid, words):
+                dataclasses.replace(good, **changes)
+
+    def test_samples_follow_the_weights(self):
+        sheet, source = Sheet(GAME, "one", 8192, [Row(ROOT, 0, (2048, 6144))]), random.Random(5)
+        moves = [sheet.sample(GAME.root(), source) for _ in range(4000)]
+        self.assertAlmostEqual(sum(moves) / 4000, 0.75, delta=0.03)
+        self.assertEqual(Sheet(GAME, "one", 8192, [Row(ROOT, 0, (0, 8192))]).sample(GAME.root()), 1)
+
+
+class States(unittest.TestCase):
+    def test_moves_out_of_range_and_payoffs_too_early_are_refused(self):
+        root = GAME.root()
+        for call in (lambda: root.after(2, 0), lambda: root.after(-1, 0), lambda: root.after(0, 0, 1), lambda: root.payoff,
+                     lambda: root.moves("three"), lambda: root.after(0, 0).after(0, 0).after(0, 0)):
+            with self.assertRaises(dosolve.Invalid):
+                call()
+
+    def test_keys_worked_by_hand(self):
+        """The keys that docs/FORMATS.md works out, and others."""
+        tron = dosolve.Tron(3, 4, [], 0, 11).root()
+        self.assertEqual((GAME.root().key, GAME.root().after(1, 0).key), (ROOT, 67143933))
+        self.assertEqual(dosolve.OshiZumo(1, 6, 5, 2).root().key, 16581)
+        self.assertEqual((tron.key, tron.moves("one"), tron.moves("two")), (8392715, (1, 2), (0, 3)))
+        self.assertEqual(dosolve.GoofspielDrawn([2], [1], [1]).root().key, 17593561251840)
+        drawn = dosolve.GoofspielDrawn([4, 5, 6], [1, 2, 3], [1, 2, 3]).root()
+        self.assertEqual((drawn.key, drawn.chances(0, 0)), (492589026902112, (180180, 180180)))
+        pursuit = dosolve.Pursuit(3, [0, 1, 1, 2], 0, 2, 2).root()
+        self.assertEqual((pursuit.key, pursuit.moves("one"), pursuit.after(1, 0).payoff), (2050, (0, 1), 1))
+
+    def test_resolutions_worked_by_hand(self):
+        for game, weight, resolution in ((GAME, 65536, 62502), (dosolve.OshiZumo(1, 2, 1), 65536, 31252),
+                                         (dosolve.GoofspielDrawn([2], [1], [1]), 65536, 11051),
+                                         (dosolve.Pursuit(3, [0, 1, 1, 2], 0, 2, 2), 65536, 38276)):
+            self.assertEqual(game.resolution(weight), resolution)
+
+
+if __name__ == "__main__":
+    unittest.main()

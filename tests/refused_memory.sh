@@ -1,0 +1,81 @@
+#!/usr/bin/env bash
+# refused_memory.sh PROGRAM: refuses each request for memory in turn of `solve` of examples/goofspiel_mixed.json by four
+# workers, of `bounds` of it, and of `check`, `exploit one` and `play 3 5` of its report. Each run has to end with status 8 and write nothing, or to give
+# the plain answer, where the program can do without what was refused: a thread, or room ahead for a list (the kit's lists
+# ask for the room that they expect first, and then for what they need). Needs a C compiler; no part of the gate. Prints for
+# each command how many requests were refused; the last line is `N passed, M failed`.
+set -u
+if [ $# -ne 1 ]; then
+    echo "usage: refused_memory.sh PROGRAM" >&2
+    exit 2
+fi
+program=$(realpath "$1") || exit 2
+here=$(dirname "$(realpath "$0")")
+work=$(mktemp -d) || exit 2
+trap 'rm -rf "$work"' EXIT
+"${CC:-cc}" -shared -fPIC -O1 -o "$work/refused.so" "$here/refused_memory.c" -ldl -lpthread || exit 2
+
+example=$here/../examples/goofspiel_mixed
+sed 's/"workers":1/"workers":4/' "$example.json" > "$work/solve.in"
+cp "$example.json" "$work/bounds.in"
+for command in check exploit play; do
+    cp "$example.report" "$work/$command.in"
+done
+commands=(solve bounds check "exploit one" "play 3 5")
+
+for words in "${commands[@]}"; do
+    command=${words%% *}
+    # shellcheck disable=SC2086
+    "$program" $words < "$work/$command.in" > "$work/$command.plain" || exit 1
+done
+
+# Whether this is the answer without a refusal; that of several workers may have other turns.
+is_plain() { # command, status
+    [ "$2" = 0 ] || return 1
+    case $1 in
+    solve) [ "$("$program" check < "$work/out")" = "accepted -500000 -500000 closed" ] ;;
+    *) cmp -s "$work/out" "$work/$1.plain" ;;
+    esac
+}
+
+passed=0
+failed=0
+for words in "${commands[@]}"; do
+    command=${words%% *}
+    number=0
+    unreached=0
+    empty=0
+    plain=0
+    threads=0
+    # The number of requests of several workers is another one in each run.
+    while [ "$unreached" -lt 20 ]; do
+        number=$((number + 1))
+        # shellcheck disable=SC2086
+        timeout -k 1 20 env REFUSED="$number" LD_PRELOAD="$work/refused.so" "$program" $words \
+            < "$work/$command.in" > "$work/out" 2> "$work/err" 9> "$work/letter"
+        status=$?
+        letter=$(cat "$work/letter")
+        if [ -z "$letter" ]; then
+            unreached=$((unreached + 1))
+            continue
+        fi
+        unreached=0
+        if [ "$letter" = t ] && is_plain "$command" "$status"; then
+            threads=$((threads + 1))
+        elif [ "$letter" = m ] && [ "$status" = 8 ] && [ ! -s "$work/out" ]; then
+            empty=$((empty + 1))
+        elif [ "$letter" = m ] && is_plain "$command" "$status"; then
+            plain=$((plain + 1))
+        else
+            failed=$((failed + 1))
+            echo "FAILED $command, request $number ($letter): status $status, $(stat -c %s "$work/out") bytes"
+        fi
+    done
+    passed=$((passed + empty + plain + threads))
+    echo "$command: $((empty + plain + threads)) refused, of which $empty ended with status 8, $plain did without room ahead," \
+        "and $threads without a thread"
+    # Where most do without, want of memory is not told.
+    [ "$empty" -gt "$plain" ] || failed=$((failed + 1))
+done
+echo "$passed passed, $failed failed"
+[ "$failed" -eq 0 ] && [ "$passed" -gt 0 ]

@@ -2,10 +2,10 @@
 """bench.py PROGRAM [OTHER] [--runs N] [--only WORD]: times the program on bench/positions, and prints a Markdown table.
 
 Each file there is COMMAND_NAME.json, a position that COMMAND is given; for `check`, `exploit` and `play` a lawful report is made
-of it first, with a row for each state (make_report.py), and `exploit` is that of One, `play` of 1000 games. The programs run in turn, N times each (5); a line has the median of wall and user
-seconds, the most memory (that of this script, some 14 MB, where the program takes less), and what the answer tells. OTHER is
-any program with the same commands; it is left out where several workers search, since their answers depend on the schedule.
---only takes the files whose names hold WORD.
+of it first, with a row for each state (make_report.py), and `exploit` is that of One, `play` of 1000 games. The programs run
+in turn, N times each (5); a line has the median of wall and user seconds, the most memory (that of this script, some 14 MB,
+where the program takes less), and what the answer tells. OTHER is any program with the same commands; it is left out where
+several workers search, since their answers depend on the schedule. --only takes the files whose names hold WORD.
 """
 import argparse
 import json

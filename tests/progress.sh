@@ -1,0 +1,62 @@
+#!/usr/bin/env bash
+# progress.sh PROGRAM: searches Goofspiel with the cards 1 to 8 for some seconds, without and with DOSOLVE_PROGRESS, and
+# looks whether the report is the same and whether standard error has what docs/FORMATS.md tells of it.
+set -u
+if [ $# -ne 1 ]; then
+    echo "usage: progress.sh PROGRAM" >&2
+    exit 2
+fi
+program=$(realpath "$1") || exit 2
+folder=$(mktemp -d) || exit 2
+trap 'rm -rf "$folder"' EXIT
+unset DOSOLVE_PROGRESS
+failed=0
+fails() {
+    echo "FAILED: $1"
+    failed=$((failed + 1))
+}
+
+# The report, standard error and status of a search by WORKERS, each of TURNS; `took` is its time in milliseconds.
+search() {
+    local from cards=[1,2,3,4,5,6,7,8]
+    echo "{\"game\":\"goofspiel\",\"one\":$cards,\"two\":$cards,\"prizes\":$cards,\"score\":0,\"pay\":\"margin\",\"gap\":0," \
+        "\"weight\":8192,\"turns\":$2,\"visits\":200000,\"rows\":1000000,\"workers\":$1}" > "$folder/position"
+    from=$(date +%s%3N)
+    "$program" solve < "$folder/position" > "$folder/$3.report" 2> "${4:-$folder/$3.told}"
+    echo $? > "$folder/$3.status"
+    took=$(($(date +%s%3N) - from))
+}
+
+# Whether each of WORKERS told at least LEAST lines, whose seconds rise and whose turns do not fall from line to line.
+told() {
+    awk -v workers="$1" -v least="$2" -v most=$((took / 1000)) '
+        !/^worker (0|[1-9][0-9]*) turns (0|[1-9][0-9]*) seconds [1-9][0-9]*$/ { bad = 1 }
+        $2 >= workers || $4 < turns[$2] || $6 <= seconds[$2] || $6 > most { bad = 1 }
+        { turns[$2] = $4; seconds[$2] = $6; lines[$2]++ }
+        END { for (worker = 0; worker < workers; worker++) if (lines[worker] < least) bad = 1; exit bad }' "$folder/$3.told"
+}
+
+same() {
+    cmp "$folder/without.report" "$folder/$1.report" && cmp "$folder/without.status" "$folder/$1.status"
+}
+
+turns=25000
+took=0
+while [ "$took" -lt 3000 ]; do
+    turns=$((2 * turns))
+    search 1 "$turns" without
+done
+[ -s "$folder/without.told" ] && fails "standard error without the variable"
+
+DOSOLVE_PROGRESS= search 1 "$turns" with
+same with || fails "another report with the variable"
+told 1 $((took / 2000)) with || fails "what one worker tells in $took ms: $(cat "$folder/with.told")"
+
+DOSOLVE_PROGRESS=1 search 2 "$turns" two
+told 2 1 two || fails "what two workers tell in $took ms: $(cat "$folder/two.told")"
+
+DOSOLVE_PROGRESS=1 search 1 "$turns" refused /dev/full
+same refused || fails "another report where standard error takes nothing"
+
+echo "$failed failed"
+[ "$failed" -eq 0 ]

@@ -1,8 +1,9 @@
 #!/usr/bin/env bash
-# many_workers.sh PROGRAM [RUNS [OTHER]]: solves three games RUNS times (200) by 2, 4 and 16 workers each, and has every
-# report checked: by the program's `check`, and by `OTHER verify`, which works out what both plans are worth, where
-# another program is given. The schedule is another one in each run, so this is no part of the gate: it looks for what no
-# contract says of threads, as a run that does not end.
+# many_workers.sh PROGRAM [RUNS [OTHER]]: solves three games RUNS times (200) by 2, 4 and 16 workers each, and two larger ones
+# a tenth as often. Each report is checked: by the program's `check`, and by `OTHER verify`, which works out what both plans
+# are worth, where another program is given; and its gap is at most one and a half times that of one worker. The schedule is
+# another one in each run, so this is no part of the gate: it looks for what no contract says of threads, as a run that does
+# not end, or workers that leave states too early.
 set -u
 if [ $# -lt 1 ]; then
     echo "usage: many_workers.sh PROGRAM [RUNS [OTHER]]" >&2
@@ -14,31 +15,52 @@ other=
 [ $# -ge 3 ] && { other=$(realpath "$3") || exit 2; }
 report=$(mktemp) || exit 2
 trap 'rm -f "$report"' EXIT
-games=(
-    '"game":"goofspiel","one":[1,2,3,4],"two":[1,2,3,4],"prizes":[1,2,3,4],"score":0,"pay":"margin"'
-    '"game":"goofspiel","one":[1,2,3,4,5],"two":[1,2,3,4,5],"prizes":[1,2,3,4,5],"score":0,"pay":"margin"'
+cards() { echo "\"game\":\"goofspiel\",\"one\":[$1],\"two\":[$1],\"prizes\":[$1],\"score\":0,\"pay\":\"margin\""; }
+small=(
+    "$(cards 1,2,3,4)"
+    "$(cards 1,2,3,4,5)"
     '"game":"tron","height":4,"width":4,"walls":[],"one":0,"two":15'
 )
-verified() {
-    [ -z "$other" ] || "$other" verify < "$report" > /dev/null
+large=(
+    "$(cards 1,2,3,4,5,6)"
+    '"game":"oshi_zumo","size":3,"one":15,"two":15,"least":1,"place":0'
+)
+# The gap of the report, with the words that `check` says of it in `answer`; nothing where it is not accepted.
+answer=
+gap_by() {
+    echo "{$1,\"gap\":0,\"weight\":8192,\"turns\":100000,\"visits\":1000000,\"rows\":65536,\"workers\":$2}" |
+        timeout -k 1 120 "$program" solve > "$report"
+    local status=$?
+    answer=$("$program" check < "$report")
+    local word lower upper rest
+    read -r word lower upper rest <<< "$answer"
+    gap=
+    if [ "$status" -le 3 ] && [ "$word" = accepted ] && { [ -z "$other" ] || "$other" verify < "$report" > /dev/null; }; then
+        gap=$((upper - lower))
+    fi
 }
 solved=0
 failed=0
-for game in "${games[@]}"; do
+solve() {
+    gap_by "$1" 1
+    local alone=$gap
     for workers in 2 4 16; do
-        for _ in $(seq "$runs"); do
-            echo "{$game,\"gap\":0,\"weight\":8192,\"turns\":100000,\"visits\":1000000,\"rows\":65536,\"workers\":$workers}" |
-                timeout -k 1 120 "$program" solve > "$report"
-            status=$?
-            answer=$("$program" check < "$report")
-            if [ "$status" -le 3 ] && [ "${answer%% *}" = accepted ] && verified; then
+        for _ in $(seq "$2"); do
+            gap_by "$1" "$workers"
+            if [ -n "$gap" ] && [ -n "$alone" ] && [ $((2 * gap)) -le $((3 * alone)) ]; then
                 solved=$((solved + 1))
             else
                 failed=$((failed + 1))
-                echo "FAILED with $workers workers (status $status, $answer)"
+                echo "FAILED with $workers workers (gap $gap, one worker $alone; $answer)"
             fi
         done
     done
+}
+for game in "${small[@]}"; do
+    solve "$game" "$runs"
+done
+for game in "${large[@]}"; do
+    solve "$game" $(((runs + 9) / 10))
 done
 echo "$solved accepted, $failed failed"
 [ "$failed" -eq 0 ]

@@ -1,8 +1,9 @@
 #!/usr/bin/env python3
 """random_positions.py PROGRAM [OTHER] [COUNT [SEED]]: solves random positions, and has every report checked.
 
-Each of COUNT positions (500) of the games goes to `solve` and `bounds`, with few turns, visits and rows, so that every outcome
-comes up; every fourth is spoilt first, so that it is refused. Each answer has to be one that docs/FORMATS.md tells, `check`
+Each of COUNT positions (500) of the games goes to `solve` and `bounds`, with few or ample turns, visits and rows, so that every
+outcome comes up, also with visits that end inside a search that was done before; every fourth is spoilt first, so that it is
+refused. Each answer has to be one that docs/FORMATS.md tells, `check`
 has to accept each report, and no lower bound may be above an upper one of either command. Where OTHER is given, any program
 with the same commands, bytes and status have to be those of OTHER. One seed makes the same positions again. No part of the
 gate.
@@ -64,8 +65,9 @@ GAMES = [goofspiel, oshi_zumo, tron, goofspiel_drawn, pursuit]
 def position(r, spoil, games=GAMES):
     p = r.choice(games)(r)
     p.update(gap=r.choice([0, 0, 1000, 1000000]), weight=r.choice([8192, 8193, 65536, 1048576]),
-             turns=r.choice([0, 0, 1, 2, 5, 50]), visits=r.choice([0, 1, 5, 50, 1000, 100000]),
-             rows=r.choice([1, 2, 5, 20, 200, 65536]), workers=1)
+             turns=r.choice([0, 0, 1, 2, 5, 50, 5000]),
+             visits=r.choice([0, 1, 5, 50, 1000, 100000, r.randint(20, 2000), r.randint(20, 20000), 1099511627776]),
+             rows=r.choice([1, 2, 5, 20, 200, 65536, 65536]), workers=1)
     for _ in range(r.randint(1, 2) if spoil else 0):
         name = r.choice(list(p))
         if r.random() < 0.2:

@@ -1,9 +1,11 @@
 #!/usr/bin/env bash
 # refused_memory.sh PROGRAM: refuses each request for memory in turn of `solve` of examples/goofspiel_mixed.json by four
-# workers, of `bounds` of it, and of `check`, `exploit one` and `play 3 5` of its report. Each run has to end with status 8 and write nothing, or to give
-# the plain answer, where the program can do without what was refused: a thread, or room ahead for a list (the kit's lists
-# ask for the room that they expect first, and then for what they need). Needs a C compiler; no part of the gate. Prints for
-# each command how many requests were refused; the last line is `N passed, M failed`.
+# workers, of `solve` of a game of four cards by one worker, which keeps searches and matrices, of `bounds` of that game, and
+# of `check`, `exploit one` and `play 3 5` of the report of the example. Each run has to end with status 8 and write nothing,
+# or to give the plain answer, where the program can do without what was refused: a thread, a memory of what was found, or
+# room ahead for a list (the kit's lists ask for the room that they expect first, and then for what they need). Needs a C
+# compiler; no part of the gate. Prints for each command how many requests were refused; the last line is
+# `N passed, M failed`.
 set -u
 if [ $# -ne 1 ]; then
     echo "usage: refused_memory.sh PROGRAM" >&2
@@ -16,32 +18,39 @@ trap 'rm -rf "$work"' EXIT
 "${CC:-cc}" -shared -fPIC -O1 -o "$work/refused.so" "$here/refused_memory.c" -ldl -lpthread || exit 2
 
 example=$here/../examples/goofspiel_mixed
-sed 's/"workers":1/"workers":4/' "$example.json" > "$work/solve.in"
-cp "$example.json" "$work/bounds.in"
+sed 's/"workers":1/"workers":4/' "$example.json" > "$work/workers.in"
+cards='"one":[1,2,3,4],"two":[1,2,3,4],"prizes":[1,2,3,4]'
+echo "{\"game\":\"goofspiel\",$cards,\"score\":0,\"pay\":\"margin\",\"gap\":0,\"weight\":8192,\"turns\":40,\"visits\":100000,\"rows\":4096,\"workers\":1}" \
+    > "$work/alone.in"
+cp "$work/alone.in" "$work/bounds.in"
 for command in check exploit play; do
     cp "$example.report" "$work/$command.in"
 done
-commands=(solve bounds check "exploit one" "play 3 5")
+# The name of each case, and the words of its command.
+cases=("workers solve" "alone solve" "bounds bounds" "check check" "exploit exploit one" "play play 3 5")
 
-for words in "${commands[@]}"; do
-    command=${words%% *}
+declare -A plain_status
+for case in "${cases[@]}"; do
+    read -r name words <<< "$case"
     # shellcheck disable=SC2086
-    "$program" $words < "$work/$command.in" > "$work/$command.plain" || exit 1
+    "$program" $words < "$work/$name.in" > "$work/$name.plain"
+    plain_status[$name]=$?
+    [ "${plain_status[$name]}" -le 5 ] || exit 1
 done
 
 # Whether this is the answer without a refusal; that of several workers may have other turns.
-is_plain() { # command, status
-    [ "$2" = 0 ] || return 1
+is_plain() { # case, status
+    [ "$2" = "${plain_status[$1]}" ] || return 1
     case $1 in
-    solve) [ "$("$program" check < "$work/out")" = "accepted -500000 -500000 closed" ] ;;
+    workers) [ "$("$program" check < "$work/out")" = "accepted -500000 -500000 closed" ] ;;
     *) cmp -s "$work/out" "$work/$1.plain" ;;
     esac
 }
 
 passed=0
 failed=0
-for words in "${commands[@]}"; do
-    command=${words%% *}
+for case in "${cases[@]}"; do
+    read -r command words <<< "$case"
     number=0
     unreached=0
     empty=0
@@ -72,7 +81,7 @@ for words in "${commands[@]}"; do
         fi
     done
     passed=$((passed + empty + plain + threads))
-    echo "$command: $((empty + plain + threads)) refused, of which $empty ended with status 8, $plain did without room ahead," \
+    echo "$words ($command): $((empty + plain + threads)) refused, of which $empty ended with status 8, $plain did without room ahead," \
         "and $threads without a thread"
     # Where most do without, want of memory is not told.
     [ "$empty" -gt "$plain" ] || failed=$((failed + 1))

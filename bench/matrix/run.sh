@@ -1,7 +1,7 @@
 #!/usr/bin/env bash
 # run.sh [RUNS [SOLVER]]: times the stage solver of matrix_game, RUNS times (5), in nanoseconds a round; beside it the plain
 # solver in the Rust file SOLVER, which has the types Matrix and Turns, where one is given. The two run in turn; a line of the
-# table has the median of each, and their ratio. Builds main.rt.txt in a scratch folder, over copies of the crates that it
+# table has the least of each, and their ratio. Builds main.rt.txt in a scratch folder, over copies of the crates that it
 # stands on, which are proved there. Needs rt and awk, and rustc for SOLVER.
 set -eu
 runs=${1:-5}
@@ -22,7 +22,7 @@ for crate in seq sums matrix_game; do
     done
 done
 cp "$top/HANDLES" "$work/repository/"
-printf 'seq:\nsums:\nmatrix_game: seq sums thiserror\nbench_matrix: matrix_game\n' > "$work/repository/crates.txt"
+{ grep -E '^(seq|sums|matrix_game):' "$top/crates.txt"; echo 'bench_matrix: matrix_game'; } > "$work/repository/crates.txt"
 cp "$here/main.rt.txt" "$work/repository/crates/bench_matrix/src/main.rt"
 touch "$work/repository/crates/bench_matrix/specs/Lib.antt" "$work/repository/crates/bench_matrix/proofs/Lib.antt"
 
@@ -41,27 +41,19 @@ for run in $(seq "$runs"); do
     "$work/repository/crates/bench_matrix/out/bench_matrix" | sed 's/^/ours /'
 done | awk '
     { kind = $2 " " $3 " " $4; if (!(kind in seen)) { seen[kind] = 1; kinds[++count] = kind }
-      times[$1, kind, ++taken[$1, kind]] = $5 / (8 * $4); sums[$1, kind] = $6 }
-    function median(who, kind,   n, i, j, x, list) {
-        n = taken[who, kind]
-        for (i = 1; i <= n; i++) {
-            x = times[who, kind, i]
-            for (j = i - 1; j > 0 && list[j] > x; j--) list[j + 1] = list[j]
-            list[j + 1] = x
-        }
-        return list[int((n + 1) / 2)]
-    }
+      time = $5 / (8 * $4); if (!(($1, kind) in least) || time < least[$1, kind]) least[$1, kind] = time
+      sums[$1, kind] = $6 }
     END {
         print "| sides | greatest cell | total | plain | ours | ratio | answers |"
         print "|---|---|---|---|---|---|---|"
         for (k = 1; k <= count; k++) {
             split(kinds[k], part, " ")
-            ours = median("ours", kinds[k])
-            if (!(("plain", kinds[k]) in taken)) {
+            ours = least["ours", kinds[k]]
+            if (!(("plain", kinds[k]) in least)) {
                 printf "| %sx%s | %s | %s | | %.1f | | |\n", part[1], part[1], part[2], part[3], ours
                 continue
             }
-            plain = median("plain", kinds[k])
+            plain = least["plain", kinds[k]]
             same = sums["plain", kinds[k]] == sums["ours", kinds[k]] ? "same" : "DIFFERENT"
             printf "| %sx%s | %s | %s | %.1f | %.1f | %.2f | %s |\n", part[1], part[1], part[2], part[3], plain, ours, ours / plain, same
         }

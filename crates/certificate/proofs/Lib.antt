@@ -2,7 +2,6 @@ pub mod ReportLaws
 pub mod TextLaws
 pub mod LengthLemmas
 pub mod PositionLaws
-pub mod FieldLengths
 pub mod FieldLaws
 pub mod Spelling
 pub mod RowLemmas

@@ -1,16 +1,16 @@
 -- Numbers and how they are written.
-use Rattle.std.proofs.Common.{◌≡◌, ℕ, zero, suc, ◌+◌, ◌-◌, ◌*◌, ◌^◌, ◌<◌, ◌≤◌, ℤ, pos, negsuc, neg_ℤ, unsigned_abs, List, [], ◌∷◌, length, take, drop, get_or, Bool, true, false, not, ◌&&◌, ◌||◌, ◌==◌, cond, bytes_eq, ltb, take_all, decimal, Option, Some, None, option_and_then, SomeIff, refl, sym, ap, subst, ◌∙◌, arith, lt-ltb, ltb-true, ltb-false, eqb-true}
+use Rattle.std.proofs.Common.{◌≡◌, ℕ, zero, suc, ◌+◌, ◌-◌, ◌*◌, ◌^◌, ◌<◌, ◌≤◌, ℤ, pos, negsuc, neg_ℤ, unsigned_abs, List, [], ◌∷◌, length, take, drop, get_or, Bool, true, false, not, ◌&&◌, ◌||◌, ◌==◌, cond, bytes_eq, ltb, take_all, decimal, Option, Some, None, option_map, SomeIff, refl, sym, ap, subst, ◌∙◌, arith, le-ltb, lt-ltb, ltb-true, ltb-false}
 use Rattle.std.specs.Int.{IsInRange}
 use Rattle.std.specs.Fmt.{signed_decimal}
 use Rattle.std.specs.Str.Parse.{AllDigits, digits_value, signed_digits_value}
 use Rattle.std.proofs.lemmas.Bool.{and_parts}
-use Rattle.std.proofs.lemmas.Option.{cond_some}
+use Rattle.std.proofs.lemmas.Option.{cond_some, option_and_then_some}
 use Rattle.std.proofs.lemmas.Fmt.{decimal_is_IsNumeral, decimal_digit, decimal_nonempty, first_decimal, decimal-digits_value}
 use Rattle.std.proofs.lemmas.Int.Digits.{digits_value_more}
 use Rattle.std.proofs.lemmas.Slice.Eq.{bytes_eq-Decides}
 use Rattle.std.proofs.lemmas.Str.{digit_value_digit}
 use Rattle.std.proofs.lemmas.Str.Parse.{numerals_by_value, tells_digits, tells_by_index, digits_value-take-le, digit_at}
-use Rattle.certificate.specs.Numbers.{number_in, signed_in}
+use Rattle.certificate.specs.Numbers.{number_in, natural_in, signed_in, Within}
 
 -- ---- digits
 
@@ -50,8 +50,7 @@ number_takes s n e =
 pub number_again : (n : ℕ) → n < 2 ^ 64 → number_in (decimal n) ≡ Some n
 unfolding number_in
 number_again n small =
-    let v = (decimal_is_IsNumeral n small).1 in
-    rw (v, written_test (decimal n) (decimal n) (ltb n (2 ^ 64)) refl (lt-ltb _ _ small)) refl
+    rw ((decimal_is_IsNumeral n small).1, written_test (decimal n) (decimal n) (ltb n (2 ^ 64)) refl (lt-ltb _ _ small)) refl
 
 pub number_none : (s : List ℕ) → ((n : ℕ) → n < 2 ^ 64 → s ≡ decimal n → ⊥) → number_in s ≡ None
 unfolding number_in
@@ -86,6 +85,23 @@ number-digits s (Some n) plain is =
     let same = decimal-digits_value (numerals_by_value _ tells_digits) s is.0.0 (some_byte s plain) (lone_zero s plain) is.0.1 in
     rw (written_test s (decimal (digits_value 10 s)) (ltb (digits_value 10 s) (2 ^ 64)) (sym same) (lt-ltb _ _ is.0.1)) (ap (λ (m : ℕ). Some m) is.1)
 
+-- ---- from low to high
+
+pub neither : {A : Type 0} (a b : Bool) (x y : A) → cond (a || b) None (Some x) ≡ Some y → (x ≡ y) × (a ≡ false) × (b ≡ false)
+neither true b x y e = absurd cc
+neither false true x y e = absurd cc
+neither false false x y e = (cc, refl, refl)
+
+pub natural_takes : (low high : ℕ) (s : List ℕ) (n : ℕ) → natural_in low high s ≡ Some n → (s ≡ decimal n) × Within low high n
+unfolding natural_in
+natural_takes low high s n e = option_and_then_some _ _ n e (λ m is h.
+    let w = neither (ltb m low) (ltb high m) m n h in
+    ((number_takes s m is).0 ∙ ap decimal w.0, (rw (← w.0) (ltb-false _ _ w.1), rw (← w.0) (ltb-false _ _ w.2))))
+
+pub natural_again : (low high n : ℕ) → high < 2 ^ 64 → Within low high n → natural_in low high (decimal n) ≡ Some n
+unfolding natural_in
+natural_again low high n wide fits = rw (number_again n (omega (arith, fits.1)), le-ltb n low fits.0, le-ltb high n fits.1) refl
+
 -- ---- whole numbers
 
 first_digit : (n : ℕ) → n < 2 ^ 64 → 48 ≤ get_or (decimal n) 0 0
@@ -118,53 +134,30 @@ pub signed_none : (s : List ℕ) → ((z : ℤ) → unsigned_abs z < 2 ^ 63 → 
 unfolding signed_in
 signed_none s never = cond_none _ _ (λ e. let parts = written_parts s _ _ e in never (signed_digits_value 10 s) (ltb-true _ _ parts.1) parts.0)
 
-pub signed-empty : (s : List ℕ) → (length s == 0) ≡ true → signed_in s ≡ None
-signed-empty s none = signed_none s (λ z small e. empty z small (omega (arith, eqb-true _ _ none, ap length e)))
-  where
-    empty : (z : ℤ) → unsigned_abs z < 2 ^ 63 → length (signed_decimal z) ≡ 0 → ⊥
-    empty (pos n) small e = omega (arith, decimal_nonempty n (omega arith))
-    empty (negsuc n) small e = omega arith
-
--- what stands behind a minus
-behind_minus : (ds : List ℕ) (z : ℤ) → unsigned_abs z < 2 ^ 63 → 45 ∷ ds ≡ signed_decimal z → (m : ℕ) × (number_in ds ≡ Some (suc m)) × suc m < 2 ^ 63
-behind_minus ds (pos n) small e = absurd (omega (arith, first_digit n (omega arith), ap (λ (t : List ℕ). get_or t 0 0) e))
-behind_minus ds (negsuc n) small e = (n, rw (ap (drop 1) e) (number_again (suc n) (omega arith)), small)
-
-abbrev less : ℕ → Option ℤ
-less n = cond (n == 0 || ltb (2 ^ 63 - 1) n) None (Some (neg_ℤ (pos n)))
-
-less_none : (ds : List ℕ) (o : Option ℕ) → number_in ds ≡ o → ((m : ℕ) → suc m < 2 ^ 63 → o ≡ Some (suc m) → ⊥) → signed_in (45 ∷ ds) ≡ None
-less_none ds o is never = signed_none (45 ∷ ds) (λ z small same. let b = behind_minus ds z small same in never b.0 b.2 (sym is ∙ b.1))
-
-less_is : (ds : List ℕ) (o : Option ℕ) → number_in ds ≡ o → option_and_then less o ≡ signed_in (45 ∷ ds)
-less_is ds None is = sym (less_none ds None is (λ m small e. absurd cc))
-less_is ds (Some zero) is = sym (less_none ds (Some 0) is (λ m small e. absurd cc))
-less_is ds (Some (suc n)) is =
-    elim (ltb (2 ^ 63 - 1) (suc n)) as (λ t. ltb (2 ^ 63 - 1) (suc n) ≡ t → cond ((suc n == 0) || t) None (Some (negsuc n)) ≡ signed_in (45 ∷ ds)) [
-      | true ↦ λ large. rw (suc_test n) (sym (less_none ds (Some (suc n)) is (λ m small e. let same : n ≡ m = cc in omega (arith, ltb-true _ _ large))))
-      | false ↦ λ fits. rw (suc_test n, (number_takes ds (suc n) is).0) (sym (signed_again (negsuc n) (omega (arith, ltb-false _ _ fits))))
-    ] refl
-  where
-    suc_test : (n : ℕ) → (suc n == 0) ≡ false
-    suc_test n = grind arith
+-- what reads just the texts of some whole numbers reads what stands there
+signed_by : (s : List ℕ) (f : ℕ → ℤ) (o : Option ℕ) → ((n : ℕ) → o ≡ Some n → (s ≡ signed_decimal (f n)) × unsigned_abs (f n) < 2 ^ 63)
+    → ((z : ℤ) → unsigned_abs z < 2 ^ 63 → s ≡ signed_decimal z → (n : ℕ) × (o ≡ Some n)) → option_map f o ≡ signed_in s
+signed_by s f None forth back = sym (signed_none s (λ z small e. let w = back z small e in absurd (let k = w.1 in cc)))
+signed_by s f (Some n) forth back = let t = forth n refl in rw t.0 (sym (signed_again (f n) t.1))
 
 -- a minus and digits
-pub signed-minus : (s : List ℕ) → 0 < length s → get_or s 0 0 ≡ 45 → option_and_then (λ n. cond (n == 0 || ltb (2 ^ 63 - 1) n) None (Some (neg_ℤ (pos n)))) (number_in (take (length s - 1) (drop 1 s))) ≡ signed_in s
+pub signed-minus : (s : List ℕ) → 0 < length s → get_or s 0 0 ≡ 45 → option_map (λ n. neg_ℤ (pos n)) (natural_in 1 (2 ^ 63 - 1) (take (length s - 1) (drop 1 s))) ≡ signed_in s
 signed-minus [] some minus = absurd (omega arith)
-signed-minus (d ∷ ds) some minus = rw (minus, take_all (length (d ∷ ds) - 1) ds (omega arith)) (less_is ds (number_in ds) refl)
+signed-minus (d ∷ ds) some minus = rw (minus, take_all (length (d ∷ ds) - 1) ds (omega arith)) (signed_by (45 ∷ ds) (λ n. neg_ℤ (pos n)) (natural_in 1 (2 ^ 63 - 1) ds) forth back)
+  where
+    forth : (n : ℕ) → natural_in 1 (2 ^ 63 - 1) ds ≡ Some n → (45 ∷ ds ≡ signed_decimal (neg_ℤ (pos n))) × unsigned_abs (neg_ℤ (pos n)) < 2 ^ 63
+    forth zero e = let t = natural_takes 1 (2 ^ 63 - 1) ds 0 e in absurd (omega (arith, t.1.0))
+    forth (suc n) e = let t = natural_takes 1 (2 ^ 63 - 1) ds (suc n) e in (ap (λ (t : List ℕ). 45 ∷ t) t.0, omega (arith, t.1.1))
+
+    back : (z : ℤ) → unsigned_abs z < 2 ^ 63 → 45 ∷ ds ≡ signed_decimal z → (n : ℕ) × (natural_in 1 (2 ^ 63 - 1) ds ≡ Some n)
+    back (pos n) small e = absurd (omega (arith, first_digit n (omega arith), ap (λ (t : List ℕ). get_or t 0 0) e))
+    back (negsuc n) small e = (suc n, rw (ap (drop 1) e) (natural_again 1 (2 ^ 63 - 1) (suc n) (omega arith) (omega arith, omega arith)))
 
 -- digits alone
-pub signed-plain : (s : List ℕ) → (get_or s 0 0 ≡ 45 → ⊥) → option_and_then (λ n. cond (ltb (2 ^ 63 - 1) n) None (Some (pos n))) (number_in s) ≡ signed_in s
-signed-plain s other = more s (number_in s) refl other
+pub signed-plain : (s : List ℕ) → (get_or s 0 0 ≡ 45 → ⊥) → option_map (λ n. pos n) (natural_in 0 (2 ^ 63 - 1) s) ≡ signed_in s
+signed-plain s other = signed_by s (λ n. pos n) (natural_in 0 (2 ^ 63 - 1) s)
+    (λ n e. let t = natural_takes 0 (2 ^ 63 - 1) s n e in (t.0, omega (arith, t.1.1))) back
   where
-    written : (s : List ℕ) (z : ℤ) → unsigned_abs z < 2 ^ 63 → s ≡ signed_decimal z → (get_or s 0 0 ≡ 45 → ⊥) → (n : ℕ) × (number_in s ≡ Some n) × n < 2 ^ 63
-    written s (pos n) small e other = (n, rw e (number_again n (omega arith)), small)
-    written s (negsuc n) small e other = absurd (other (ap (λ (t : List ℕ). get_or t 0 0) e))
-
-    more : (s : List ℕ) (o : Option ℕ) → number_in s ≡ o → (get_or s 0 0 ≡ 45 → ⊥) → option_and_then (λ n. cond (ltb (2 ^ 63 - 1) n) None (Some (pos n))) o ≡ signed_in s
-    more s None is other = sym (signed_none s (λ z small e. let w = written s z small e other in absurd (let k = w.1 in cc)))
-    more s (Some n) is other =
-        elim (ltb (2 ^ 63 - 1) n) as (λ t. ltb (2 ^ 63 - 1) n ≡ t → cond t None (Some (pos n)) ≡ signed_in s) [
-          | true ↦ λ large. sym (signed_none s (λ z small e. let w = written s z small e other in let k = w.1 in let same : n ≡ w.0 = cc in omega (arith, ltb-true _ _ large, w.2)))
-          | false ↦ λ fits. rw (number_takes s n is).0 (sym (signed_again (pos n) (omega (arith, ltb-false _ _ fits))))
-        ] refl
+    back : (z : ℤ) → unsigned_abs z < 2 ^ 63 → s ≡ signed_decimal z → (n : ℕ) × (natural_in 0 (2 ^ 63 - 1) s ≡ Some n)
+    back (pos n) small e = (n, rw e (natural_again 0 (2 ^ 63 - 1) n (omega arith) (omega arith, omega arith)))
+    back (negsuc n) small e = absurd (other (ap (λ (t : List ℕ). get_or t 0 0) e))

@@ -1,28 +1,22 @@
 -- The parts of a text round a separator.
-use Rattle.std.proofs.Common.{◌≡◌, ℕ, ◌+◌, ◌-◌, ◌<◌, ◌≤◌, List, [], ◌∷◌, ◌==◌, length, take, drop, Bool, true, false, cond, Option, Some, None, position, refl, sym, ap, ◌∙◌, arith, ltb, take_all, drop-drop, length-drop, ltb-true, ltb-false, leb, le-leb, ◌&&◌, not, is_some, MatchOption, Bor}
+use Rattle.std.proofs.Common.{◌≡◌, ℕ, ◌+◌, ◌-◌, ◌<◌, ◌≤◌, List, [], ◌∷◌, ◌==◌, length, take, drop, Bool, true, false, cond, Option, Some, None, position, refl, sym, ap, ◌∙◌, arith, ltb, take_all, drop-drop, length-drop, ltb-true, ltb-false, leb, le-leb, not, is_some, MatchOption, Bor}
 use Rattle.std.specs.List.{slice_split, position_or_len, list_all}
 use Rattle.std.specs.Option.{option_map_or}
-use Rattle.std.proofs.lemmas.Bool.{lt-leb}
-use Rattle.std.proofs.lemmas.List.Splits.{slice_split_first, length-slice_split}
+use Rattle.std.proofs.Math.Bool.{and-true}
+use Rattle.std.proofs.lemmas.Bool.{and_right, lt-leb}
+use Rattle.std.proofs.lemmas.List.Splits.{slice_split_first, slice_split_none, length-slice_split}
+use Rattle.std.proofs.lemmas.List.Sums.{fails_before_first}
 use Rattle.certificate.specs.Readers.{has_parts}
 
 abbrev pub parts_at : ℕ → List ℕ → List (List ℕ)
 parts_at c text = slice_split (λ b. b == c) text
-
-none_passes : (p : ℕ → Bool) (bs : List ℕ) → length bs ≤ position_or_len p bs → slice_split p bs ≡ bs ∷ []
-none_passes p [] past = refl
-none_passes p (b ∷ bs) past =
-    elim (p b) as (λ t. p b ≡ t → slice_split p (b ∷ bs) ≡ (b ∷ bs) ∷ []) [
-      | true ↦ λ e. absurd (omega (arith, rw e at past))
-      | false ↦ λ e. rw (e, none_passes p bs (omega (arith, rw e at past))) refl
-    ] refl
 
 pub parts-whole : (c : ℕ) (text : List ℕ) → None ≡ position (λ b. b == c) text → parts_at c text ≡ text ∷ []
 parts-whole c text e =
     let p : ℕ → Bool = λ b. b == c in
     elim (ltb (position_or_len p text) (length text)) as (λ t. ltb (position_or_len p text) (length text) ≡ t → None ≡ cond t (Some (position_or_len p text)) None → slice_split p text ≡ text ∷ []) [
       | true ↦ λ is h. absurd cc
-      | false ↦ λ is h. none_passes p text (ltb-false _ _ is)
+      | false ↦ λ is h. slice_split_none p text (λ k d l. fails_before_first p text k d (omega (arith, ltb-false _ _ is)))
     ] refl e
 
 pub parts-cut : (c i : ℕ) (text front back : List ℕ) → Some i ≡ position (λ b. b == c) text → front ≡ take i text → back ≡ drop i text
@@ -56,9 +50,6 @@ drop_more i all left rest (Some part) so_far here = ap (drop 1) (sym here ∙ so
 
 -- ---- counting the parts
 
-abbrev are_filled : List (List ℕ) → Bool
-are_filled parts = list_all (λ part. not (length part == 0)) parts
-
 -- some parts of all were counted, and those are left
 pub record Counts (most count : ℕ) (left all : List (List ℕ)) : Type 0 where
   pub few : count ≤ most
@@ -76,22 +67,13 @@ pub has_parts-empty : (least most count : ℕ) (part : List ℕ) (left rest all 
 unfolding has_parts
 has_parts-empty least most count part left rest all here none so_far = let f = rw (here, none) at so_far.filled in rw (← f) refl
 
-and_false : (a b : Bool) → b ≡ false → false ≡ (a && b)
-and_false true b e = sym e
-and_false false b e = refl
-
 pub has_parts-many : (least most count : ℕ) (part : List ℕ) (left rest all : List (List ℕ)) → left ≡ part ∷ rest → count ≡ most → Counts most count left all → false ≡ has_parts least most all
 unfolding has_parts
 has_parts-many least most count part left rest all here full so_far =
-    and_false _ _ (sym (and_false (leb least (length all)) (leb (length all) most) (lt-leb _ _ (omega (arith, so_far.len, ap length here)))))
+    sym (and_right _ _ (and_right (leb least (length all)) (leb (length all) most) (lt-leb _ _ (omega (arith, so_far.len, ap length here)))))
 
 pub has_parts-counted : (least most count : ℕ) (left all : List (List ℕ)) → left ≡ [] → Counts most count left all → leb least count ≡ has_parts least most all
 unfolding has_parts
 has_parts-counted least most count left all none so_far =
     let n : count ≡ length all = omega (arith, so_far.len, ap length none) in
-    let filled = rw none at so_far.filled in
-    rw (← filled, ← n, le-leb _ _ so_far.few) (and_true (leb least count))
-  where
-    and_true : (b : Bool) → b ≡ (b && true)
-    and_true true = refl
-    and_true false = refl
+    rw (← (rw none at so_far.filled), ← n, le-leb _ _ so_far.few) (sym (and-true (leb least count)))

@@ -1,10 +1,10 @@
 -- Reading and writing a report undo each other.
-use Rattle.std.proofs.Common.{◌≡◌, ℕ, zero, suc, ◌+◌, ◌^◌, ◌<◌, ◌≤◌, ℤ, pos, neg_ℤ, unsigned_abs, List, [], ◌∷◌, ◌++◌, length, map, true, codes, Option, Some, None, Result, Ok, Err, decimal, All, refl, sym, ap, ap₂, subst, ◌∙◌, arith, append_assoc, append-nil, lt-ltb, ltb-true, eqb-true}
+use Rattle.std.proofs.Common.{◌≡◌, ℕ, zero, suc, ◌+◌, ◌*◌, ◌^◌, ◌<◌, ◌≤◌, ℤ, pos, neg_ℤ, unsigned_abs, List, [], ◌∷◌, ◌++◌, length, map, true, codes, Option, Some, None, Result, Ok, Err, decimal, All, refl, sym, ap, ap₂, subst, ◌∙◌, arith, append_assoc, append-nil, lt-ltb, ltb-true, eqb-true}
 use Rattle.std.specs.Fmt.{signed_decimal}
 use Rattle.std.specs.List.Sorted.{IsStrictlyIncreasing}
 use Rattle.std.proofs.lemmas.Grind.{flat_map-append}
 use Rattle.std.proofs.lemmas.Int.{ints}
-use Rattle.std.proofs.lemmas.List.{length-map}
+use Rattle.std.proofs.lemmas.List.{length-append, length-map}
 use Rattle.std.proofs.lemmas.List.Elements.{All-nil, All-cons, All-head, All-tail}
 use Rattle.std.proofs.lemmas.List.Splits.{join_with_byte-slice_split}
 use Rattle.sim_game.specs.declared.Side.{Side}
@@ -30,42 +30,42 @@ use Rattle.certificate.proofs.TextLaws.{joined, TextLaw, line_law, lines_law, ma
 
 -- ---- the lines
 
-natural_line_law : (word : List ℕ) → IsField word → (low high : ℕ) → high < 2 ^ 64 → TextLaw (natural_line word low high) (λ n. line_text (word ∷ decimal n ∷ [])) (Within low high)
+natural_line_law : (word : List ℕ) → IsField word → (low high : ℕ) → high < 2 ^ 64 → TextLaw (length word + 1 + 22) (natural_line word low high) (λ n. line_text (word ∷ decimal n ∷ [])) (Within low high)
 unfolding natural_line
 natural_line_law word clean low high wide =
     told_law _ (Within low high) (line_law (before_law word clean (natural_law low high wide)) (omega arith)) (λ n fits. (refl, fits.0)) (λ n fits. (fits, (omega arith, omega arith)))
 
-integer_line_law : (word : List ℕ) → IsField word → (low high : ℤ) → ((z : ℤ) → Between low high z → unsigned_abs z < 2 ^ 63) → TextLaw (integer_line word low high) (λ z. line_text (word ∷ signed_decimal z ∷ [])) (Between low high)
+integer_line_law : (word : List ℕ) → IsField word → (low high : ℤ) → ((z : ℤ) → Between low high z → unsigned_abs z < 2 ^ 63) → TextLaw (length word + 1 + 22) (integer_line word low high) (λ z. line_text (word ∷ signed_decimal z ∷ [])) (Between low high)
 unfolding integer_line
 integer_line_law word clean low high small =
     told_law _ (Between low high) (line_law (before_law word clean (integer_law low high small)) (omega arith)) (λ z fits. (refl, fits.0)) (λ z fits. (fits, (omega arith, omega arith)))
 
-bound_line_law : (word : List ℕ) → IsField word → TextLaw (integer_line word (neg_ℤ (pos 4000000000)) (pos 4000000000)) (λ z. line_text (word ∷ signed_decimal z ∷ [])) (λ z. unsigned_abs z ≤ 4000000000)
+bound_line_law : (word : List ℕ) → IsField word → TextLaw (length word + 1 + 22) (integer_line word (neg_ℤ (pos 4000000000)) (pos 4000000000)) (λ z. line_text (word ∷ signed_decimal z ∷ [])) (λ z. unsigned_abs z ≤ 4000000000)
 bound_line_law word clean =
     told_law _ _ (integer_line_law word clean (neg_ℤ (pos 4000000000)) (pos 4000000000) (λ z h. omega (arith, ints, h.0, h.1))) (λ z fits. (refl, small_bound z fits)) bound_between
 
-outcome_line_law : TextLaw outcome_line (λ o. line_text (codes "outcome" ∷ outcome_word o ∷ [])) (λ _. Unit {0})
+outcome_line_law : TextLaw 30 outcome_line (λ o. line_text (codes "outcome" ∷ outcome_word o ∷ [])) (λ _. Unit {0})
 unfolding outcome_line outcome
 outcome_line_law =
     told_law _ (λ _. Unit {0}) (line_law (before_law (codes "outcome") (clean_word (codes "outcome") refl) (last_law Line outcome_spells)) (omega arith)) (λ o fits. (refl, tt)) (λ o fits. (tt, (omega arith, omega arith)))
 
-spent_line_law : TextLaw spent_line (λ ns. line_text (codes "spent" ∷ map decimal ns)) (λ ns. Within 1 16 (length ns) × All (λ n. n ≤ 1099511627776) ns)
+spent_line_law : TextLaw 343 spent_line (λ ns. line_text (codes "spent" ∷ map decimal ns)) (λ ns. Within 1 16 (length ns) × All (λ n. n ≤ 1099511627776) ns)
 unfolding spent_line
 spent_line_law =
-    told_law _ (λ ns. Within 1 16 (length ns) × All (λ n. n ≤ 1099511627776) ns) (line_law (before_law (codes "spent") (clean_word (codes "spent") refl) (naturals_law 16 1099511627776 (omega arith))) (omega arith))
+    told_law _ (λ ns. Within 1 16 (length ns) × All (λ n. n ≤ 1099511627776) ns) (line_law (before_law (codes "spent") (clean_word (codes "spent") refl) (naturals_law 16 20 1099511627776 (omega arith) (omega arith) (omega arith))) (omega arith))
     (λ ns fits. (refl, ((omega (arith, fits.1.0, length-map ns decimal), omega (arith, fits.1.1, length-map ns decimal)), fits.0)))
     (λ ns fits. (fits.1, (omega (arith, fits.0.0, length-map ns decimal), omega (arith, fits.0.1, length-map ns decimal))))
 
-end_line_law : TextLaw end_line (λ _. line_text (codes "end" ∷ [])) (λ _. Unit {0})
+end_line_law : TextLaw 5 end_line (λ _. line_text (codes "end" ∷ [])) (λ _. Unit {0})
 unfolding end_line
 end_line_law = told_law _ (λ _. Unit {0}) (line_law (word_law (codes "end") (clean_word (codes "end") refl)) (omega arith)) (λ u fits. (refl, tt)) (λ u fits. (tt, (omega arith, omega arith)))
 
-game_line_law : (version : ℕ) → TextLaw (game_line version) (λ p. line_text (codes "game" ∷ position_fields p)) (λ p. IsPositionInRange p × (version_of p ≡ version))
+game_line_law : (version : ℕ) → TextLaw 5026 (game_line version) (λ p. line_text (codes "game" ∷ position_fields p)) (λ p. IsPositionInRange p × (version_of p ≡ version))
 unfolding game_line
 game_line_law version = told_law _ (λ p. IsPositionInRange p × (version_of p ≡ version)) (line_law (before_law (codes "game") (clean_word (codes "game") refl) (position_law version)) (omega arith))
     (λ p fits. (refl, fits.0)) (λ p fits. (fits, (omega (arith, five_numbers p), omega (arith, five_numbers p))))
 
-row_line_law : TextLaw row_line (λ row. line_text (row_fields row)) IsRowInRange
+row_line_law : TextLaw 299 row_line (λ row. line_text (row_fields row)) IsRowInRange
 unfolding row_line
 row_line_law = told_law _ IsRowInRange (line_law row_law (omega arith))
     (λ row fits. (refl, record { key = fits.0.key; bound = fits.0.bound; weights = fits.0.weights; moves = (omega (arith, fits.1.0, length-map row.weights decimal), omega (arith, fits.1.1, length-map row.weights decimal)) }))
@@ -133,13 +133,18 @@ rows_again last (row ∷ more) n rest fits up =
     let others = rows_again (Some row.key) more first.0 rest (All-tail IsRowInRange row more fits) up.1 in
     (others.0, rw (append_assoc (line_text (row_fields row)) (text_of (map row_fields more)) rest, first.1, up.0, others.1) refl)
 
+rows_short : (rs : List SheetRow) → All IsRowInRange rs → length (text_of (map row_fields rs)) ≤ length rs * 299
+rows_short [] fits = omega arith
+rows_short (row ∷ more) fits =
+    omega (arith, length-append (line_text (row_fields row)) (text_of (map row_fields more)), row_line_law.short row (All-head IsRowInRange row more fits), rows_short more (All-tail IsRowInRange row more fits))
+
 -- the rows of a sheet in range
 record RowsFit (rs : List SheetRow) : Type 0 where
   few : length rs ≤ 1048576
   rows : All IsRowInRange rs
   rising : IsStrictlyIncreasing (keys rs)
 
-sheet_law : (word : List ℕ) → IsField word → TextLaw (sheet word) (λ rs. text_of (sheet_lines word rs)) RowsFit
+sheet_law : (word : List ℕ) → IsField word → TextLaw (length word + 313600000) (sheet word) (λ rs. text_of (sheet_lines word rs)) RowsFit
 unfolding sheet sheet_lines
 sheet_law word clean =
     let counted = natural_line_law word clean 0 1048576 (omega arith) in
@@ -157,6 +162,9 @@ sheet_law word clean =
           let c = counted.again n count (text_of (map row_fields rs) ++ rest) (omega arith, fits.few) in
           let r = rows_again None rs c.0 rest fits.rows (rising rs fits.rising) in
           (r.0, rw (append_assoc (line_text (word ∷ decimal count ∷ [])) (text_of (map row_fields rs)) rest, c.1) r.1);
+      short = λ rs fits.
+          let count = length rs in
+          omega (arith, length-append (line_text (word ∷ decimal count ∷ [])) (text_of (map row_fields rs)), counted.short count (omega arith, fits.few), rows_short rs fits.rows, fits.few);
     }
 
 -- ---- the whole
@@ -167,7 +175,7 @@ terms_text x = line_text (codes "weight" ∷ decimal x.0 ∷ []) ++ (line_text (
 abbrev TermsFit : ℕ × ℕ × ℤ × ℤ → Type 0
 TermsFit x = Within 8192 1048576 x.0 × x.1 ≤ 1099511627776 × Between (pos 0) (pos 8000000000) x.2 × Between (pos 0) (pos 99999999999) x.3
 
-terms_law : TextLaw terms terms_text TermsFit
+terms_law : TextLaw 118 terms terms_text TermsFit
 unfolding terms
 terms_law =
     made_law (λ (x : ℕ × (ℕ × (ℤ × ℤ))). (x.0, x.1.0, x.1.1.0, x.1.1.1)) (λ (b : ℕ × ℕ × ℤ × ℤ). (b.0, (b.1, (b.2, b.3)))) terms_text TermsFit
@@ -184,7 +192,7 @@ findings_text x = line_text (codes "outcome" ∷ outcome_word x.0 ∷ []) ++ (li
 abbrev FindingsFit : Outcome × ℤ × ℤ × List ℕ → Type 0
 FindingsFit x = unsigned_abs x.1 ≤ 4000000000 × unsigned_abs x.2 ≤ 4000000000 × (Within 1 16 (length x.3) × All (λ n. n ≤ 1099511627776) x.3)
 
-findings_law : TextLaw findings findings_text FindingsFit
+findings_law : TextLaw 429 findings findings_text FindingsFit
 unfolding findings
 findings_law =
     made_law (λ (x : Outcome × (ℤ × (ℤ × List ℕ))). (x.0, x.1.0, x.1.1.0, x.1.1.1)) (λ (b : Outcome × ℤ × ℤ × List ℕ). (b.0, (b.1, (b.2, b.3)))) findings_text FindingsFit
@@ -195,7 +203,7 @@ findings_law =
 abbrev sheets_text : List SheetRow × List SheetRow → List ℕ
 sheets_text x = text_of (sheet_lines (codes "one") x.0) ++ (text_of (sheet_lines (codes "two") x.1) ++ line_text (codes "end" ∷ []))
 
-sheets_law : TextLaw sheets sheets_text (λ x. RowsFit x.0 × RowsFit x.1)
+sheets_law : TextLaw 627200011 sheets sheets_text (λ x. RowsFit x.0 × RowsFit x.1)
 unfolding sheets
 sheets_law =
     made_law (λ (x : List SheetRow × (List SheetRow × Unit {0})). (x.0, x.1.0)) (λ (b : List SheetRow × List SheetRow). (b.0, (b.1, tt))) sheets_text (λ x. RowsFit x.0 × RowsFit x.1)
@@ -216,7 +224,7 @@ sheet_is side total s fits = sym (ap₂ (λ (side : Side) (total : ℕ). record 
 abbrev IsInVersion : ℕ → Report → Type 0
 IsInVersion version r = IsInRange r × (version_of r.position ≡ version)
 
-report_law : (version : ℕ) → TextLaw (report version) body (IsInVersion version)
+report_law : (version : ℕ) → TextLaw 627205584 (report version) body (IsInVersion version)
 unfolding report
 report_law version =
     made_law report_of (λ r. (r.position, ((r.weight, r.turns, r.asked, r.resolution), ((r.outcome, r.lower, r.upper, r.spent), (r.one.rows, r.two.rows))))) body (IsInVersion version)
@@ -276,7 +284,7 @@ report_text-body r =
 
 -- ---- the head and the end
 
-version_line_law : TextLaw version_line (λ v. line_text (head_fields v)) (Within 1 newest_version)
+version_line_law : TextLaw 37 version_line (λ v. line_text (head_fields v)) (Within 1 newest_version)
 unfolding version_line
 version_line_law = told_law _ (Within 1 newest_version)
     (line_law (before_law (codes "dosolve") (clean_word (codes "dosolve") refl) (before_law (codes "report") (clean_word (codes "report") refl) (natural_law 1 newest_version (omega arith)))) (omega arith))
@@ -329,3 +337,8 @@ read_takes bytes r e =
     ∙ ap (λ (rest : List ℕ). front h.0.0 ++ rest) (taken.0 ∙ ap (λ (rest : List ℕ). body text ++ rest) (nothing_left x.0.1.parts over.0) ∙ append-nil (body text))
     ∙ ap (λ (version : ℕ). front version ++ body text) (sym taken.1.1) ∙ sym (report_text-body text) in
     subst (λ (r : Report). (bytes ≡ report_text r) × IsInRange r) (ok_is text r over.1) (whole, taken.1.0)
+
+pub report_short : (r : Report) → IsInRange r → length (report_text r) ≤ 1073741824
+report_short r fits =
+    let version = version_of r.position in
+    omega (arith, ap length (report_text-body r), length-append (line_text (head_fields version)) (body r), version_line_law.short version (known_version (kind_of r.position)), (report_law version).short r (fits, refl))

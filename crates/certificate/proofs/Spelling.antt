@@ -1,14 +1,15 @@
 -- Values, and how a field spells them.
-use Rattle.std.proofs.Common.{◌≡◌, ℕ, suc, ◌^◌, ◌<◌, ◌≤◌, ℤ, pos, negsuc, ◌≤ℤ◌, int_lt, unsigned_abs, List, [], ◌∷◌, length, map, Bool, true, false, not, cond, ◌||◌, ◌&&◌, ◌==◌, codes, bytes_eq, find, ltb, leb, Option, Some, None, option_map, decimal, All, refl, sym, ap, ap₂, subst, ◌∙◌, arith, le-ltb, ltb-false, leb-true, le-leb}
+use Rattle.std.proofs.Common.{◌≡◌, ℕ, suc, ◌+◌, ◌*◌, ◌^◌, ◌<◌, ◌≤◌, ℤ, pos, negsuc, ◌≤ℤ◌, int_lt, unsigned_abs, List, [], ◌∷◌, length, map, Bool, true, false, not, cond, ◌&&◌, ◌==◌, codes, bytes_eq, find, leb, Option, Some, None, option_map, decimal, All, refl, sym, ap, ap₂, subst, ◌∙◌, arith, leb-true, le-leb}
 use Rattle.std.specs.Fmt.{signed_decimal}
-use Rattle.std.specs.List.{list_all, slice_split, join_with_byte, AllByRecursion}
+use Rattle.std.specs.Int.Signed.{mag}
+use Rattle.std.specs.List.{list_all, slice_split, join_with_byte}
 use Rattle.std.proofs.lemmas.Int.{ints}
-use Rattle.std.proofs.lemmas.Bool.{and_parts}
+use Rattle.std.proofs.lemmas.Bool.{and_parts, eq-eqb}
 use Rattle.std.proofs.lemmas.Option.{option_and_then_some}
-use Rattle.std.proofs.lemmas.Fmt.{decimal_is_IsNumeral}
+use Rattle.std.proofs.lemmas.Fmt.{decimal_is_IsNumeral, length-decimal-le, length_signed_le}
 use Rattle.std.proofs.lemmas.Str.Parse.{digit_at}
 use Rattle.std.proofs.lemmas.List.{length-map, length-append}
-use Rattle.std.proofs.lemmas.List.Elements.{All-nil, All-cons, All-head, All-tail, All-append, All-weaker, All-from_get_or}
+use Rattle.std.proofs.lemmas.List.Elements.{All-nil, All-cons, All-head, All-tail, All-append, All-weaker, All-from_get_or, All-map}
 use Rattle.std.proofs.lemmas.List.Splits.{slice_split_at, slice_split_none, join_with_byte-slice_split}
 use Rattle.std.proofs.lemmas.Slice.Eq.{bytes_eq-Decides}
 use Rattle.certificate.specs.declared.report.Outcome.{Outcome}
@@ -18,44 +19,35 @@ use Rattle.certificate.specs.Numbers.{natural_in, integer_in, Within, Between, I
 use Rattle.certificate.specs.Readers.{naturals_in, has_parts, list_in}
 use Rattle.certificate.specs.Texts.{outcome_word}
 use Rattle.certificate.specs.Reading.{outcome_of}
-use Rattle.certificate.proofs.NumberLemmas.{number_takes, number_again, signed_takes, signed_again}
+use Rattle.certificate.proofs.NumberLemmas.{neither, natural_takes, natural_again, signed_takes, signed_again}
 
 -- some bytes, none of them a space or a line feed
 abbrev pub IsField : List ℕ → Type 0
 IsField f = (0 < length f) × All (λ b. 33 ≤ b) f
 
--- Reading and writing a value undo each other where it fits.
-pub record Spells {A : Type 0} (value : List ℕ → Option A) (text : A → List ℕ) (Fits : A → Type 0) : Type 0 where
+-- Reading and writing a value undo each other where it fits, and its text has at most so many bytes.
+pub record Spells {A : Type 0} (most : ℕ) (value : List ℕ → Option A) (text : A → List ℕ) (Fits : A → Type 0) : Type 0 where
   pub takes : (s : List ℕ) (a : A) → value s ≡ Some a → (s ≡ text a) × Fits a
   pub again : (a : A) → Fits a → value (text a) ≡ Some a
   pub clean : (a : A) → Fits a → IsField (text a)
+  pub short : (a : A) → Fits a → length (text a) ≤ most
 
 -- ---- numbers
-
-neither : {A : Type 0} (a b : Bool) (x y : A) → cond (a || b) None (Some x) ≡ Some y → (x ≡ y) × (a ≡ false) × (b ≡ false)
-neither true b x y e = absurd cc
-neither false true x y e = absurd cc
-neither false false x y e = (cc, refl, refl)
 
 digits_from : (n : ℕ) → n < 2 ^ 64 → (0 < length (decimal n)) × All (λ b. 48 ≤ b) (decimal n)
 digits_from n small =
     let d = (decimal_is_IsNumeral n small).0 in
     (d.0, All-from_get_or (λ b. 48 ≤ b) (decimal n) 0 (λ i lt. (digit_at (decimal n) i d.1 lt).0))
 
-above_space : (bs : List ℕ) → All (λ b. 48 ≤ b) bs → All (λ b. 33 ≤ b) bs
-above_space bs high = All-weaker (λ b. 48 ≤ b) (λ b. 33 ≤ b) (λ b h. omega arith) bs high
-
 decimal_field : (n : ℕ) → n < 2 ^ 64 → IsField (decimal n)
-decimal_field n small = let d = digits_from n small in (d.0, above_space (decimal n) d.1)
+decimal_field n small = let d = digits_from n small in (d.0, All-weaker (λ b. 48 ≤ b) (λ b. 33 ≤ b) (λ b h. omega arith) (decimal n) d.1)
 
-pub natural_spells : (low high : ℕ) → high < 2 ^ 64 → Spells (natural_in low high) decimal (Within low high)
-unfolding natural_in
+pub natural_spells : (low high : ℕ) → high < 2 ^ 64 → Spells 20 (natural_in low high) decimal (Within low high)
 natural_spells low high wide = record {
-  takes = λ s n e. option_and_then_some _ _ n e (λ m is h.
-      let w = neither (ltb m low) (ltb high m) m n h in
-      ((number_takes s m is).0 ∙ ap decimal w.0, (rw (← w.0) (ltb-false _ _ w.1), rw (← w.0) (ltb-false _ _ w.2))));
-  again = λ n fits. rw (number_again n (omega (arith, fits.1)), le-ltb n low fits.0, le-ltb high n fits.1) refl;
+  takes = natural_takes low high;
+  again = λ n fits. natural_again low high n wide fits;
   clean = λ n fits. decimal_field n (omega (arith, fits.1));
+  short = λ n fits. length-decimal-le 20 n (omega arith) (omega (arith, fits.1)) (omega (arith, fits.1));
 }
 
 at_least : (low z : ℤ) → int_lt z low ≡ false → low ≤ℤ z
@@ -68,7 +60,11 @@ signed_field : (z : ℤ) → unsigned_abs z < 2 ^ 63 → IsField (signed_decimal
 signed_field (pos n) small = decimal_field n (omega arith)
 signed_field (negsuc n) small = (omega arith, All-cons (λ b. 33 ≤ b) 45 (decimal (suc n)) (omega arith) (decimal_field (suc n) (omega arith)).1)
 
-pub integer_spells : (low high : ℤ) → ((z : ℤ) → Between low high z → unsigned_abs z < 2 ^ 63) → Spells (integer_in low high) signed_decimal (Between low high)
+mag_less : (z : ℤ) → mag z ≤ unsigned_abs z
+mag_less (pos n) = omega arith
+mag_less (negsuc n) = omega arith
+
+pub integer_spells : (low high : ℤ) → ((z : ℤ) → Between low high z → unsigned_abs z < 2 ^ 63) → Spells 20 (integer_in low high) signed_decimal (Between low high)
 unfolding integer_in
 integer_spells low high small = record {
   takes = λ s z e. option_and_then_some _ _ z e (λ y is h.
@@ -76,11 +72,12 @@ integer_spells low high small = record {
       ((signed_takes s y is).0 ∙ ap signed_decimal w.0, subst (Between low high) w.0 (at_least low y w.1, at_least y high w.2)));
   again = λ z fits. rw (signed_again z (small z fits), not_below low z fits.0, not_below z high fits.1) refl;
   clean = λ z fits. signed_field z (small z fits);
+  short = λ z fits. length_signed_le 19 z (omega (arith, mag_less z, small z fits)) (omega (arith, mag_less z, small z fits));
 }
 
 -- ---- words
 
-pub find_passes : {A : Type 0} (p : A → Bool) (xs : List A) (a : A) → find p xs ≡ Some a → p a ≡ true
+find_passes : {A : Type 0} (p : A → Bool) (xs : List A) (a : A) → find p xs ≡ Some a → p a ≡ true
 find_passes p [] a e = absurd cc
 find_passes p (x ∷ xs) a e =
     elim (p x) as (λ t. p x ≡ t → cond t (Some x) (find p xs) ≡ Some a → p a ≡ true) [
@@ -99,21 +96,28 @@ clean_word w e = let parts = and_parts (not (length w == 0)) (list_all (λ b. le
     above [] e = All-nil (λ b. 33 ≤ b)
     above (b ∷ bs) e = let parts = and_parts (leb 33 b) (list_all (λ b. leb 33 b) bs) e in All-cons (λ b. 33 ≤ b) b bs (leb-true _ _ parts.0) (above bs parts.1)
 
-pub outcome_spells : Spells outcome_of outcome_word (λ _. Unit {0})
-unfolding outcome_of
-outcome_spells = record { takes = λ w o e. ((bytes_eq-Decides w (outcome_word o)).0 (find_passes (λ o. bytes_eq w (outcome_word o)) (Closed ∷ Settled ∷ Spent ∷ Full ∷ []) o e), tt); again = again; clean = clean }
-  where
-    again : (o : Outcome) → Unit {0} → outcome_of (outcome_word o) ≡ Some o
-    again Closed u = refl
-    again Settled u = refl
-    again Spent u = refl
-    again Full u = refl
+abbrev pub is_word : List ℕ → Bool
+is_word w = (not (length w == 0) && list_all (λ b. leb 33 b) w) && leb (length w) 20
 
-    clean : (o : Outcome) → Unit {0} → IsField (outcome_word o)
-    clean Closed u = clean_word (codes "closed") refl
-    clean Settled u = clean_word (codes "settled") refl
-    clean Spent u = clean_word (codes "spent") refl
-    clean Full u = clean_word (codes "full") refl
+-- a word for each value, all of them different
+pub word_spells : {A : Type 0} (all : List A) (word : A → List ℕ) → ((a : A) → (find (λ k. bytes_eq (word a) (word k)) all ≡ Some a) × (is_word (word a) ≡ true))
+    → Spells 20 (λ w. find (λ k. bytes_eq w (word k)) all) word (λ _. Unit {0})
+word_spells all word each = record {
+  takes = λ w a e. ((bytes_eq-Decides w (word a)).0 (find_passes (λ k. bytes_eq w (word k)) all a e), tt);
+  again = λ a u. (each a).0;
+  clean = λ a u. clean_word (word a) (and_parts _ _ (each a).1).0;
+  short = λ a u. leb-true _ _ (and_parts _ _ (each a).1).1;
+}
+
+pub outcome_spells : Spells 20 outcome_of outcome_word (λ _. Unit {0})
+unfolding outcome_of
+outcome_spells = word_spells (Closed ∷ Settled ∷ Spent ∷ Full ∷ []) outcome_word each
+  where
+    each : (o : Outcome) → (outcome_of (outcome_word o) ≡ Some o) × (is_word (outcome_word o) ≡ true)
+    each Closed = (refl, refl)
+    each Settled = (refl, refl)
+    each Spent = (refl, refl)
+    each Full = (refl, refl)
 
 -- ---- lists
 
@@ -142,20 +146,16 @@ naturals_takes high (f ∷ fs) ns wide e =
     option_map_some f None y e = absurd cc
     option_map_some f (Some x) y e = (x, refl, cc)
 
-pub numbers_clean : (high : ℕ) (ns : List ℕ) → high < 2 ^ 64 → All (λ n. n ≤ high) ns → AllByRecursion IsField (map decimal ns)
-numbers_clean high [] wide fit = tt
-numbers_clean high (n ∷ ns) wide fit =
-    (decimal_field n (omega (arith, All-head (λ n. n ≤ high) n ns fit)), numbers_clean high ns wide (All-tail (λ n. n ≤ high) n ns fit))
+pub numbers_clean : (high : ℕ) (ns : List ℕ) → high < 2 ^ 64 → All (λ n. n ≤ high) ns → All IsField (map decimal ns)
+numbers_clean high ns wide fit = All-map IsField decimal ns (All-weaker (λ n. n ≤ high) (λ n. IsField (decimal n)) (λ n small. decimal_field n (omega arith)) ns fit)
 
 -- a list of pieces with a byte between each two
 
-pub All-join : (P : ℕ → Type 0) (c : ℕ) (parts : List (List ℕ)) → P c → AllByRecursion (All P) parts → All P (join_with_byte c parts)
+pub All-join : (P : ℕ → Type 0) (c : ℕ) (parts : List (List ℕ)) → P c → All (All P) parts → All P (join_with_byte c parts)
 All-join P c [] at fit = All-nil P
-All-join P c (x ∷ []) at fit = fit.0
-All-join P c (x ∷ y ∷ more) at fit = All-append P x (c ∷ join_with_byte c (y ∷ more)) fit.0 (All-cons P c (join_with_byte c (y ∷ more)) at (All-join P c (y ∷ more) at fit.1))
-
-same_test : (c : ℕ) → (c == c) ≡ true
-same_test c = grind arith
+All-join P c (x ∷ []) at fit = All-head (All P) x [] fit
+All-join P c (x ∷ y ∷ more) at fit =
+    All-append P x (c ∷ join_with_byte c (y ∷ more)) (All-head (All P) x (y ∷ more) fit) (All-cons P c (join_with_byte c (y ∷ more)) at (All-join P c (y ∷ more) at (All-tail (All P) x (y ∷ more) fit)))
 
 differs : (b c : ℕ) → c < b → (b == c) ≡ false
 differs b c h = grind arith
@@ -164,31 +164,30 @@ pub without : (c low : ℕ) (x : List ℕ) → c < low → All (λ b. low ≤ b)
 without c low x lt fit = All-weaker (λ b. low ≤ b) (λ b. (b == c) ≡ false) (λ b h. differs b c (omega arith)) x fit
 
 -- the pieces are found again where each of their bytes is greater than the one between them
-pub split-join : (c low : ℕ) (x : List ℕ) (xs : List (List ℕ)) → c < low → AllByRecursion (All (λ b. low ≤ b)) (x ∷ xs) → slice_split (λ b. b == c) (join_with_byte c (x ∷ xs)) ≡ x ∷ xs
-split-join c low x [] lt fit = slice_split_none (λ b. b == c) x (without c low x lt fit.0)
+pub split-join : (c low : ℕ) (x : List ℕ) (xs : List (List ℕ)) → c < low → All (All (λ b. low ≤ b)) (x ∷ xs) → slice_split (λ b. b == c) (join_with_byte c (x ∷ xs)) ≡ x ∷ xs
+split-join c low x [] lt fit = slice_split_none (λ b. b == c) x (without c low x lt (All-head (All (λ b. low ≤ b)) x [] fit))
 split-join c low x (y ∷ ys) lt fit =
-    slice_split_at (λ b. b == c) x c (join_with_byte c (y ∷ ys)) (without c low x lt fit.0) (same_test c) ∙ ap (λ (parts : List (List ℕ)). x ∷ parts) (split-join c low y ys lt fit.1)
+    slice_split_at (λ b. b == c) x c (join_with_byte c (y ∷ ys)) (without c low x lt (All-head (All (λ b. low ≤ b)) x (y ∷ ys) fit)) (eq-eqb c c refl)
+    ∙ ap (λ (parts : List (List ℕ)). x ∷ parts) (split-join c low y ys lt (All-tail (All (λ b. low ≤ b)) x (y ∷ ys) fit))
 
 -- ---- lists of bytes
 
 pub has_parts-bounds : (least most : ℕ) (parts : List (List ℕ)) → has_parts least most parts ≡ true → Within least most (length parts)
 unfolding has_parts
 has_parts-bounds least most parts e =
-    let sizes = (and_parts _ _ e).1 in
-    let both = and_parts (leb least (length parts)) (leb (length parts) most) sizes in
+    let both = and_parts (leb least (length parts)) (leb (length parts) most) ((and_parts _ _ e).1) in
     (leb-true _ _ both.0, leb-true _ _ both.1)
 
-are_filled : (parts : List (List ℕ)) → AllByRecursion IsField parts → list_all (λ part. not (length part == 0)) parts ≡ true
+are_filled : (parts : List (List ℕ)) → All IsField parts → list_all (λ part. not (length part == 0)) parts ≡ true
 are_filled [] fit = refl
-are_filled (x ∷ xs) fit = let some : (length x == 0) ≡ false = differs (length x) 0 fit.0.0 in rw (some, are_filled xs fit.1) refl
+are_filled (x ∷ xs) fit = let some : (length x == 0) ≡ false = differs (length x) 0 (All-head IsField x xs fit).0 in rw (some, are_filled xs (All-tail IsField x xs fit)) refl
 
-pub has_parts-true : (least most : ℕ) (parts : List (List ℕ)) → AllByRecursion IsField parts → Within least most (length parts) → has_parts least most parts ≡ true
+pub has_parts-true : (least most : ℕ) (parts : List (List ℕ)) → All IsField parts → Within least most (length parts) → has_parts least most parts ≡ true
 unfolding has_parts
 has_parts-true least most parts fit size = rw (are_filled parts fit, le-leb _ _ size.0, le-leb _ _ size.1) refl
 
-numerals : (ns : List ℕ) → All (λ n. n ≤ 255) ns → AllByRecursion (All (λ b. 48 ≤ b)) (map decimal ns)
-numerals [] fit = tt
-numerals (n ∷ ns) fit = ((digits_from n (omega (arith, All-head (λ n. n ≤ 255) n ns fit))).1, numerals ns (All-tail (λ n. n ≤ 255) n ns fit))
+numerals : (P : ℕ → Type 0) → ((b : ℕ) → 48 ≤ b → P b) → (ns : List ℕ) → All (λ n. n ≤ 255) ns → All (All P) (map decimal ns)
+numerals P h ns fit = All-map (All P) decimal ns (All-weaker (λ n. n ≤ 255) (λ n. All P (decimal n)) (λ n small. All-weaker (λ b. 48 ≤ b) P h (decimal n) (digits_from n (omega arith)).1) ns fit)
 
 -- no digit and no comma is a dash
 abbrev IsInList : ℕ → Type 0
@@ -201,10 +200,6 @@ no_dash text fit =
       | false ↦ λ is. refl
     ] refl
 
-numerals_as : (P : ℕ → Type 0) → ((b : ℕ) → 48 ≤ b → P b) → (parts : List (List ℕ)) → AllByRecursion (All (λ b. 48 ≤ b)) parts → AllByRecursion (All P) parts
-numerals_as P h [] fit = tt
-numerals_as P h (x ∷ xs) fit = (All-weaker (λ b. 48 ≤ b) P h x fit.0, numerals_as P h xs fit.1)
-
 some_joined : (c : ℕ) (x : List ℕ) (xs : List (List ℕ)) → 0 < length x → 0 < length (join_with_byte c (x ∷ xs))
 some_joined c x [] some = some
 some_joined c x (y ∷ ys) some = omega (arith, length-append x (c ∷ join_with_byte c (y ∷ ys)))
@@ -212,6 +207,10 @@ some_joined c x (y ∷ ys) some = omega (arith, length-append x (c ∷ join_with
 join-list_text : (ns : List ℕ) → 0 < length ns → join_with_byte 44 (map decimal ns) ≡ list_text ns
 join-list_text [] some = absurd (omega arith)
 join-list_text (n ∷ ns) some = refl
+
+test_some : {A : Type 0} (b : Bool) (x : Option A) (y : A) → cond b x None ≡ Some y → (b ≡ true) × (x ≡ Some y)
+test_some true x y e = (refl, e)
+test_some false x y e = absurd cc
 
 list_takes : (most : ℕ) (text ns : List ℕ) → list_in most text ≡ Some ns → (text ≡ list_text ns) × IsByteList most ns
 unfolding list_in
@@ -222,32 +221,37 @@ list_takes most text ns e =
           let none : ◌≡◌ {A = List ℕ} [] ns = cc in
           subst (λ ns. (text ≡ list_text ns) × IsByteList most ns) none ((bytes_eq-Decides text (codes "-")).0 is, record { few = omega arith; small = All-nil (λ n. n ≤ 255) })
       | false ↦ λ is h.
-          elim (has_parts 1 most parts) as (λ t. has_parts 1 most parts ≡ t → cond t (naturals_in 0 255 parts) None ≡ Some ns → (text ≡ list_text ns) × IsByteList most ns) [
-            | true ↦ λ form h.
-                let size = has_parts-bounds 1 most parts form in
-                let numbers = naturals_takes 255 parts ns (omega arith) h in
-                let len : length parts ≡ length ns = ap length numbers.text ∙ length-map ns decimal in
-                (sym (join_with_byte-slice_split 44 text) ∙ ap (join_with_byte 44) numbers.text ∙ join-list_text ns (omega (arith, len, size.0)), record { few = omega (arith, len, size.1); small = numbers.fits })
-            | false ↦ λ form h. absurd cc
-          ] refl h
+          let form = test_some (has_parts 1 most parts) (naturals_in 0 255 parts) ns h in
+          let size = has_parts-bounds 1 most parts form.0 in
+          let numbers = naturals_takes 255 parts ns (omega arith) form.1 in
+          let len : length parts ≡ length ns = ap length numbers.text ∙ length-map ns decimal in
+          (sym (join_with_byte-slice_split 44 text) ∙ ap (join_with_byte 44) numbers.text ∙ join-list_text ns (omega (arith, len, size.0)), record { few = omega (arith, len, size.1); small = numbers.fits })
     ] refl e
 
 list_again : (most : ℕ) (ns : List ℕ) → IsByteList most ns → list_in most (list_text ns) ≡ Some ns
 unfolding list_in
 list_again most [] fit = refl
 list_again most (n ∷ ns) fit =
-    let parts = numerals (n ∷ ns) fit.small in
-    let listed = All-join IsInList 44 (map decimal (n ∷ ns)) (omega arith) (numerals_as IsInList (λ b h e. omega arith) (map decimal (n ∷ ns)) parts) in
-    let split = split-join 44 48 (decimal n) (map decimal ns) (omega arith) parts in
-    let clean = numbers_clean 255 (n ∷ ns) (omega arith) fit.small in
-    let form = has_parts-true 1 most (map decimal (n ∷ ns)) clean (omega arith, omega (arith, length-map ns decimal, fit.few)) in
-    rw (no_dash _ listed, split, form) (naturals_again 255 (n ∷ ns) (omega arith) fit.small)
+    let listed = All-join IsInList 44 (map decimal (n ∷ ns)) (omega arith) (numerals IsInList (λ b h e. omega arith) (n ∷ ns) fit.small) in
+    let form = has_parts-true 1 most (map decimal (n ∷ ns)) (numbers_clean 255 (n ∷ ns) (omega arith) fit.small) (omega arith, omega (arith, length-map ns decimal, fit.few)) in
+    rw (no_dash _ listed, split-join 44 48 (decimal n) (map decimal ns) (omega arith) (numerals (λ b. 48 ≤ b) (λ b h. h) (n ∷ ns) fit.small), form) (naturals_again 255 (n ∷ ns) (omega arith) fit.small)
 
 list_clean : (most : ℕ) (ns : List ℕ) → IsByteList most ns → IsField (list_text ns)
 list_clean most [] fit = clean_word (codes "-") refl
-list_clean most (n ∷ ns) fit =
-    let parts = numerals (n ∷ ns) fit.small in
-    (some_joined 44 (decimal n) (map decimal ns) (digits_from n (omega (arith, All-head (λ n. n ≤ 255) n ns fit.small))).0, All-join (λ b. 33 ≤ b) 44 (map decimal (n ∷ ns)) (omega arith) (numerals_as (λ b. 33 ≤ b) (λ b h. omega arith) (map decimal (n ∷ ns)) parts))
+list_clean most (n ∷ ns) fit = (
+  some_joined 44 (decimal n) (map decimal ns) (digits_from n (omega (arith, All-head (λ n. n ≤ 255) n ns fit.small))).0,
+  All-join (λ b. 33 ≤ b) 44 (map decimal (n ∷ ns)) (omega arith) (numerals (λ b. 33 ≤ b) (λ b h. omega arith) (n ∷ ns) fit.small),
+)
 
-pub list_spells : (most : ℕ) → Spells (list_in most) list_text (IsByteList most)
-list_spells most = record { takes = list_takes most; again = list_again most; clean = list_clean most }
+join_short : (n : ℕ) (ns : List ℕ) → All (λ n. n ≤ 255) (n ∷ ns) → length (join_with_byte 44 (map decimal (n ∷ ns))) ≤ length (n ∷ ns) * 4
+join_short n [] fit = let small = All-head (λ n. n ≤ 255) n [] fit in length-decimal-le 4 n (omega arith) (omega arith) (omega arith)
+join_short n (m ∷ ms) fit =
+    let small = All-head (λ n. n ≤ 255) n (m ∷ ms) fit in
+    omega (arith, length-append (decimal n) (44 ∷ join_with_byte 44 (map decimal (m ∷ ms))), length-decimal-le 3 n (omega arith) (omega arith) (omega arith), join_short m ms (All-tail (λ n. n ≤ 255) n (m ∷ ms) fit))
+
+list_short : (most : ℕ) (ns : List ℕ) → IsByteList most ns → length (list_text ns) ≤ most * 4 + 1
+list_short most [] fit = omega arith
+list_short most (n ∷ ns) fit = omega (arith, join_short n ns fit.small, fit.few)
+
+pub list_spells : (most : ℕ) → Spells (most * 4 + 1) (list_in most) list_text (IsByteList most)
+list_spells most = record { takes = list_takes most; again = list_again most; clean = list_clean most; short = list_short most }

@@ -144,12 +144,8 @@ impl<'a> Line<'a> {
     pub(crate) fn field(&mut self) -> Result<&'a [u8], TextError>
         ensures { Gives (λ f. (f.now, self.new)) result (field self.old) }
     {
-        match self.fields.next() {
-            Some(field) => Ok(field),
-            None => Err(TextError::Line {
-                number: self.number,
-            }),
-        }
+        let number = self.number;
+        self.fields.next().ok_or(TextError::Line { number })
     }
 
     /// Goes past a field with this word.
@@ -211,12 +207,8 @@ impl<'a> Line<'a> {
     pub(crate) fn weights(&mut self, alloc: Global) -> Result<Seq<u32>, TextError>
         ensures { Gives (λ ns. (ns, self.new)) result (naturals 0 1048576 self.old) }
     {
-        match lists::weights(alloc, &mut self.fields)? {
-            Some(weights) => Ok(Seq::from_vec(weights)),
-            None => Err(TextError::Number {
-                number: self.number,
-            }),
-        }
+        let number = self.number;
+        lists::weights(alloc, &mut self.fields)?.ok_or(TextError::Number { number })
     }
 
     /// The counts of turns that all further fields spell.
@@ -224,11 +216,7 @@ impl<'a> Line<'a> {
     pub(crate) fn turns(&mut self, alloc: Global) -> Result<Seq<u64>, TextError>
         ensures { Gives (λ ns. (ns, self.new)) result (naturals 0 1099511627776 self.old) }
     {
-        match lists::turns(alloc, &mut self.fields)? {
-            Some(turns) => Ok(Seq::from_vec(turns)),
-            None => Err(TextError::Number {
-                number: self.number,
-            }),
-        }
+        let number = self.number;
+        lists::turns(alloc, &mut self.fields)?.ok_or(TextError::Number { number })
     }
 }

@@ -1,6 +1,6 @@
 //! Lists of numbers.
 
-ghost use Rattle.std.specs.Prelude.{◌≡◌, [], option_map, IfOk, IfSome};
+ghost use Rattle.std.specs.Prelude.{◌≡◌, [], IfOk, IfSome};
 ghost use Rattle.certificate.specs.Readers.{naturals_in, list_in};
 
 use crate::numbers::natural;
@@ -8,8 +8,8 @@ use crate::parts::{Parts, has_parts};
 use seq::Seq;
 use std::alloc::{AllocError, Global};
 
-fn bytes(alloc: Global, parts: &mut Parts) -> Result<Option<Vec<u8>>, AllocError>
-    ensures { IfOk result (λ o. option_map (λ v. v.items) o ≡ naturals_in 0 255 parts.old) }
+fn bytes(alloc: Global, parts: &mut Parts) -> Result<Option<Seq<u8>>, AllocError>
+    ensures { IfOk result (λ o. o ≡ naturals_in 0 255 parts.old) }
 {
     let mut numbers = Vec::new(alloc);
     'parts: while let Some(part) = parts.next() {
@@ -18,12 +18,12 @@ fn bytes(alloc: Global, parts: &mut Parts) -> Result<Option<Vec<u8>>, AllocError
         };
         numbers.push(n as u8)?;
     }
-    Ok(Some(numbers))
+    Ok(Some(Seq::from_vec(numbers)))
 }
 
 /// The weights that all parts spell.
-pub(crate) fn weights(alloc: Global, parts: &mut Parts) -> Result<Option<Vec<u32>>, AllocError>
-    ensures exact { IfOk result (λ o. option_map (λ v. v.items) o ≡ naturals_in 0 1048576 parts.old) }
+pub(crate) fn weights(alloc: Global, parts: &mut Parts) -> Result<Option<Seq<u32>>, AllocError>
+    ensures exact { IfOk result (λ o. o ≡ naturals_in 0 1048576 parts.old) }
     ensures all { IfOk result (λ o. IfSome o (λ _. parts.new ≡ [])) }
 {
     let mut numbers = Vec::new(alloc);
@@ -33,12 +33,12 @@ pub(crate) fn weights(alloc: Global, parts: &mut Parts) -> Result<Option<Vec<u32
         };
         numbers.push(n as u32)?;
     }
-    Ok(Some(numbers))
+    Ok(Some(Seq::from_vec(numbers)))
 }
 
 /// The counts of turns that all parts spell.
-pub(crate) fn turns(alloc: Global, parts: &mut Parts) -> Result<Option<Vec<u64>>, AllocError>
-    ensures exact { IfOk result (λ o. option_map (λ v. v.items) o ≡ naturals_in 0 1099511627776 parts.old) }
+pub(crate) fn turns(alloc: Global, parts: &mut Parts) -> Result<Option<Seq<u64>>, AllocError>
+    ensures exact { IfOk result (λ o. o ≡ naturals_in 0 1099511627776 parts.old) }
     ensures all { IfOk result (λ o. IfSome o (λ _. parts.new ≡ [])) }
 {
     let mut numbers = Vec::new(alloc);
@@ -48,7 +48,7 @@ pub(crate) fn turns(alloc: Global, parts: &mut Parts) -> Result<Option<Vec<u64>>
         };
         numbers.push(n)?;
     }
-    Ok(Some(numbers))
+    Ok(Some(Seq::from_vec(numbers)))
 }
 
 /// At most `most` numbers with a comma between each two, or a dash for none.
@@ -62,8 +62,5 @@ pub(crate) fn list(alloc: Global, text: &[u8], most: usize) -> Result<Option<Seq
     if !has_parts(text, b',', 1, most) {
         return Ok(None);
     }
-    match bytes(alloc, &mut Parts::new(text, b','))? {
-        Some(numbers) => Ok(Some(Seq::from_vec(numbers))),
-        None => Ok(None),
-    }
+    bytes(alloc, &mut Parts::new(text, b','))
 }

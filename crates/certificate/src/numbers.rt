@@ -1,6 +1,6 @@
 //! Numbers as a report spells them.
 
-ghost use Rattle.std.specs.Prelude.{◌≡◌, ◌<◌, ◌≤◌, ◌^◌, ◌-◌, pos, neg_ℤ, ◌≤ℤ◌, ◌&&◌, ◌||◌, ◌==◌, not, length, slice_index, nat_lt, if◌then◌else◌, Some, None, option_and_then, IfSome, SomeIff};
+ghost use Rattle.std.specs.Prelude.{◌≡◌, ◌<◌, ◌≤◌, ◌^◌, ◌-◌, pos, neg_ℤ, ◌≤ℤ◌, ◌&&◌, ◌||◌, ◌==◌, not, length, slice_index, Some, None, option_map, IfSome, SomeIff};
 ghost use Rattle.std.specs.Str.Parse.{AllDigits, digits_value};
 ghost use Rattle.certificate.specs.Numbers.{number_in, natural_in, signed_in, integer_in};
 
@@ -52,22 +52,16 @@ pub fn natural(text: &[u8], low: u64, high: u64) -> Option<u64>
 }
 
 fn below_zero(digits: &[u8]) -> Option<i64>
-    ensures { result ≡ option_and_then (λ n. if n == 0 || nat_lt (2 ^ 63 - 1) n then None else Some (neg_ℤ (pos n))) (number_in digits.now) }
+    ensures { result ≡ option_map (λ n. neg_ℤ (pos n)) (natural_in 1 (2 ^ 63 - 1) digits.now) }
 {
-    let n = number(digits)?;
-    if n == 0 || n > MAX {
-        return None;
-    }
+    let n = natural(digits, 1, MAX)?;
     Some(-(n as i64))
 }
 
 fn from_zero(digits: &[u8]) -> Option<i64>
-    ensures { result ≡ option_and_then (λ n. if nat_lt (2 ^ 63 - 1) n then None else Some (pos n)) (number_in digits.now) }
+    ensures { result ≡ option_map (λ n. pos n) (natural_in 0 (2 ^ 63 - 1) digits.now) }
 {
-    let n = number(digits)?;
-    if n > MAX {
-        return None;
-    }
+    let n = natural(digits, 0, MAX)?;
     Some(n as i64)
 }
 
@@ -75,10 +69,7 @@ fn from_zero(digits: &[u8]) -> Option<i64>
 fn signed(text: &[u8]) -> Option<i64>
     ensures { result ≡ signed_in text.now }
 {
-    if text.is_empty() {
-        return None;
-    }
-    if text[0] != b'-' {
+    if text.is_empty() || text[0] != b'-' {
         return from_zero(text);
     }
     below_zero(&text[1..])

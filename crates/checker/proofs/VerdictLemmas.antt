@@ -87,35 +87,26 @@ module _ {S : Type 0} (m : GameModel S) (game : IsGame m) (sheet : Sheet) (r : S
       rw (h1.0, h1.1, amount, h1.4, h2.0, h2.1, h2.3, h2.4, same) refl
 
   row_fault_once : (v w : Why) → IsRowFault m sheet r v → IsRowFault m sheet r w → v ≡ w
+  row_fault_once v (Root side2) h1 h2 = absurd h2.2
+  row_fault_once v OutcomeWrong h1 h2 = absurd h2.2
+  row_fault_once v (ResolutionWrong want2) h1 h2 = absurd h2.2
   row_fault_once (Idle side1 key1) (Idle side2 key2) h1 h2 = rw (h1.0, h1.1, h2.0, h2.1) refl
   row_fault_once (Idle side1 key1) (Weights side2 key2) h1 h2 = absurd (h1.2 h2.0 h2.1)
   row_fault_once (Idle side1 key1) (Outside side2 key2) h1 h2 = absurd (h1.2 h2.0 h2.1)
   row_fault_once (Idle side1 key1) (Bound side2 key2 reply2 amount2 need2) h1 h2 = absurd (h1.2 h2.0 h2.1)
-  row_fault_once (Idle side1 key1) (Root side2) h1 h2 = absurd h2.2
-  row_fault_once (Idle side1 key1) OutcomeWrong h1 h2 = absurd h2.2
-  row_fault_once (Idle side1 key1) (ResolutionWrong want2) h1 h2 = absurd h2.2
   row_fault_once (Weights side1 key1) (Idle side2 key2) h1 h2 = absurd (h2.2 h1.0 h1.1)
   row_fault_once (Weights side1 key1) (Weights side2 key2) h1 h2 = rw (h1.2.0, h1.2.1, h2.2.0, h2.2.1) refl
   row_fault_once (Weights side1 key1) (Outside side2 key2) h1 h2 = absurd (h1.2.2 (whole_too h2.0 h1.0 h2.1 h1.1 h2.2.2))
   row_fault_once (Weights side1 key1) (Bound side2 key2 reply2 amount2 need2) h1 h2 = absurd (h1.2.2 (whole_too h2.0 h1.0 h2.1 h1.1 h2.2.0))
-  row_fault_once (Weights side1 key1) (Root side2) h1 h2 = absurd h2.2
-  row_fault_once (Weights side1 key1) OutcomeWrong h1 h2 = absurd h2.2
-  row_fault_once (Weights side1 key1) (ResolutionWrong want2) h1 h2 = absurd h2.2
   row_fault_once (Outside side1 key1) (Idle side2 key2) h1 h2 = absurd (h2.2 h1.0 h1.1)
   row_fault_once (Outside side1 key1) (Weights side2 key2) h1 h2 = absurd (h2.2.2 (whole_too h1.0 h2.0 h1.1 h2.1 h1.2.2))
   row_fault_once (Outside side1 key1) (Outside side2 key2) h1 h2 = rw (h1.2.0, h1.2.1, h2.2.0, h2.2.1) refl
   row_fault_once (Outside side1 key1) (Bound side2 key2 reply2 amount2 need2) h1 h2 = absurd (h1.2.3 h2.2.1)
-  row_fault_once (Outside side1 key1) (Root side2) h1 h2 = absurd h2.2
-  row_fault_once (Outside side1 key1) OutcomeWrong h1 h2 = absurd h2.2
-  row_fault_once (Outside side1 key1) (ResolutionWrong want2) h1 h2 = absurd h2.2
   row_fault_once (Bound side1 key1 reply1 amount1 need1) (Idle side2 key2) h1 h2 = absurd (h2.2 h1.0 h1.1)
   row_fault_once (Bound side1 key1 reply1 amount1 need1) (Weights side2 key2) h1 h2 = absurd (h2.2.2 (whole_too h1.0 h2.0 h1.1 h2.1 h1.2.0))
   row_fault_once (Bound side1 key1 reply1 amount1 need1) (Outside side2 key2) h1 h2 = absurd (h2.2.3 h1.2.1)
   row_fault_once (Bound side1 key1 reply1 amount1 need1) (Bound side2 key2 reply2 amount2 need2) h1 h2 =
       bound_once h1.0 h2.0 (used_once h1.0 h2.0 h1.1 h2.1) side1 side2 key1 key2 reply1 reply2 amount1 amount2 need1 need2 h1.2.2 h2.2.2
-  row_fault_once (Bound side1 key1 reply1 amount1 need1) (Root side2) h1 h2 = absurd h2.2
-  row_fault_once (Bound side1 key1 reply1 amount1 need1) OutcomeWrong h1 h2 = absurd h2.2
-  row_fault_once (Bound side1 key1 reply1 amount1 need1) (ResolutionWrong want2) h1 h2 = absurd h2.2
   row_fault_once (Root side1) w h1 h2 = absurd h1.2
   row_fault_once OutcomeWrong w h1 h2 = absurd h1.2
   row_fault_once (ResolutionWrong want1) w h1 h2 = absurd h1.2
@@ -165,38 +156,26 @@ module _ {S : Type 0} (m : GameModel S) (r : Report) where
   no_number_fault right (Bound side key reply amount need) h = h
 
   number_fault_once : (v w : Why) → IsNumberFault m r v → IsNumberFault m r w → v ≡ w
+  number_fault_once v (Idle side2 key2) h1 h2 = absurd h2
+  number_fault_once v (Weights side2 key2) h1 h2 = absurd h2
+  number_fault_once v (Outside side2 key2) h1 h2 = absurd h2
+  number_fault_once v (Bound side2 key2 reply2 amount2 need2) h1 h2 = absurd h2
   number_fault_once (Root One) (Root One) h1 h2 = refl
   number_fault_once (Root One) (Root Two) h1 h2 = absurd (h1 h2.0)
   number_fault_once (Root One) (ResolutionWrong want2) h1 h2 = absurd (h1 h2.0)
   number_fault_once (Root One) OutcomeWrong h1 h2 = absurd (h1 h2.0)
-  number_fault_once (Root One) (Idle side2 key2) h1 h2 = absurd h2
-  number_fault_once (Root One) (Weights side2 key2) h1 h2 = absurd h2
-  number_fault_once (Root One) (Outside side2 key2) h1 h2 = absurd h2
-  number_fault_once (Root One) (Bound side2 key2 reply2 amount2 need2) h1 h2 = absurd h2
   number_fault_once (Root Two) (Root One) h1 h2 = absurd (h2 h1.0)
   number_fault_once (Root Two) (Root Two) h1 h2 = refl
   number_fault_once (Root Two) (ResolutionWrong want2) h1 h2 = absurd (h1.1 h2.1)
   number_fault_once (Root Two) OutcomeWrong h1 h2 = absurd (h1.1 h2.1)
-  number_fault_once (Root Two) (Idle side2 key2) h1 h2 = absurd h2
-  number_fault_once (Root Two) (Weights side2 key2) h1 h2 = absurd h2
-  number_fault_once (Root Two) (Outside side2 key2) h1 h2 = absurd h2
-  number_fault_once (Root Two) (Bound side2 key2 reply2 amount2 need2) h1 h2 = absurd h2
   number_fault_once (ResolutionWrong want1) (Root One) h1 h2 = absurd (h2 h1.0)
   number_fault_once (ResolutionWrong want1) (Root Two) h1 h2 = absurd (h2.1 h1.1)
   number_fault_once (ResolutionWrong want1) (ResolutionWrong want2) h1 h2 = ap ResolutionWrong (resolution_once want1 want2 h1.2 h2.2)
   number_fault_once (ResolutionWrong want1) OutcomeWrong h1 h2 = absurd (h1.3 (resolution_once r.resolution want1 h2.2 h1.2))
-  number_fault_once (ResolutionWrong want1) (Idle side2 key2) h1 h2 = absurd h2
-  number_fault_once (ResolutionWrong want1) (Weights side2 key2) h1 h2 = absurd h2
-  number_fault_once (ResolutionWrong want1) (Outside side2 key2) h1 h2 = absurd h2
-  number_fault_once (ResolutionWrong want1) (Bound side2 key2 reply2 amount2 need2) h1 h2 = absurd h2
   number_fault_once OutcomeWrong (Root One) h1 h2 = absurd (h2 h1.0)
   number_fault_once OutcomeWrong (Root Two) h1 h2 = absurd (h2.1 h1.1)
   number_fault_once OutcomeWrong (ResolutionWrong want2) h1 h2 = absurd (h2.3 (resolution_once r.resolution want2 h1.2 h2.2))
   number_fault_once OutcomeWrong OutcomeWrong h1 h2 = refl
-  number_fault_once OutcomeWrong (Idle side2 key2) h1 h2 = absurd h2
-  number_fault_once OutcomeWrong (Weights side2 key2) h1 h2 = absurd h2
-  number_fault_once OutcomeWrong (Outside side2 key2) h1 h2 = absurd h2
-  number_fault_once OutcomeWrong (Bound side2 key2 reply2 amount2 need2) h1 h2 = absurd h2
   number_fault_once (Idle side1 key1) w h1 h2 = absurd h1
   number_fault_once (Weights side1 key1) w h1 h2 = absurd h1
   number_fault_once (Outside side1 key1) w h1 h2 = absurd h1

@@ -8,6 +8,7 @@ ghost use Rattle.plan_book.specs.Sheets.{plan_of};
 ghost use Rattle.checker.specs.declared.verdict.Verdict.{Verdict};
 ghost use Rattle.checker.specs.Verdicts.{HasRightNumbers, IsNumberFault, IsRight, IsVerdict};
 
+mod places;
 mod reach;
 mod rows;
 mod verdict;

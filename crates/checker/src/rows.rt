@@ -1,22 +1,20 @@
 //! The checks of a sheet's rows.
 
-ghost use Rattle.std.specs.Prelude.{IsSome, IfOk, MatchBool, MatchOption};
-ghost use Rattle.std.specs.Ordering.{nat_cmp};
-ghost use Rattle.std.specs.BTreeMap.{get};
+ghost use Rattle.std.specs.Prelude.{IfOk, MatchBool, MatchOption};
 ghost use Rattle.sim_game.specs.Model.{Reachable};
 ghost use Rattle.sim_game.specs.Sides.{other_side};
-ghost use Rattle.plan_book.specs.Sheets.{row_at, IsLawfulRow};
+ghost use Rattle.plan_book.specs.Sheets.{IsLawfulRow};
 ghost use Rattle.certificate.specs.Ranges.{IsRowInRange};
 ghost use Rattle.checker.specs.Faults.{IsReadable, IsWhole, IsInside, HoldsBelow, IsReplyFault, IsSoundAt, IsFaultAt, IsRowFault, IsFirstFaultOrNone};
-ghost use Rattle.checker.specs.Found.{AreReached};
+ghost use Rattle.checker.specs.Found.{IsStateOf};
 
+use crate::places::{NUMBERS, Recent};
 use crate::reach::reached;
 use crate::verdict::Why;
 use crate::worth::worth;
 use plan_book::{Sheet, SheetRow, is_whole};
 use sim_game::{Game, NoMemory, Side, opening_bound};
 use std::alloc::Global;
-use std::collections::BTreeMap;
 use sums::weighted;
 
 /// The first fault of the sheet's rows, in their order.
@@ -28,39 +26,47 @@ pub(crate) fn first_fault<G: Game>(
     requires { IsReadable sheet.now }
     ensures { IfOk result (IsFirstFaultOrNone (G.model g) sheet.now) }
 {
-    let found = reached(alloc, g, sheet)?;
-    for row in sheet.rows.as_slice() {
-        if let Some(why) = row_fault(g, sheet, row, &found) {
+    let mut recent: Recent = [0; NUMBERS];
+    let found = reached(alloc, g, sheet, &mut recent)?;
+    let rows = sheet.rows.as_slice();
+    for place in 0..rows.len() {
+        if let Some(why) = row_fault(g, sheet, &rows[place], found[place], &mut recent) {
             return Ok(Some(why));
         }
     }
     Ok(None)
 }
 
-/// What is wrong with a row of the sheet.
+/// What is wrong with a row of the sheet, where the rows reach its state, if they do.
 fn row_fault<G: Game>(
     g: G,
     sheet: &Sheet,
     row: &SheetRow,
-    found: &BTreeMap<u64, G::State>,
+    state: Option<G::State>,
+    recent: &mut Recent,
 ) -> Option<Why>
     requires readable { IsReadable sheet.now }
     requires in_range { IsRowInRange row.now }
-    requires reached { AreReached (G.model g) sheet.now (get nat_cmp found.now) }
-    requires stands { IsSome (row_at sheet.now.rows row.now.key) }
+    requires reached { IsStateOf (G.model g) sheet.now row.now.key state }
     ensures { MatchOption result (IsLawfulRow (G.model g) sheet.now.side sheet.now.total sheet.now.rows row.now) (IsRowFault (G.model g) sheet.now row.now) }
 {
     let side = sheet.side;
     let key = row.key;
-    match found.get(&key).copied() {
+    match state {
         None => Some(Why::Idle { side, key }),
         Some(s) if g.rank(s) == 0 => Some(Why::Idle { side, key }),
-        Some(s) => fault_at(g, sheet, row, s),
+        Some(s) => fault_at(g, sheet, row, s, recent),
     }
 }
 
 /// What is wrong with a row at its state.
-fn fault_at<G: Game>(g: G, sheet: &Sheet, row: &SheetRow, s: G::State) -> Option<Why>
+fn fault_at<G: Game>(
+    g: G,
+    sheet: &Sheet,
+    row: &SheetRow,
+    s: G::State,
+    recent: &mut Recent,
+) -> Option<Why>
     requires readable { IsReadable sheet.now }
     requires in_range { IsRowInRange row.now }
     requires reachable { Reachable (G.model g) s }
@@ -74,7 +80,7 @@ fn fault_at<G: Game>(g: G, sheet: &Sheet, row: &SheetRow, s: G::State) -> Option
     if !is_inside(g, row) {
         return Some(Why::Outside { side, key });
     }
-    reply_fault(g, sheet, row, s)
+    reply_fault(g, sheet, row, s, recent)
 }
 
 /// Whether the row's bound is in the range of payoffs.
@@ -85,7 +91,13 @@ fn is_inside<G: Game>(g: G, row: &SheetRow) -> bool
 }
 
 /// The first reply against which the row's weights are not worth its bound.
-fn reply_fault<G: Game>(g: G, sheet: &Sheet, row: &SheetRow, s: G::State) -> Option<Why>
+fn reply_fault<G: Game>(
+    g: G,
+    sheet: &Sheet,
+    row: &SheetRow,
+    s: G::State,
+    recent: &mut Recent,
+) -> Option<Why>
     requires readable { IsReadable sheet.now }
     requires in_range { IsRowInRange row.now }
     requires reachable { Reachable (G.model g) s }
@@ -96,7 +108,7 @@ fn reply_fault<G: Game>(g: G, sheet: &Sheet, row: &SheetRow, s: G::State) -> Opt
     let weights = row.weights.as_slice();
     let need = weighted(sheet.total, row.bound);
     for reply in 0..g.moves(side.other(), s) {
-        let sum = worth(g, sheet, weights, s, reply);
+        let sum = worth(g, sheet, weights, s, reply, recent);
         if side.is_tighter(need, sum) {
             let key = row.key;
             return Some(Why::Bound {

@@ -5,12 +5,20 @@ ghost use Rattle.sim_game.specs.Model.{Reachable};
 ghost use Rattle.sim_game.specs.Sides.{other_side};
 ghost use Rattle.checker.specs.Faults.{IsReadable, cell_of, worth_of};
 
-use plan_book::{Sheet, bound_of};
+use crate::places::{NUMBERS, Recent, bound_near};
+use plan_book::Sheet;
 use sim_game::{CHANCE, Game};
 use sums::weighted;
 
 /// What the weights are worth against a reply.
-pub(crate) fn worth<G: Game>(g: G, sheet: &Sheet, weights: &[u32], s: G::State, reply: u32) -> i64
+pub(crate) fn worth<G: Game>(
+    g: G,
+    sheet: &Sheet,
+    weights: &[u32],
+    s: G::State,
+    reply: u32,
+    recent: &mut Recent,
+) -> i64
     requires readable { IsReadable sheet.now }
     requires reachable { Reachable (G.model g) s }
     requires one_each { length weights.now ≡ (G.model g).moves sheet.now.side s }
@@ -21,13 +29,13 @@ pub(crate) fn worth<G: Game>(g: G, sheet: &Sheet, weights: &[u32], s: G::State, 
 {
     let mut sum: i64 = 0;
     for own in 0..g.moves(sheet.side, s) {
-        sum += weighted(weights[own as usize], cell(g, sheet, s, own, reply));
+        sum += weighted(weights[own as usize], cell(g, sheet, s, own, reply, recent));
     }
     sum
 }
 
 /// The mean of the bounds at the draws of an own move and a reply.
-fn cell<G: Game>(g: G, sheet: &Sheet, s: G::State, own: u32, reply: u32) -> i64
+fn cell<G: Game>(g: G, sheet: &Sheet, s: G::State, own: u32, reply: u32, recent: &mut Recent) -> i64
     requires readable { IsReadable sheet.now }
     requires reachable { Reachable (G.model g) s }
     requires own { own < (G.model g).moves sheet.now.side s }
@@ -38,9 +46,11 @@ fn cell<G: Game>(g: G, sheet: &Sheet, s: G::State, own: u32, reply: u32) -> i64
     let side = sheet.side;
     let a = side.move_of_one(own, reply);
     let b = side.move_of_two(own, reply);
+    // A side has at most 32 moves.
+    let number = own.wrapping_mul(32).wrapping_add(reply) as usize % NUMBERS;
     let mut sum: i64 = 0;
     for d in 0..g.draws(s, a, b) {
-        let bound = bound_of(g, sheet, g.drawn(s, a, b, d));
+        let bound = bound_near(g, sheet, g.drawn(s, a, b, d), &mut recent[number]);
         sum += weighted(g.chance(s, a, b, d), bound);
     }
     side.quotient(sum, CHANCE)

@@ -1,5 +1,5 @@
 -- What the answers of solve and of check say of each other.
-use Rattle.std.proofs.Common.{◌≡◌, ℕ, List, Option, None, Some, Result, Ok, Err, refl, sym, ap, subst}
+use Rattle.std.proofs.Common.{◌≡◌, ℕ, List, Option, None, Some, Result, Ok, Err, refl, sym, ap, subst, ◌∙◌}
 use Rattle.sim_game.specs.Model.{GameModel}
 use Rattle.sim_game.specs.Resolution.{IsResolution}
 use Rattle.checker.specs.declared.verdict.Why.{Why}
@@ -26,25 +26,19 @@ use Rattle.commands.specs.Reports.{accepted_text, fault_text}
 use Rattle.commands.specs.Checks.{report_in, IsJudged, IsChecked}
 
 -- ---- the bytes of a report have one answer
-one_report : (bytes : List ℕ) (r s : Report) → report_in bytes ≡ Ok r → report_in bytes ≡ Ok s → r ≡ s
-one_report bytes r s p q = cc (p, q)
-
-one_judged : (r s : Report) (v w : Verdict) → r ≡ s → IsJudged r v → IsJudged s w → v ≡ w
-one_judged r s v w same p q =
-    of_one_game r.position (λ S m. IsVerdict m r v) (λ S m. IsVerdict m r w) (v ≡ w) (λ S m game a b. verdict_once m game r v w a b) p (subst (λ x. IsJudged x w) (sym same) q)
-
-accepted_and_refused : (r s : Report) (w : Why) → r ≡ s → IsJudged r Accepted → IsJudged s (Refused w) → ⊥
-accepted_and_refused r s w same p q = let e = one_judged r s Accepted (Refused w) same p q in absurd (cc (e))
+one_judged : (bytes : List ℕ) (r s : Report) (v w : Verdict) → report_in bytes ≡ Ok r → report_in bytes ≡ Ok s → IsJudged r v → IsJudged s w → v ≡ w
+one_judged bytes r s v w is it p q =
+    let same : s ≡ r = cc (is, it) in
+    of_one_game r.position (λ S m. IsVerdict m r v) (λ S m. IsVerdict m r w) (v ≡ w) (λ S m game a b. verdict_once m game r v w a b) p (subst (λ x. IsJudged x w) same q)
 
 pub one_answer : (bytes : List ℕ) (status state : ℕ) (text other : List ℕ) → IsChecked bytes status text → IsChecked bytes state other → (status ≡ state) × (text ≡ other)
-one_answer bytes _ _ _ _ (IsChecked.accepted r is judged) (IsChecked.accepted s it found) = (refl, ap accepted_text (one_report bytes r s is it))
-one_answer bytes _ _ _ _ (IsChecked.accepted r is judged) (IsChecked.refused s w it found) = absurd (accepted_and_refused r s w (one_report bytes r s is it) judged found)
-one_answer bytes _ _ _ _ (IsChecked.accepted r is judged) (IsChecked.unread f it) = absurd (cc (is, it))
-one_answer bytes _ _ _ _ (IsChecked.refused r v is judged) (IsChecked.accepted s it found) = absurd (accepted_and_refused s r v (one_report bytes s r it is) found judged)
+one_answer bytes _ _ _ _ (IsChecked.accepted r is judged) (IsChecked.accepted s it found) = let same : r ≡ s = cc (is, it) in (refl, ap accepted_text same)
+one_answer bytes _ _ _ _ (IsChecked.accepted r is judged) (IsChecked.refused s w it found) = absurd (cc (one_judged bytes r s Accepted (Refused w) is it judged found))
+one_answer bytes _ _ _ _ (IsChecked.refused r v is judged) (IsChecked.accepted s it found) = absurd (cc (one_judged bytes r s (Refused v) Accepted is it judged found))
 one_answer bytes _ _ _ _ (IsChecked.refused r v is judged) (IsChecked.refused s w it found) =
-    let same : Refused v ≡ Refused w = one_judged r s (Refused v) (Refused w) (one_report bytes r s is it) judged found in
-    let why : v ≡ w = cc (same) in
+    let why : v ≡ w = cc (one_judged bytes r s (Refused v) (Refused w) is it judged found) in
     (refl, ap (λ (x : Why). fault_text (faults.Refused x)) why)
+one_answer bytes _ _ _ _ (IsChecked.accepted r is judged) (IsChecked.unread f it) = absurd (cc (is, it))
 one_answer bytes _ _ _ _ (IsChecked.refused r v is judged) (IsChecked.unread f it) = absurd (cc (is, it))
 one_answer bytes _ _ _ _ (IsChecked.unread f is) (IsChecked.accepted s it found) = absurd (cc (is, it))
 one_answer bytes _ _ _ _ (IsChecked.unread f is) (IsChecked.refused s w it found) = absurd (cc (is, it))
@@ -81,8 +75,7 @@ built bytes task is =
     let text = bind_ok (text_of game.0 d.0) _ task known.2 in
     let ask = bind_ok (ask_at d.0) _ task text.2 in
     let rules = bind_ok (refuse_if (fault_of text.0)) _ task ask.2 in
-    let made : Ok (record { text = text.0; ask = ask.0 }) ≡ Ok task = rules.2 in
-    let same : record { text = text.0; ask = ask.0 } ≡ task = cc (made) in
+    let same : record { text = text.0; ask = ask.0 } ≡ task = cc (rules.2) in
     subst (λ (t : TaskText). fault_of t.text ≡ None) same (no_fault (fault_of text.0) rules.0 rules.1)
 
 -- ---- what solve writes as a report is accepted
@@ -92,12 +85,10 @@ reported_accepted bytes _ _ (IsSolved.reported task r is solves again) not =
     let P : (S : Type 0) → GameModel S → Type 0 = λ S m. IsSolution m task.text task.ask r in
     let position : r.position ≡ task.text = of_one_game task.text P P (r.position ≡ task.text) (λ S m game p q. p.of_ask.position) solves solves in
     let in_range : IsInRange r = of_one_game task.text P P (IsInRange r) (λ S m game p q. p.in_range) solves solves in
-    let right : OfGame task.text (λ S m. IsVerdict m r Accepted) = of_game_weaker task.text P (λ S m. IsVerdict m r Accepted) (λ S m p. solution_is_right S m task.text task.ask r p) solves in
-    let judged : IsJudged r Accepted = subst (λ (t : PositionText). OfGame t (λ S m. IsVerdict m r Accepted)) (sym position) right in
-    let fault : fault_of r.position ≡ None = subst (λ (t : PositionText). fault_of t ≡ None) (sym position) (built bytes task is) in
-    (r, refl, IsChecked.accepted r (report_built (report_text r) (report_short r in_range) r again fault) judged)
+    let right = of_game_weaker task.text P (λ S m. IsVerdict m r Accepted) (λ S m p. solution_is_right S m task.text task.ask r p) solves in
+    let judged = subst (λ (t : PositionText). OfGame t (λ S m. IsVerdict m r Accepted)) (sym position) right in
+    (r, refl, IsChecked.accepted r (report_built (report_text r) (report_short r in_range) r again (ap fault_of position ∙ built bytes task is)) judged)
 
 pub accepted_alone : (bytes text answer : List ℕ) (status state : ℕ) → IsSolved bytes status text → ¬ (status ≡ 2) → IsChecked text state answer → state ≡ 0
 accepted_alone bytes text answer status state solved not checked =
-    let told = reported_accepted bytes text status solved not in
-    (one_answer text state 0 answer (accepted_text told.0) checked told.2).0
+    let told = reported_accepted bytes text status solved not in (one_answer text state 0 answer (accepted_text told.0) checked told.2).0

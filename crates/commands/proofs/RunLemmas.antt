@@ -1,13 +1,11 @@
 -- Runs, by what was taken, answered and written.
-use Rattle.std.proofs.Common.{◌≡◌, ℕ, ◌+◌, List, length, Option, Result, Ok, Err, IfOk, nat_lt, true, refl, sym, ◌∙◌, arith}
+use Rattle.std.proofs.Common.{◌≡◌, ℕ, ◌+◌, List, length, Option, Result, Ok, Err, IfOk, nat_lt, true, refl}
 use Rattle.std.proofs.lemmas.Result.{IfOk-weaker}
 use Rattle.sim_game.specs.declared.NoMemory.{NoMemory}
 use Rattle.position.specs.declared.error.InputError.{InputError}
 use Rattle.position.specs.declared.error.InputError.TheVariants as errors
-use Rattle.position.specs.declared.source.ReadError.{ReadError}
-use Rattle.position.specs.declared.source.ReadError.TheVariants as read_errors
 use Rattle.position.specs.Position.{Fails, position_of, object_at}
-use Rattle.position.specs.Taken.{SourceState, SinkState, TakesAtMost}
+use Rattle.position.specs.Taken.{SourceState, SinkState}
 use Rattle.commands.specs.declared.run.Answer.{Answer}
 use Rattle.commands.specs.declared.words.Command.{Command}
 use Rattle.commands.specs.Runs.{IsAnswer, IsTaken, IsTakenInPart, IsRun, IsWritten}
@@ -42,10 +40,3 @@ fails_unless bytes e is not = is
 pub too_long : (bytes : List ℕ) → length bytes ≡ 1048576 + 1 → position_of bytes ≡ Err errors.TooLong
 unfolding position_of object_at
 too_long bytes is = let over : nat_lt 1048576 (length bytes) ≡ true = rw is refl in rw over refl
-
-pub in_part : (old new : Option (List ℕ)) (limit : ℕ) → TakesAtMost old new limit → TakesAtMost old new (limit + 1)
-in_part old new limit taken = (taken.0, taken.1, omega (arith, taken.2))
-
--- another failed read is not one of bytes that are too many
-pub not_long : {A : Type 0} (r : Result A ReadError) (e f : ReadError) → r ≡ Err e → e ≡ f → ¬ (f ≡ read_errors.TooLong) → ¬ (r ≡ Err read_errors.TooLong)
-not_long r e f is same other long = let e_is : e ≡ read_errors.TooLong = cc in other (sym same ∙ e_is)

@@ -1,5 +1,5 @@
 -- How many states the game of a sample has, and how many nodes its tree.
-use Rattle.std.proofs.Common.{◌≡◌, ◌≢◌, ℕ, zero, suc, ◌+◌, ◌-◌, ◌*◌, ◌%◌, ◌^◌, ◌<◌, ◌≤◌, ℤ, pos, neg_ℤ, ◌+ℤ◌, Bool, true, false, cond, eqb, ltb, List, [], ◌∷◌, length, get_or, map, remove, take, replicate, refl, sym, ap, subst, ◌∙◌, arith}
+use Rattle.std.proofs.Common.{◌≡◌, ◌≢◌, ℕ, zero, suc, ◌+◌, ◌-◌, ◌*◌, ◌%◌, ◌^◌, ◌<◌, ◌≤◌, ℤ, pos, neg_ℤ, ◌+ℤ◌, Bool, true, false, cond, eqb, ltb, leb, leb-true, List, [], ◌∷◌, length, get_or, map, remove, take, replicate, refl, sym, ap, subst, ◌∙◌, arith}
 use Rattle.std.specs.Int.RustNames.{unsigned_abs}
 use Rattle.std.specs.List.{Contains, IsDistinct, flat_map, range_with_len}
 use Rattle.std.specs.Ordering.{int_eq}
@@ -26,6 +26,14 @@ use Rattle.goofspiel.specs.Laws.{goofspiel_is_game}
 use Rattle.goofspiel.specs.Position.{prizes_of, IsPosition, IsSettingOf}
 use Rattle.goofspiel.specs.Rules.{won, next_prize, after_bids, deal_of, state_of, goofspiel_game}
 use Rattle.commands.specs.Samples.{sample_cards, rotated_left, sample_prizes}
+
+pub below_five : (P : ℕ → Type 0) → P 0 → P 1 → P 2 → P 3 → P 4 → (n : ℕ) → n < 5 → P n
+below_five P a b c d e zero small = a
+below_five P a b c d e (suc zero) small = b
+below_five P a b c d e (suc (suc zero)) small = c
+below_five P a b c d e (suc (suc (suc zero))) small = d
+below_five P a b c d e (suc (suc (suc (suc zero)))) small = e
+below_five P a b c d e (suc (suc (suc (suc (suc n))))) small = absurd (omega (arith, small))
 
 -- ---- lists
 alone : {X : Type 0} (x : X) → Contains (x ∷ []) x
@@ -239,12 +247,7 @@ all_held = record { one = 31; two = 31; score = pos 0 }
 
 few_below : (n : ℕ) → n < 5 → length (all_keys all_held (rotated_left n sample_cards)) ≤ 3682
 unfolding members
-few_below zero small = let e : length (all_keys all_held (rotated_left 0 sample_cards)) ≡ 2282 = refl in omega (arith, e)
-few_below (suc zero) small = let e : length (all_keys all_held (rotated_left 1 sample_cards)) ≡ 2832 = refl in omega (arith, e)
-few_below (suc (suc zero)) small = let e : length (all_keys all_held (rotated_left 2 sample_cards)) ≡ 3232 = refl in omega (arith, e)
-few_below (suc (suc (suc zero))) small = let e : length (all_keys all_held (rotated_left 3 sample_cards)) ≡ 2982 = refl in omega (arith, e)
-few_below (suc (suc (suc (suc zero)))) small = let e : length (all_keys all_held (rotated_left 4 sample_cards)) ≡ 2732 = refl in omega (arith, e)
-few_below (suc (suc (suc (suc (suc n))))) small = absurd (omega (arith, small))
+few_below n small = leb-true _ 3682 (below_five (λ n. leb (length (all_keys all_held (rotated_left n sample_cards))) 3682 ≡ true) refl refl refl refl refl n small)
 
 -- the hand of all five cards
 all_cards : (hand : ℕ) → hand < 2 ^ 13 → cards hand ≡ rising sample_cards → (hand < 32) × (length (cards hand) ≡ 5) × (hand ≡ 31)

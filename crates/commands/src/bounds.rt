@@ -3,15 +3,13 @@
 ghost use Rattle.std.specs.Prelude.{◌≡◌, OnOk, IfOk};
 ghost use Rattle.certificate.specs.Ranges.{IsAskInRange};
 ghost use Rattle.text.specs.Texts.{Adds};
-ghost use Rattle.serial_ab.specs.declared.roots.RootEnd.{RootEnd};
 ghost use Rattle.commands.specs.Bounded.{bounds_status, bounds_text, IsSearchedRoot, IsBounded};
 
-use crate::run::{Answer, refused};
+use crate::run::{Answer, refused, written};
 use certificate::Ask;
 use position::{GameVisitor, position};
-use seq::Seq;
 use serial_ab::{RootEnd, Visits, root_bounds};
-use sim_game::{Game, NoMemory, Side};
+use sim_game::{Game, NoMemory};
 use std::alloc::Global;
 use text::Text;
 
@@ -66,10 +64,7 @@ fn told(alloc: Global, end: &RootEnd) -> Result<Answer, NoMemory>
 {
     let mut text = Text::new(alloc);
     add_end(&mut text, end)?;
-    Ok(Answer {
-        status: bounds_status(end),
-        text: Seq::from_vec(text.into_bytes()),
-    })
+    Ok(written(bounds_status(end), text))
 }
 
 fn bounds_status(end: &RootEnd) -> u8
@@ -93,16 +88,10 @@ fn add_end(text: &mut Text, end: &RootEnd) -> Result<(), NoMemory>
             text.number(upper)?;
             text.word(b"\n")
         }
-        RootEnd::Cut { side } => add_cut(text, *side),
+        RootEnd::Cut { side } => {
+            text.word_side(b"visits spent ", *side)?;
+            text.word(b"\n")
+        }
         RootEnd::Full => text.word(b"board full\n"),
-    }
-}
-
-fn add_cut(text: &mut Text, side: Side) -> Result<(), NoMemory>
-    ensures { OnOk result (Adds text.old text.new (bounds_text (RootEnd.Cut side))) }
-{
-    match side {
-        Side::One => text.word(b"visits spent one\n"),
-        Side::Two => text.word(b"visits spent two\n"),
     }
 }

@@ -8,14 +8,15 @@ ghost use Rattle.position.specs.Games.{IsGameOf};
 ghost use Rattle.commands.specs.Reports.{accepted_text, fault_text};
 ghost use Rattle.commands.specs.Checks.{most_report, report_in, IsChecked};
 
-use crate::reports::{ReportFault, accepted_text, fault_text};
-use crate::run::Answer;
+use crate::reports::{ReportFault, accepted_text, words};
+use crate::run::{Answer, written};
 use certificate::{Report, TextError, read};
 use checker::{Verdict, check};
 use position::{AnyGame, GameVisitor, build};
 use seq::Seq;
 use sim_game::{Game, NoMemory};
 use std::alloc::Global;
+use text::Text;
 
 /// A report that was read, and the game of its position.
 #[derive(Drop)]
@@ -25,6 +26,7 @@ pub(crate) struct ReportedGame {
 }
 
 /// The report of the bytes, which are not too many, and its game; or what is wrong first.
+#[tactic(auto, unfolding(crate::specs::Checks::report_in))]
 pub(crate) fn report_in(alloc: Global, bytes: &[u8]) -> Result<ReportedGame, ReportFault>
     requires { length bytes.now ≤ most_report }
     ensures { MatchResult result
@@ -99,9 +101,8 @@ pub(crate) fn faulty(alloc: Global, fault: ReportFault) -> Result<Answer, NoMemo
     if fault == ReportFault::Text(TextError::NoMemory) {
         return Err(NoMemory);
     }
-    let text = fault_text(alloc, fault)?;
-    Ok(Answer {
-        status: 9,
-        text: Seq::from_vec(text),
-    })
+    let mut text = Text::new(alloc);
+    words(&mut text, fault)?;
+    text.word(b"\n")?;
+    Ok(written(9, text))
 }

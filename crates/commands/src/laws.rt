@@ -23,12 +23,14 @@ use checker::one_verdict;
 use sim_game::Game;
 
 /// `check` has at most one answer to the bytes of a report.
+#[tactic(auto, using(crate::proofs::LawLemmas::one_answer))]
 pub fn check_has_one_answer()
     ensures { (bytes text other : List ℕ) (status state : ℕ) → IsChecked bytes status text → IsChecked bytes state other
         → (status ≡ state) × (text ≡ other) }
 {}
 
 /// The checker accepts each report that is a solution of its game, and has no other verdict on it.
+#[tactic(auto, using(crate::proofs::LawLemmas::solution_is_right))]
 pub fn solutions_are_accepted<G: Game>(g: &G, r: &Report)
     ensures accepted { (text : PositionText) (ask : Ask) → IsSolution (G.model g.now) text ask r.now
         → IsVerdict (G.model g.now) r.now Accepted }
@@ -40,6 +42,7 @@ pub fn solutions_are_accepted<G: Game>(g: &G, r: &Report)
 
 /// `check` accepts each report that `solve` prints, and has no other answer to it. Of `solve`'s statuses 2 alone is
 /// that of a refusal.
+#[tactic(auto, using(crate::proofs::LawLemmas::reported_accepted, crate::proofs::LawLemmas::accepted_alone))]
 pub fn printed_reports_are_accepted()
     ensures accepted { (bytes text : List ℕ) (status : ℕ) → IsSolved bytes status text → status ≢ 2
         → (r : Report) × (text ≡ report_text r) × IsChecked text 0 (accepted_text r) }
@@ -56,6 +59,7 @@ pub fn samples_are_small(number: u32)
 }
 
 /// `sample` has the statuses 0 and 3 alone: neither turns nor rows run out.
+#[tactic(auto, using(crate::proofs::SampleLemmas::solved_status))]
 pub fn samples_are_solved()
     ensures { (number status : ℕ) (text : List ℕ) → IsSampled number status text → (status ≡ 0) ⊎ (status ≡ 3) }
 {}

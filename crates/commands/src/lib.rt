@@ -10,5 +10,4 @@ mod reports;
 pub mod run;
 mod sample;
 mod solve;
-mod texts;
 mod words;

@@ -7,12 +7,11 @@ ghost use Rattle.commands.specs.Checks.{most_report};
 ghost use Rattle.commands.specs.Measured.{IsExploited, IsMeasured, full_text, measured_text, sheet_of, worth_words};
 
 use crate::check::{ReportedGame, faulty, report_in};
-use crate::run::Answer;
+use crate::run::{Answer, written};
 use certificate::Report;
 use exploit::{WorstCase, WorstError, Worth, is_worst, worst};
 use plan_book::Sheet;
 use position::GameVisitor;
-use seq::Seq;
 use sim_game::{Game, NoMemory, Side};
 use std::alloc::Global;
 use text::Text;
@@ -76,11 +75,9 @@ pub(crate) fn exploited(alloc: Global, side: Side, bytes: &[u8]) -> Result<Answe
 fn full(alloc: Global) -> Result<Answer, NoMemory>
     ensures { IfOk result (λ a. (a.status ≡ 5) × (a.text ≡ full_text)) }
 {
-    let text = b"states full\n".to_vec(alloc)?;
-    Ok(Answer {
-        status: 5,
-        text: Seq::from_vec(text),
-    })
+    let mut text = Text::new(alloc);
+    text.word(b"states full\n")?;
+    Ok(written(5, text))
 }
 
 fn measured(alloc: Global, side: Side, worth: Worth) -> Result<Answer, NoMemory>
@@ -90,10 +87,7 @@ fn measured(alloc: Global, side: Side, worth: Worth) -> Result<Answer, NoMemory>
     text.word_side(b"exploit ", side)?;
     add_worth(&mut text, worth)?;
     text.word(b"\n")?;
-    Ok(Answer {
-        status: 0,
-        text: Seq::from_vec(text.into_bytes()),
-    })
+    Ok(written(0, text))
 }
 
 fn add_worth(text: &mut Text, worth: Worth) -> Result<(), NoMemory>

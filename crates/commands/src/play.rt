@@ -9,11 +9,10 @@ ghost use Rattle.commands.specs.Checks.{most_report};
 ghost use Rattle.commands.specs.Matches.{IsMatch, IsPlayedMatch, match_text, totals_text, turn_text, turns_text};
 
 use crate::check::{ReportedGame, faulty, report_in};
-use crate::run::Answer;
+use crate::run::{Answer, written};
 use certificate::Report;
 use position::GameVisitor;
 use referee::{PlayedTurn, Record, Totals, tally};
-use seq::Seq;
 use sim_game::{Game, NoMemory, Side};
 use std::alloc::Global;
 use text::Text;
@@ -28,13 +27,13 @@ struct Referee<'a> {
 }
 
 impl<'a> GameVisitor for Referee<'a> {
-    type Answer = Result<Vec<u8>, NoMemory>;
+    type Answer = Result<Text, NoMemory>;
 
     ghost can_visit = { λ v. IsInRange v.report.now × (1 ≤ v.games) × (v.games ≤ 100000) };
 
-    ghost says = { λ v _ m answer. IfOk answer (λ text. IsMatch m v.report.now v.games v.seed text.items) };
+    ghost says = { λ v _ m answer. IfOk answer (λ text. IsMatch m v.report.now v.games v.seed text) };
 
-    fn visit<G: Game + Send + Sync>(self, game: G) -> Result<Vec<u8>, NoMemory>
+    fn visit<G: Game + Send + Sync>(self, game: G) -> Result<Text, NoMemory>
     where
         G::State: Send + Sync,
     {
@@ -65,10 +64,7 @@ pub(crate) fn played(alloc: Global, games: u32, seed: u64, bytes: &[u8]) -> Resu
             games,
             seed,
         }) {
-            Ok(text) => Ok(Answer {
-                status: 0,
-                text: Seq::from_vec(text),
-            }),
+            Ok(text) => Ok(written(0, text)),
             Err(_) => Err(NoMemory),
         },
         Err(fault) => faulty(alloc, fault),
@@ -81,16 +77,16 @@ fn match_text<G: Game>(
     g: G,
     first: &Record,
     totals: Totals,
-) -> Result<Vec<u8>, NoMemory>
+) -> Result<Text, NoMemory>
     requires { IsPlayed (G.model g) (G.model g).root first.now.turns }
-    ensures { IfOk result (λ v. v.items ≡ match_text (G.model g) first.now totals) }
+    ensures { IfOk result (λ text. text ≡ match_text (G.model g) first.now totals) }
 {
     let mut text = Text::new(alloc);
     add_turns(&mut text, g, g.root(), first.turns.as_slice())?;
     text.word_number(b"payoff ", &first.payoff)?;
     text.word(b"\n")?;
     add_totals(&mut text, totals)?;
-    Ok(text.into_bytes())
+    Ok(text)
 }
 
 fn add_turns<G: Game>(

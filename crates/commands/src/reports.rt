@@ -1,10 +1,10 @@
 //! The texts of `check`.
 
-ghost use Rattle.std.specs.Prelude.{◌≡◌, ◌∷◌, ◌++◌, codes, decimal, OnOk, IfOk};
+ghost use Rattle.std.specs.Prelude.{◌≡◌, ◌++◌, codes, OnOk, IfOk};
 ghost use Rattle.std.specs.Fmt.{signed_decimal};
 ghost use Rattle.text.specs.Texts.{Adds};
 ghost use Rattle.certificate.specs.Texts.{outcome_word};
-ghost use Rattle.commands.specs.Reports.{accepted_text, unread_text, position_text, row_text, why_text, fault_words, fault_text};
+ghost use Rattle.commands.specs.Reports.{accepted_text, unread_text, position_text, row_text, why_text, fault_words};
 
 use certificate::{Outcome, Report, TextError};
 use checker::Why;
@@ -52,17 +52,7 @@ pub(crate) fn outcome(text: &mut Text, outcome: Outcome) -> Result<(), NoMemory>
     }
 }
 
-/// The line of a refusal.
-pub(crate) fn fault_text(alloc: Global, fault: ReportFault) -> Result<Vec<u8>, NoMemory>
-    ensures { IfOk result (λ v. v.items ≡ fault_text fault) }
-{
-    let mut text = Text::new(alloc);
-    words(&mut text, fault)?;
-    text.word(b"\n")?;
-    Ok(text.into_bytes())
-}
-
-fn words(text: &mut Text, fault: ReportFault) -> Result<(), NoMemory>
+pub(crate) fn words(text: &mut Text, fault: ReportFault) -> Result<(), NoMemory>
     ensures { OnOk result (Adds text.old text.new (fault_words fault)) }
 {
     match fault {
@@ -115,28 +105,22 @@ fn reason(text: &mut Text, why: Why) -> Result<(), NoMemory>
             need,
         } => {
             of_row(text, b"bound ", side, key)?;
-            at_reply(text, reply, sum, need)
+            text.next(&reply)?;
+            text.next(&sum)?;
+            text.next(&need)
         }
         Why::Idle { side, key } => of_row(text, b"idle ", side, key),
         Why::Root { side } => text.word_side(b"root ", side),
         Why::Outside { side, key } => of_row(text, b"outside ", side, key),
         Why::OutcomeWrong => text.word(b"outcome"),
-        Why::ResolutionWrong { want } => resolution(text, want),
+        Why::ResolutionWrong { want } => resolution(text, &want),
     }
 }
 
-fn resolution(text: &mut Text, want: i64) -> Result<(), NoMemory>
-    ensures { OnOk result (Adds text.old text.new (codes "resolution " ++ signed_decimal want)) }
+fn resolution(text: &mut Text, want: &i64) -> Result<(), NoMemory>
+    ensures { OnOk result (Adds text.old text.new (codes "resolution " ++ signed_decimal want.now)) }
 {
-    text.word_number(b"resolution ", &want)
-}
-
-fn at_reply(text: &mut Text, reply: u32, sum: i64, need: i64) -> Result<(), NoMemory>
-    ensures { OnOk result (Adds text.old text.new (32 ∷ (decimal reply ++ 32 ∷ (signed_decimal sum ++ 32 ∷ signed_decimal need)))) }
-{
-    text.word_number(b" ", &reply)?;
-    text.word_number(b" ", &sum)?;
-    text.word_number(b" ", &need)
+    text.word_number(b"resolution ", want)
 }
 
 fn of_row(text: &mut Text, words: &[u8], side: Side, key: u64) -> Result<(), NoMemory>

@@ -12,7 +12,6 @@ use crate::play::played;
 use crate::reports::ReportFault;
 use crate::sample::sampled;
 use crate::solve::solved;
-use crate::texts::input_text;
 use crate::words::{Command, ReadingCommand, command_of};
 use oracle_search::Gate;
 use position::{InputError, ReadError, Sink, Source, read_all, write_all};
@@ -20,12 +19,24 @@ use seq::Seq;
 use sim_game::NoMemory;
 use std::alloc::Global;
 use std::thread::Threads;
+use text::Text;
 
 /// What is answered: the status of the program, and its whole text.
 #[derive(Drop)]
 pub(crate) struct Answer {
     pub(crate) status: u8,
     pub(crate) text: Seq<u8>,
+}
+
+/// The answer that has the text.
+pub(crate) fn written(status: u8, text: Text) -> Answer
+    ensures status { result.status ≡ status }
+    ensures text { result.text ≡ text }
+{
+    Answer {
+        status,
+        text: Seq::from_vec(text.into_bytes()),
+    }
 }
 
 const USAGE: &[u8] =
@@ -118,11 +129,9 @@ fn respond<K: Sink>(sink: &mut K, answer: Result<Answer, NoMemory>) -> u8
 fn usage(alloc: Global) -> Result<Answer, NoMemory>
     ensures { IfOk result (λ a. (a.status ≡ 1) × (a.text ≡ usage_text)) }
 {
-    let text = USAGE.to_vec(alloc)?;
-    Ok(Answer {
-        status: 1,
-        text: Seq::from_vec(text),
-    })
+    let mut text = Text::new(alloc);
+    text.word(USAGE)?;
+    Ok(written(1, text))
 }
 
 pub(crate) fn refused(alloc: Global, error: InputError) -> Result<Answer, NoMemory>
@@ -131,9 +140,10 @@ pub(crate) fn refused(alloc: Global, error: InputError) -> Result<Answer, NoMemo
     if error == InputError::NoMemory {
         return Err(NoMemory);
     }
-    let text = input_text(alloc, error)?;
-    Ok(Answer {
-        status: 2,
-        text: Seq::from_vec(text),
-    })
+    let mut text = Text::new(alloc);
+    text.word_number(b"input ", &error.code())?;
+    text.word(b" ")?;
+    error.tell(&mut text)?;
+    text.word(b"\n")?;
+    Ok(written(2, text))
 }

@@ -9,7 +9,7 @@ ghost use Rattle.commands.specs.Runs.{status_of, IsSampled};
 ghost use Rattle.commands.specs.Samples.{sample_cards, sample_prizes, sample_position, bounds_words, sample_line};
 
 use crate::reports::outcome;
-use crate::run::Answer;
+use crate::run::{Answer, written};
 use crate::solve::status_of;
 use certificate::{Ask, Pay, PositionText, Report};
 use goofspiel::Goofspiel;
@@ -62,6 +62,7 @@ fn sample_prizes(number: u32) -> [u8; 5]
 }
 
 /// The game of the sample.
+#[tactic(auto, using(crate::proofs::SampleLemmas::no_fault))]
 pub(crate) fn sample_game(number: u32) -> Goofspiel
     ensures { IsSettingOf sample_cards sample_cards (sample_prizes number) (pos 0) Pay.Margin result.setting }
 {
@@ -94,10 +95,7 @@ fn told(alloc: Global, number: u32, report: &Report) -> Result<Answer, NoMemory>
 {
     let mut text = Text::new(alloc);
     add_line(&mut text, number, report)?;
-    Ok(Answer {
-        status: status_of(report.outcome),
-        text: Seq::from_vec(text.into_bytes()),
-    })
+    Ok(written(status_of(report.outcome), text))
 }
 
 fn add_line(text: &mut Text, number: u32, report: &Report) -> Result<(), NoMemory>

@@ -48,16 +48,10 @@ pay_range Win first total h small = record { low_least = omega (arith, ints); lo
 
 -- ---- states
 pub same_state : (s t : State) → s.one ≡ t.one → s.two ≡ t.two → s.score ≡ t.score → s ≡ t
-same_state s t p q r =
-    let made : ℕ → ℕ → ℤ → State = λ one two score. record { one = one; two = two; score = score } in
-    let e : made s.one s.two s.score ≡ made t.one t.two t.score = rw (p, q, r) refl in
-    e
+same_state s t p q r = λ i. record { one = p i; two = q i; score = r i }
 
 pub same_hands : (d e : Deal) → d.one ≡ e.one → d.two ≡ e.two → d.score ≡ e.score → d ≡ e
-same_hands d e p q r =
-    let made : List ℕ → List ℕ → ℤ → Deal = λ one two score. record { one = one; two = two; score = score } in
-    let m : made d.one d.two d.score ≡ made e.one e.two e.score = rw (p, q, r) refl in
-    m
+same_hands d e p q r = λ i. record { one = p i; two = q i; score = r i }
 
 -- ---- the hands and the score in bits
 pub record IsSmall (s : State) : Type 0 where

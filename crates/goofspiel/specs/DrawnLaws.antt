@@ -1,7 +1,7 @@
 -- The rules of Goofspiel with drawn prizes make a game.
-use Rattle.std.proofs.Common.{◌≡◌, ℕ, zero, suc, ◌+◌, ◌-◌, ◌*◌, ◌/◌, ◌<◌, ◌≤◌, ◌≢◌, ◌^◌, max, List, [], ◌∷◌, length, get_or, take, sum, refl, sym, ap, subst, ◌∙◌, inl, inr, arith, add-one}
+use Rattle.std.proofs.Common.{◌≡◌, ℕ, zero, suc, ◌+◌, ◌-◌, ◌*◌, ◌/◌, ◌<◌, ◌≤◌, ◌≢◌, ◌^◌, max, ◌&&◌, eqb, leb, true, List, [], ◌∷◌, length, get_or, take, sum, refl, sym, ap, subst, ◌∙◌, inl, inr, arith, add-one}
 use Rattle.std.proofs.Math.Nat.{pow-succ', pow-le-pow_right}
-use Rattle.std.proofs.lemmas.Bool.{cases_lt}
+use Rattle.std.proofs.lemmas.Bool.{agree_below_at, and_parts, cases_lt, eqb-true, leb-true}
 use Rattle.std.proofs.lemmas.Int.{ints}
 use Rattle.std.proofs.lemmas.List.{get_or_past, get_or-take, nil_from_length, take_all}
 use Rattle.std.proofs.lemmas.List.Edits.{get_or-remove_below, get_or-remove_above}
@@ -14,41 +14,21 @@ use Rattle.sim_game.proofs.ReachLemmas.{reachable_induction}
 use Rattle.sums.proofs.CountLemmas.{count_constant}
 use Rattle.goofspiel.specs.declared.drawn.DrawnState.{DrawnState}
 use Rattle.goofspiel.specs.declared.Setting.{Setting}
-use Rattle.goofspiel.specs.declared.State.{State}
 use Rattle.goofspiel.specs.Cards.{members, cards, places, packed_from}
-use Rattle.goofspiel.specs.CardLaws.{few_members, few_cards, members_none, members_even, members_odd, set_packed, taken_out}
+use Rattle.state_key.proofs.SetLemmas.{members_none, members_even, members_odd}
+use Rattle.goofspiel.specs.CardLaws.{few_members, few_cards, set_packed, taken_out}
 use Rattle.goofspiel.specs.DealLaws.{IsSmall, IsDealt, IsBidFor, pay_low, pay_high, pay_range, key_small, keys_apart, hand_count, few_prizes, total_high, dealt_first, small_score, bid_for}
 use Rattle.goofspiel.specs.DrawnRules.{DrawnDeal, after_draw, drawn_deal_of, draw_count, drawn_key_of, drawn_game}
 use Rattle.goofspiel.specs.Position.{prizes_of, IsPosition}
-use Rattle.goofspiel.specs.Rules.{Deal, deal_of, key_of}
+use Rattle.goofspiel.specs.Rules.{deal_of, key_of}
 
 -- ---- equal weights
 -- so many equal weights sum to the whole
-pub share : (u : ℕ) → 1 ≤ u → u ≤ 13 → u * (whole_chance / u) ≡ whole_chance
+pub share : (u : ℕ) → 1 ≤ u → u ≤ 13 → (u * (whole_chance / u) ≡ whole_chance) × (1 ≤ whole_chance / u)
 share zero l h = absurd (omega arith)
-share (suc zero) l h = refl
-share (suc (suc zero)) l h = refl
-share (suc (suc (suc zero))) l h = refl
-share (suc (suc (suc (suc zero)))) l h = refl
-share (suc (suc (suc (suc (suc zero))))) l h = refl
-share (suc (suc (suc (suc (suc (suc zero)))))) l h = refl
-share (suc (suc (suc (suc (suc (suc (suc zero))))))) l h = refl
-share (suc (suc (suc (suc (suc (suc (suc (suc zero)))))))) l h = refl
-share (suc (suc (suc (suc (suc (suc (suc (suc (suc zero))))))))) l h = refl
-share (suc (suc (suc (suc (suc (suc (suc (suc (suc (suc zero)))))))))) l h = refl
-share (suc (suc (suc (suc (suc (suc (suc (suc (suc (suc (suc zero))))))))))) l h = refl
-share (suc (suc (suc (suc (suc (suc (suc (suc (suc (suc (suc (suc zero)))))))))))) l h = refl
-share (suc (suc (suc (suc (suc (suc (suc (suc (suc (suc (suc (suc (suc zero))))))))))))) l h = refl
-share (suc (suc (suc (suc (suc (suc (suc (suc (suc (suc (suc (suc (suc (suc u)))))))))))))) l h = absurd (omega arith)
-
-share_positive : (u : ℕ) → u * (whole_chance / u) ≡ whole_chance → 1 ≤ whole_chance / u
-share_positive u whole = elim (cases_lt 0 (whole_chance / u)) [
-  | inl some ↦ some
-  | inr none ↦
-      let nothing : whole_chance / u ≡ 0 = omega arith in
-      let lost : u * 0 ≡ whole_chance = ap (λ (q : ℕ). u * q) (sym nothing) ∙ whole in
-      absurd (omega (arith, lost))
-]
+share (suc u) l h =
+    let both = and_parts _ _ (agree_below_at (λ k. eqb (suc k * (whole_chance / suc k)) whole_chance && leb 1 (whole_chance / suc k)) (λ _. true) 13 u refl (omega arith)) in
+    (eqb-true _ _ both.0, leb-true _ _ both.1)
 
 -- ---- the places from 1 on
 pub members_empty : (n low : ℕ) → members n low 0 ≡ []
@@ -108,23 +88,16 @@ sum_range : (n low : ℕ) (xs : List ℕ) → low + n ≤ length xs → sum (tak
 sum_range zero low xs h = let e : low + 0 ≡ low = omega arith in rw e (omega arith)
 sum_range (suc n) low xs h =
     let e : low + 1 + n ≡ low + suc n = omega arith in
-    let more = sum_range n (low + 1) xs (omega arith) in
     let here = sum_by_more (λ x. x) xs low 0 (omega arith) in
     let front = sum_by-cons (λ i. get_or xs i 0) low (range_with_len (low + 1) n) in
-    subst (λ (k : ℕ). sum (take low xs) + sum_by (λ i. get_or xs i 0) (range_with_len low (suc n)) ≡ sum (take k xs)) e (omega (arith, more, here, front))
+    subst (λ (k : ℕ). sum (take low xs) + sum_by (λ i. get_or xs i 0) (range_with_len low (suc n)) ≡ sum (take k xs)) e (omega (arith, sum_range n (low + 1) xs (omega arith), here, front))
 
 -- ---- states
 pub same_drawn_state : (s t : DrawnState) → s.hands ≡ t.hands → s.undrawn ≡ t.undrawn → s.place ≡ t.place → s ≡ t
-same_drawn_state s t p q r =
-    let made : State → ℕ → ℕ → DrawnState = λ hands undrawn place. record { hands = hands; undrawn = undrawn; place = place } in
-    let e : made s.hands s.undrawn s.place ≡ made t.hands t.undrawn t.place = rw (p, q, r) refl in
-    e
+same_drawn_state s t p q r = λ i. record { hands = p i; undrawn = q i; place = r i }
 
 pub same_drawn_deal : (d e : DrawnDeal) → d.hands ≡ e.hands → d.undrawn ≡ e.undrawn → d.place ≡ e.place → d ≡ e
-same_drawn_deal d e p q r =
-    let made : Deal → List ℕ → ℕ → DrawnDeal = λ hands undrawn place. record { hands = hands; undrawn = undrawn; place = place } in
-    let m : made d.hands d.undrawn d.place ≡ made e.hands e.undrawn e.place = rw (p, q, r) refl in
-    m
+same_drawn_deal d e p q r = λ i. record { hands = p i; undrawn = q i; place = r i }
 
 abbrev pub prize_at : Setting → ℕ → ℕ
 prize_at g place = get_or (prizes_of g) place 0
@@ -155,25 +128,22 @@ module _ (g : Setting) (p : IsPosition g) where
       let prizes = prizes_of g in
       let all : 1 + (g.count - 1) ≡ length prizes = omega (arith, some, p.one_count, p.prize_count) in
       let whole : sum (take (1 + (g.count - 1)) prizes) ≡ sum prizes = ap sum (take_all (1 + (g.count - 1)) prizes (omega (arith, all))) in
-      let rest = sum_range (g.count - 1) 1 prizes (omega (arith, all)) in
-      let first = sum_by_more (λ x. x) prizes 0 0 (omega (arith, all)) in
-      omega (arith, whole, rest, first)
+      omega (arith, whole, sum_range (g.count - 1) 1 prizes (omega (arith, all)), sum_by_more (λ x. x) prizes 0 0 (omega (arith, all)))
 
   sound_root : IsDrawnSound g (drawn_game g).root
   sound_root =
-      let undrawn = root_undrawn in
-      let len : length (places (drawn_game g).root.undrawn) ≡ g.count - 1 = ap length undrawn ∙ length-range_with_len 1 (g.count - 1) in
+      let len : length (places (drawn_game g).root.undrawn) ≡ g.count - 1 = ap length root_undrawn ∙ length-range_with_len 1 (g.count - 1) in
       record {
         spent = 0;
         hands = dealt_first g p;
         spent_high = omega arith;
-        spent_rest = λ some. let rest = root_rest some in let same = ap (sum_by (prize_at g)) undrawn in omega (arith, rest, same);
+        spent_rest = λ some. let rest = root_rest some in let same = ap (sum_by (prize_at g)) root_undrawn in omega (arith, rest, same);
         undrawn_small = omega (arith, later_packed (g.count - 1) few_later, later_small (g.count - 1) few_later);
         left = omega (arith, len, p.one_count);
         undrawn_below = λ i below.
             let place : i < g.count - 1 = omega (arith, below, len) in
             let at : get_or (range_with_len 1 (g.count - 1)) i 0 ≡ 1 + i = get_or-range_with_len 1 (g.count - 1) i 0 place in
-            subst (λ (xs : List ℕ). get_or xs i 0 < g.count) (sym undrawn) (omega (arith, at, place));
+            subst (λ (xs : List ℕ). get_or xs i 0 < g.count) (sym root_undrawn) (omega (arith, at, place));
         place_below = omega arith;
         end_place = λ none. refl;
       }
@@ -198,11 +168,10 @@ module _ (g : Setting) (p : IsPosition g) where
 
   sound_turn : (s : DrawnState) (t : Turn) → IsDrawnSound g s → IsTurn (drawn_game g) s t → IsDrawnSound g (after_turn (drawn_game g) s t)
   sound_turn s t here turn =
-      let next = after_turn (drawn_game g) s t in
       let xs = places s.undrawn in
       let bids = drawn_bids_for s t here turn in
       let out = drawn_out s.undrawn t.draw here.undrawn_small turn.draw_below in
-      let fewer : length (places next.undrawn) ≡ length xs - 1 = ap length out.again ∙ out.count in
+      let fewer : length (places (after_turn (drawn_game g) s t).undrawn) ≡ length xs - 1 = ap length out.again ∙ out.count in
       let rest = here.spent_rest (omega (arith, turn.one_below)) in
       record {
         spent = here.spent + prize_at g s.place;
@@ -210,9 +179,7 @@ module _ (g : Setting) (p : IsPosition g) where
         spent_high = omega (arith, rest);
         spent_rest = λ some.
             let place : t.draw < length xs = omega (arith, turn.draw_below, here.left, bids.fewer, some) in
-            let sum = sum_by-remove (prize_at g) xs t.draw 0 place in
-            let same = ap (sum_by (prize_at g)) out.again in
-            omega (arith, rest, sum, same);
+            omega (arith, rest, sum_by-remove (prize_at g) xs t.draw 0 place, ap (sum_by (prize_at g)) out.again);
         undrawn_small = out.small;
         left = omega (arith, fewer, bids.fewer, here.left);
         undrawn_below = λ i h. subst (λ (ys : List ℕ). get_or ys i 0 < g.count) (sym out.again) (still_below s t.draw here turn.draw_below i (omega (arith, h, fewer)));
@@ -254,7 +221,7 @@ module _ (g : Setting) (p : IsPosition g) where
   draws_range s here = (omega arith, omega (arith, few_members 0 s.undrawn here.undrawn_small))
 
   pub drawn_share : (s : DrawnState) → IsDrawnSound g s → draw_count (drawn_deal_of s) * (whole_chance / draw_count (drawn_deal_of s)) ≡ whole_chance
-  drawn_share s here = let r = draws_range s here in share (draw_count (drawn_deal_of s)) r.0 r.1
+  drawn_share s here = let r = draws_range s here in (share (draw_count (drawn_deal_of s)) r.0 r.1).0
 
   pub drawn_is_game : IsGame (drawn_game g)
   drawn_is_game =
@@ -276,7 +243,7 @@ module _ (g : Setting) (p : IsPosition g) where
         key_high = λ s r. drawn_key_small s (drawn_sound s r);
         draws_low = λ s a b r h h'. (draws_range s (drawn_sound s r)).0;
         draws_high = λ s a b r h h'. (draws_range s (drawn_sound s r)).1;
-        chance_low = λ s t r h. share_positive (draw_count (drawn_deal_of s)) (drawn_share s (drawn_sound s r));
+        chance_low = λ s t r h. let d = draws_range s (drawn_sound s r) in (share (draw_count (drawn_deal_of s)) d.0 d.1).1;
         chance_sum = λ s a b r h h'. count_constant (draw_count (drawn_deal_of s)) (whole_chance / draw_count (drawn_deal_of s)) ∙ drawn_share s (drawn_sound s r);
         one_draw = λ s a b h r h' h''. absurd (cc);
       }

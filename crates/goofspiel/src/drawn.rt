@@ -102,7 +102,7 @@ impl Game for GoofspielDrawn {
 
     #[inline]
     fn rank(&self, s: DrawnState) -> u32 {
-        size(s.hands.one)
+        self.moves(Side::One, s)
     }
 
     #[inline]
@@ -143,8 +143,8 @@ impl Game for GoofspielDrawn {
     }
 
     #[inline]
-    fn chance(&self, s: DrawnState, _a: u32, _b: u32, _d: u32) -> u32 {
-        CHANCE / 1.max(size(s.undrawn))
+    fn chance(&self, s: DrawnState, a: u32, b: u32, _d: u32) -> u32 {
+        CHANCE / self.draws(s, a, b)
     }
 
     #[inline]

@@ -168,7 +168,7 @@ impl Game for Goofspiel {
 
     #[inline]
     fn next(&self, s: State, a: u32, b: u32) -> State {
-        let gone = self.setting.count as u32 - size(s.one);
+        let gone = self.setting.count as u32 - self.rank(s);
         played(s, a, b, self.setting.prizes[gone as usize])
     }
 
@@ -182,7 +182,7 @@ impl Game for Goofspiel {
 
     #[inline]
     fn rank(&self, s: State) -> u32 {
-        size(s.one)
+        self.moves(Side::One, s)
     }
 
     #[inline]

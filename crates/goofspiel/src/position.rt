@@ -1,5 +1,6 @@
 //! The rules that the lists of a position keep, tried one by one.
 ghost use Rattle.std.specs.Prelude.{◌≡◌, ℕ, ℤ, List, ◌<◌, ◌≤◌, ◌^◌, ◌-◌, ◌++◌, IfSome, length, replicate, sum, unsigned_abs, MatchResult, position};
+ghost use Rattle.state_key.specs.Sets.{is_in, with_number};
 ghost use Rattle.goofspiel.specs.Position.{is_outside, card_range, card_twice, lengths, prize_range, score_range, IsHandOf, IsSettingOf};
 ghost use Rattle.goofspiel.specs.declared.Pay.{Pay};
 ghost use Rattle.goofspiel.specs.declared.Setting.{Setting};
@@ -33,6 +34,22 @@ pub(crate) fn check_cards(side: Side, hand: &[u8]) -> Result<(), GoofspielError>
     }
 }
 
+/// Whether the card is in the hand.
+fn has(hand: u16, card: u8) -> bool
+    requires { (1 ≤ card) × (card ≤ 13) }
+    ensures { result ≡ is_in hand (card - 1) }
+{
+    (hand >> (card - 1)) & 1 == 1
+}
+
+/// The hand with one more card.
+fn with_card(hand: u16, card: u8) -> u16
+    requires { (1 ≤ card) × (card ≤ 13) }
+    ensures { result ≡ with_number hand (card - 1) }
+{
+    hand | 1 << (card - 1)
+}
+
 /// The packed hand of a list of cards. Refuses a card that stood before.
 pub(crate) fn hand_of(side: Side, hand: &[u8]) -> Result<u16, GoofspielError>
     requires { position (is_outside 1 13) hand.now ≡ None }
@@ -40,11 +57,10 @@ pub(crate) fn hand_of(side: Side, hand: &[u8]) -> Result<u16, GoofspielError>
 {
     let mut packed: u16 = 0;
     for card in hand {
-        let bit = 1 << (*card - 1);
-        if packed & bit != 0 {
+        if has(packed, *card) {
             return Err(GoofspielError::CardTwice { side, card: *card });
         }
-        packed |= bit;
+        packed = with_card(packed, *card);
     }
     Ok(packed)
 }

@@ -129,10 +129,6 @@ pub record IsJoining {S G : Type 0} (model : G → GameModel S) (g : G) (b : Boa
   pub each : All (λ r. IfOk r (IsDone model g b ask)) found
   pub joined : AreJoined (model g) ask (seen_by (model g) lead.view) (rows_of lead.view) turns was_full
 
-true_or : (a b : Bool) → a ≡ true → (a || b) ≡ true
-true_or true b e = refl
-true_or false b e = absurd (cc)
-
 module _ {S G : Type 0} (model : G → GameModel S) (g : G) (b : BoardValue G) (ask : Ask) where
   pub joining_none : (first : PassValue G) (found : List (Result (Done G) NoMemory)) → IsPassOf b first → first.view.lead ≡ true → All (λ r. IfOk r (IsDone model g b ask)) found → IsJoining model g b ask first first (length found) found [] false
   joining_none first found ours leads each = record {
@@ -150,31 +146,25 @@ module _ {S G : Type 0} (model : G → GameModel S) (g : G) (b : BoardValue G) (
       → All (λ r. IfOk r (IsDone model g b ask)) rest × IsDone model g b ask d
   joining_next first lead count found rest d turns was is j = All-pop (λ r. IfOk r (IsDone model g b ask)) found rest (Some (Ok d)) is j.each
 
-  pub joining_more : (first lead next : PassValue G) (count : ℕ) (found rest : List (Result (Done G) NoMemory)) (d : Done G) (turns more : List Budget) (was now : Bool) → b.game ≡ g → found ≡ rest ++ Ok d ∷ [] → more ≡ turns ++ d.turns ∷ []
-      → next.name ≡ lead.name → next.total ≡ lead.total → next.view ≡ joined lead.view d.pass.seat.me.0 → KnowsNoLess (model b.game) lead.view next.view → KnowsNoLess (model b.game) d.pass.seat.me.0 next.view
+  pub joining_more : (first lead next : PassValue G) (count : ℕ) (found rest : List (Result (Done G) NoMemory)) (d : Done G) (own : PassValue G) (turns more : List Budget) (was now : Bool) → b.game ≡ g → found ≡ rest ++ Ok d ∷ [] → more ≡ turns ++ d.turns ∷ []
+      → own ≡ pass_of d.pass → next.name ≡ lead.name → next.total ≡ lead.total → next.view ≡ joined lead.view own.view → KnowsNoLess (model b.game) lead.view next.view → KnowsNoLess (model b.game) own.view next.view
       → (now ≡ true → (was ≡ true) ⊎ (d.end ≡ Full)) → (now ≡ false → (was ≡ false) × (d.end ≡ Full → ⊥))
       → IsJoining model g b ask first lead count found turns was → IsJoining model g b ask first next count rest more now
-  joining_more first lead next count found rest d turns more was now game is more_is name total view mine theirs then else j =
+  joining_more first lead next count found rest d own turns more was now game is more_is same name total seen mine theirs then else j =
       let parts = joining_next first lead count found rest d turns was is j in
-      let own = j.ours in
-      let worker = parts.1.pass in
       let from_lead = subst (λ (x : G). KnowsNoLess (model x) lead.view next.view) game mine in
-      let from_worker = subst (λ (x : G). KnowsNoLess (model x) d.pass.seat.me.0 next.view) game theirs in
+      let from_worker = subst (λ (p : PassValue G). KnowsNoLess (model g) p.view next.view) same (subst (λ (x : G). KnowsNoLess (model x) own.view next.view) game theirs) in
+      let view : next.view ≡ joined lead.view d.pass.seat.me.0 = seen ∙ ap (λ (p : PassValue G). joined lead.view p.view) same in
       let numbers : length next.view.numbers ≡ length lead.view.numbers + length d.pass.seat.me.0.numbers = ap (λ (v : View G). length v.numbers) view ∙ length-append lead.view.numbers d.pass.seat.me.0.numbers in
-      let one = worker.holds in
-      let held = j.holds in
-      let counted = j.counts in
       let all : length found ≡ length rest + 1 = ap length is ∙ length-append rest (Ok d ∷ []) in
       let turns_all : length more ≡ length turns + 1 = ap length more_is ∙ length-append turns (d.turns ∷ []) in
-      let none_drawn = worker.draws in
       let drawn : next.view.drawn ≡ max lead.view.drawn d.pass.seat.me.0.drawn = ap (λ (v : View G). v.drawn) view in
-      let before = j.draws in
       record {
-        ours = record { name = name ∙ own.name; game = ap (λ (v : View G). v.game) view ∙ own.game; total = total ∙ own.total };
-        leads = ap (λ (v : View G). v.lead) view ∙ true_or lead.view.lead d.pass.seat.me.0.lead j.leads;
-        draws = omega (arith, drawn, none_drawn, before);
-        holds = omega arith;
-        counts = omega arith;
+        ours = record { name = name ∙ j.ours.name; game = ap (λ (v : View G). v.game) view ∙ j.ours.game; total = total ∙ j.ours.total };
+        leads = ap (λ (v : View G). v.lead) view ∙ ap (λ (a : Bool). a || d.pass.seat.me.0.lead) j.leads;
+        draws = omega (arith, drawn, parts.1.pass.draws, j.draws);
+        holds = omega (arith, parts.1.pass.holds, j.holds);
+        counts = omega (arith, j.counts);
         each = parts.0;
         joined = subst (λ (l : List Budget). AreJoined (model g) ask (seen_by (model g) next.view) (rows_of next.view) l now) (sym more_is) (joined_more (model g) ask (seen_by (model g) next.view) (rows_of next.view) turns was now d.turns d.end then else
             (joined_later (model g) ask (seen_by (model g) lead.view) (seen_by (model g) next.view) (rows_of lead.view) (rows_of next.view) from_lead.seen from_lead.keys turns was j.joined)

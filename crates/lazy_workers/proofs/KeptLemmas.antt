@@ -32,7 +32,7 @@ nothing_kept : Kept
 nothing_kept = record { key = 0; lower = pos 0; upper = pos 0 }
 
 -- no key stands twice
-Apart : List ℕ → Type 0
+abbrev Apart : List ℕ → Type 0
 Apart [] = Unit {0}
 Apart (k ∷ ks) = ((x : ℕ) → Has x ks → k ≢ x) × Apart ks
 
@@ -44,7 +44,6 @@ has_at (k ∷ ks) x h = ⊎_elim
     h
 
 apart_by_recursion : (ks : List ℕ) → AreApart ks → Apart ks
-unfolding Apart
 apart_by_recursion [] apart = tt
 apart_by_recursion (k ∷ ks) apart = (
   λ x h e. let it = has_at ks x h in apart 0 (suc it.0) (omega arith) (omega (arith, it.1)) (e ∙ sym it.2),
@@ -97,9 +96,9 @@ module _ {S G : Type 0} (m : GameModel S) (game : IsGame m) (ask : Ask) (v : Vie
     rows_count [] each = refl
     rows_count (key ∷ keys) each = ap suc (rows_count keys each.1)
 
-    rows_among : (keys : List ℕ) (each : AllByRecursion (IsFinishedKey m ask (seen_by m v) (rows_of v)) keys) → AllByRecursion (Contains kept) (rows keys each)
-    rows_among [] each = tt
-    rows_among (key ∷ keys) each = ((row_of key each.0).is_kept, rows_among keys each.1)
+    rows_all : (P : Kept → Type 0) → ((key : ℕ) (f : IsFinishedKey m ask (seen_by m v) (rows_of v) key) → P (row_of key f).row) → (keys : List ℕ) (each : AllByRecursion (IsFinishedKey m ask (seen_by m v) (rows_of v)) keys) → AllByRecursion P (rows keys each)
+    rows_all P here [] each = tt
+    rows_all P here (key ∷ keys) each = (here key each.0, rows_all P here keys each.1)
 
     rows_keys : (keys : List ℕ) (each : AllByRecursion (IsFinishedKey m ask (seen_by m v) (rows_of v)) keys) (x : Kept) → Has x (rows keys each) → Has x.key keys
     rows_keys [] each x h = h
@@ -109,7 +108,6 @@ module _ {S G : Type 0} (m : GameModel S) (game : IsGame m) (ask : Ask) (v : Vie
         h
 
     rows_distinct : (keys : List ℕ) (each : AllByRecursion (IsFinishedKey m ask (seen_by m v) (rows_of v)) keys) → Apart keys → IsDistinct (rows keys each)
-    unfolding Apart
     rows_distinct [] each apart = tt
     rows_distinct (key ∷ keys) each apart = (
       λ y h e. apart.0 y.key (rows_keys keys each.1 y h) (sym (row_of key each.0).is_key ∙ e),
@@ -135,18 +133,14 @@ module _ {S G : Type 0} (m : GameModel S) (game : IsGame m) (ask : Ask) (v : Vie
               let times : root * (rank * each) ≡ rank * n = rw is (omega arith) in
               subst (λ (k : ℕ). (pos root *ℤ gap) ≤ℤ pos k) times (times_mono root gap (pos (rank * each)) near)
 
-    rows_finished : (keys : List ℕ) (each : AllByRecursion (IsFinishedKey m ask (seen_by m v) (rows_of v)) keys) → AllByRecursion (IsFinishedRow m (pos n)) (rows keys each)
-    rows_finished [] each = tt
-    rows_finished (key ∷ keys) each = (finished_row key each.0, rows_finished keys each.1)
-
     owed_rows : AreOwed m ask.turns (pos n) kept
     owed_rows =
         let each = recursion_from_All (IsFinishedKey m ask (seen_by m v) (rows_of v)) owed.keys owed.each in
         let list = rows owed.keys each in record {
           finished = list;
-          among = All-from_recursion (Contains kept) list (rows_among owed.keys each);
+          among = All-from_recursion (Contains kept) list (rows_all (Contains kept) (λ key f. (row_of key f).is_kept) owed.keys each);
           distinct = rows_distinct owed.keys each (apart_by_recursion owed.keys owed.apart);
-          each = All-from_recursion (IsFinishedRow m (pos n)) list (rows_finished owed.keys each);
+          each = All-from_recursion (IsFinishedRow m (pos n)) list (rows_all (IsFinishedRow m (pos n)) finished_row owed.keys each);
           few = omega (arith, owed.few, rows_count owed.keys each);
         }
 

@@ -24,7 +24,7 @@ use Rattle.plan_book.proofs.ExpectedLemmas.{is_same, is_other}
 use Rattle.plan_book.proofs.SheetLemmas.{sheet_guarantees}
 use Rattle.certificate.specs.declared.report.Ask.{Ask}
 use Rattle.certificate.specs.declared.report.Outcome.{Outcome}
-use Rattle.certificate.specs.declared.report.Outcome.TheVariants.{Closed, Settled, Spent, Full}
+use Rattle.certificate.specs.declared.report.Outcome.TheVariants.{Closed, Spent, Full}
 use Rattle.certificate.specs.declared.report.PositionText.{PositionText}
 use Rattle.certificate.specs.declared.report.Report.{Report}
 use Rattle.certificate.specs.Outcomes.{gap_of, Allows}
@@ -106,31 +106,22 @@ module _ {S : Type 0} (m : GameModel S) (game : IsGame m) (ask : Ask) (asks : Is
   each_spent P each = subst (All P) (sym counts) (All-map P (λ t. t.spent) turns each)
 
   allowed : (o : Outcome) → IsOutcomeFor (gap_of r) r.asked r.resolution was_full o → Allows r o
-  allowed Closed e = e
-  allowed Settled e = e
-  allowed Spent e = (
-    record { asked = e.0; resolution = e.1 },
-    each_spent (λ n. n ≡ r.turns) (subst (λ (k : ℕ). All (λ t. t.spent ≡ k) turns) (sym of_ask.turns) (searched.all_spent e.2 (far e.0 e.1)).0),
-  )
+  allowed Spent e =
+      (record { asked = e.0; resolution = e.1 }, each_spent (λ n. n ≡ r.turns) (subst (λ (k : ℕ). All (λ t. t.spent ≡ k) turns) (sym of_ask.turns) (searched.all_spent e.2 (far e.0 e.1)).0))
   allowed Full e = record { asked = e.0; resolution = e.1 }
+  allowed o e = e
 
   full_by : (o : Outcome) → o ≡ Full → IsOutcomeFor (gap_of r) r.asked r.resolution was_full o → (length kept ≡ ask.rows) × (HasRoom m ask → ⊥)
   full_by Full is e = searched.full e.2
-  full_by Closed is e = absurd (cc)
-  full_by Settled is e = absurd (cc)
-  full_by Spent is e = absurd (cc)
+  full_by o is e = absurd (cc)
 
   spent_by : (o : Outcome) → o ≡ Spent → IsOutcomeFor (gap_of r) r.asked r.resolution was_full o → TooFewTurns m ask × (length kept < ask.rows → AreOwed m ask.turns r.resolution kept)
   spent_by Spent is e = let why = searched.all_spent e.2 (far e.0 e.1) in (why.1, λ left. subst (λ (z : ℤ). AreOwed m ask.turns z kept) (sym resolution.1) (why.2 resolution.0 resolution.2 left))
-  spent_by Closed is e = absurd (cc)
-  spent_by Settled is e = absurd (cc)
-  spent_by Full is e = absurd (cc)
+  spent_by o is e = absurd (cc)
 
   closed_by : (o : Outcome) → gap_of r ≤ℤ r.asked → IsOutcomeFor (gap_of r) r.asked r.resolution was_full o → o ≡ Closed
   closed_by Closed near e = refl
-  closed_by Settled near e = let wide = e.0 in absurd (omega (arith, ints))
-  closed_by Spent near e = let wide = e.0 in absurd (omega (arith, ints))
-  closed_by Full near e = let wide = e.0 in absurd (omega (arith, ints))
+  closed_by o near e = let wide = e.0 in absurd (omega (arith, ints))
 
   pure_low : HasRoom m ask → HasVisits m ask → serial_bound m One m.root ≤ℤ r.lower
   pure_low has many = subst (λ (x : ℤ). serial_bound m One m.root ≤ℤ x) (sym lower_is) (searched.pure has many One)

@@ -48,12 +48,9 @@ module _ (most : ℕ) (key_at : ℕ → Option ℕ) where
     first true is rest h = subst (λ (p : ℕ). p < most) (sym (eqb-true place kept.0.0 is)) kept.0.1
     first false is rest h = rest h
 
-  other : (key place k p : ℕ) → key_at place ≡ Some key → key_at p ≡ Some k → eqb key k ≡ false → place ≡ p → ⊥
-  other key place k p is at apart same = let found : key_at place ≡ Some k = ap key_at same ∙ at in let both : key ≡ k = cc in eqb-false key k apart both
-
   others : (key place : ℕ) → key_at place ≡ Some key → (keys : List ℕ) (kept : AllByRecursion IsKept keys) → AllByRecursion (λ k. eqb key k ≡ false) keys → AllByRecursion (λ p. eqb place p ≡ false) (places keys kept)
   others key place is [] kept apart = tt
-  others key place is (k ∷ keys) kept apart = (is_other place kept.0.0 (λ e. other key place k kept.0.0 is kept.0.2 apart.0 e), others key place is keys kept.1 apart.1)
+  others key place is (k ∷ keys) kept apart = (is_other place kept.0.0 (λ e. let found : key_at place ≡ Some k = ap key_at e ∙ kept.0.2 in let both : key ≡ k = cc in eqb-false key k apart.0 both), others key place is keys kept.1 apart.1)
 
   places_apart : (keys : List ℕ) (kept : AllByRecursion IsKept keys) → IsDistinct eqb keys → IsDistinct eqb (places keys kept)
   unfolding IsDistinct

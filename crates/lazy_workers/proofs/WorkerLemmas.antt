@@ -41,19 +41,15 @@ module _ {S : Type 0} (m : GameModel S) (game : IsGame m) where
     keys_few most has = has.few (length keys) (λ i. (known i).0) (λ i l. ((known i).1 l).0)
         (λ i j l h e. finished.apart i j l h (sym ((known i).1 (omega arith)).1 ∙ ap m.key e ∙ ((known j).1 h).1))
 
-  stage_exists : (total : ℕ) → 1 ≤ total → (stage : ℕ) × IsStageGap m total stage
-  stage_exists total some = least_exists m.width (payoff_range m) total game.width_low some
-
   module _ {G N : Type 0} (ask : Ask) (start last : WorkView G N) (end : SearchEnd)
       (rows : last.board.rows ≡ ask.rows) (total : last.board.total ≡ ask.weight) (weight : 1 ≤ ask.weight) (goes_on : 1 ≤ m.rank m.root)
       (none : start.settled ≡ record { keys = []; was_full = false }) (turns : start.turns ≡ record { limit = ask.turns; spent = 0 })
       (worked : IsWorked m m.root start last) (ends : Ends m m.root ask.gap last end) (takes : HasTaken m m.root end start last) where
-    has_row : Rows
+    abbrev has_row : Rows
     has_row row key = last.board.key_at row ≡ Some key
 
     -- a full board has a key in each row, and had no row for each state
     full_board : last.settled.was_full ≡ true → KnowsEach ask.rows has_row × (HasRoom m ask → ⊥)
-    unfolding has_row
     full_board was = ⊎_elim
         (λ (before : start.settled.was_full ≡ true). let no = ap (λ (f : FinishedView). f.was_full) none in let wrong : false ≡ true = sym no ∙ before in absurd (cc))
         (λ (full : IsBoardFull m m.root last.board). (
@@ -71,23 +67,15 @@ module _ {S : Type 0} (m : GameModel S) (game : IsGame m) where
     within : last.turns.spent ≤ last.turns.limit
     within = worked.turns.within (rw turns (omega arith))
 
-    keys_none : length start.settled.keys ≡ 0
-    keys_none = ap (λ (f : FinishedView). length f.keys) none
-
     -- bounds further apart than was asked and than the resolution, and no full board
     module _ (far : IsFar m ask (last.board.seen Two (m.key m.root) -ℤ last.board.seen One (m.key m.root))) where
-      not_reached : IsWithin last.board (m.key m.root) ask.gap → ⊥
-      not_reached near = let asked = far.asked in absurd (omega (arith, ints))
-
-      not_settled : (stage : ℕ) → IsStageGap m last.board.total stage → IsWithin last.board (m.key m.root) (pos (rank_gap m stage (m.rank m.root))) → ⊥
-      not_settled stage is near =
-          let beyond = far.resolution (rank_gap m stage (m.rank m.root)) (record { gap = stage; is_gap = subst (λ (w : ℕ). IsStageGap m w stage) total is; sums = refl }) in
-          absurd (omega (arith, ints))
-
       spent_by : (e : SearchEnd) → (e ≡ Full → ⊥) → Ends m m.root ask.gap last e → HasTaken m m.root e start last → (last.turns.spent ≡ ask.turns) × IsSpent m ask last.board.seen has_row
-      unfolding has_row
-      spent_by Reached not ends takes = absurd (not_reached (ends goes_on))
-      spent_by Settled not ends takes = let stage = stage_exists last.board.total (subst (λ (w : ℕ). 1 ≤ w) (sym total) weight) in absurd (not_settled stage.0 stage.1 (ends.2 stage.0 stage.1))
+      spent_by Reached not ends takes =
+          let asked = far.asked in let near : IsWithin last.board (m.key m.root) ask.gap = ends goes_on in absurd (omega (arith, ints))
+      spent_by Settled not ends takes =
+          let stage : (stage : ℕ) × IsStageGap m ask.weight stage = least_exists m.width (payoff_range m) ask.weight game.width_low weight in
+          let near : IsWithin last.board (m.key m.root) (pos (rank_gap m stage.0 (m.rank m.root))) = ends.2 stage.0 (subst (λ (w : ℕ). IsStageGap m w stage.0) (sym total) stage.1) in
+          let beyond = far.resolution (rank_gap m stage.0 (m.rank m.root)) (record { gap = stage.0; is_gap = stage.1; sums = refl }) in absurd (omega (arith, ints))
       spent_by Spent not ends takes =
           let limit : last.turns.limit ≡ ask.turns = worked.turns.limit ∙ ap (λ (t : Budget). t.limit) turns in
           let inside = within in
@@ -97,14 +85,14 @@ module _ {S : Type 0} (m : GameModel S) (game : IsGame m) where
             taken : last.turns.spent ≡ ask.turns → HasTaken m m.root Spent start last → last.settled.was_full ≡ false → ask.turns ≤ 63 * (length last.settled.keys + m.rank m.root)
             taken all takes quiet =
                 let none_spent : start.turns.spent ≡ 0 = ap (λ (t : Budget). t.spent) turns in
-                let none = keys_none in
+                let no_keys : length start.settled.keys ≡ 0 = ap (λ (f : FinishedView). length f.keys) none in
                 let so : TakesTurns (m.rank m.root) start last = ⊎_elim (λ (a : TakesTurns (m.rank m.root) start last). a) (λ (b : (left_of last.turns ≡ 0) × TakesTurns (m.rank m.root) start last). b.1) (takes.unless_full quiet) in
                 omega arith
 
             too_few : last.turns.spent ≡ ask.turns → HasTaken m m.root Spent start last → TooFewTurns m ask
             too_few all takes n has few =
                 let wide : HasRoom m ask = record { few = λ count states reach apart. let less = has.few count states reach apart in omega arith } in
-                let keys = keys_few last.board.total last.board last.settled.keys worked.finished n has in
+                let keys = keys_few last.board.total last.board last.settled.keys worked.kept.finished n has in
                 let most = taken all takes (room wide) in
                 omega arith
 
@@ -120,8 +108,8 @@ module _ {S : Type 0} (m : GameModel S) (game : IsGame m) where
             by all takes true e = inl (full_board e).0
             by all takes false e = inr (record {
               keys = last.settled.keys;
-              apart = worked.finished.apart;
-              each = All-weaker (IsFinished m last.board.total last.board 32) (IsFinishedKey m ask last.board.seen has_row) finished last.settled.keys worked.finished.each;
+              apart = worked.kept.finished.apart;
+              each = All-weaker (IsFinished m last.board.total last.board 32) (IsFinishedKey m ask last.board.seen has_row) finished last.settled.keys worked.kept.finished.each;
               few = taken all takes e;
             })
       spent_by Full not ends takes = absurd (not refl)
@@ -140,7 +128,6 @@ module _ {S : Type 0} (m : GameModel S) (game : IsGame m) where
         each Two = omega (arith, has)
 
       pub found : HasFound m ask last.board.seen (λ row key. last.board.key_at row ≡ Some key) last.turns end
-      unfolding has_row
       found = record {
         within = let limit = worked.turns.limit ∙ ap (λ (t : Budget). t.limit) turns in record { limit = limit; spent = subst (λ (n : ℕ). last.turns.spent ≤ n) limit within };
         full = λ e. full_board (subst (Ends m m.root ask.gap last) e ends).0;

@@ -1,13 +1,13 @@
 //! The work of each worker, from its pass to the lead's.
 
-ghost use Rattle.std.specs.Prelude.{◌≡◌, ◌+◌, ◌≤◌, true, [], length, All, IfOk};
+ghost use Rattle.std.specs.Prelude.{◌≡◌, ◌+◌, ◌<◌, ◌≤◌, true, [], length, All, IfOk};
 ghost use Rattle.shared_board.specs.Values.{IsPassOf};
 ghost use Rattle.shared_board.specs.Passes.{seen_by};
 ghost use Rattle.lazy_workers.specs.Workers.{IsBoardFor, IsLead, IsJob, IsDone, AreJoined, rows_of};
 
 use certificate::Ask;
 use matrix_game::Turns;
-use oracle_search::{Gate, SearchEnd, Setup, Worker, search};
+use oracle_search::{Gate, MemoryLimits, SearchEnd, Setup, Worker, search};
 use serial_ab::Visits;
 use shared_board::{BarePass, Board, Desk, Pass};
 use sim_game::{Game, NoMemory};
@@ -57,7 +57,19 @@ pub(crate) fn split_all<G: Game>(
     Ok(jobs)
 }
 
-/// Searches the root, with turns, visits and finished states of the worker's own.
+/// What each of so many workers may remember: a quarter where there are more than four.
+fn limits_for(workers: u32) -> MemoryLimits
+    ensures few { workers ≤ 4 → result ≡ record { searches = 262144; stages = 65536 } }
+    ensures many { 4 < workers → result ≡ record { searches = 65536; stages = 16384 } }
+{
+    let parts = if workers <= 4 { 1 } else { 4 };
+    MemoryLimits {
+        searches: 262_144 / parts,
+        stages: 65_536 / parts,
+    }
+}
+
+/// Searches the root, with turns, visits, finished states and memories of the worker's own.
 pub(crate) fn work<G: Game, T: Gate>(
     alloc: Global,
     g: G,
@@ -79,7 +91,8 @@ pub(crate) fn work<G: Game, T: Gate>(
         gate,
     };
     let turns = Turns::new(ask.turns);
-    let mut state = Worker::new(alloc, turns, Visits::new(ask.visits));
+    let visits = Visits::new(ask.visits);
+    let mut state = Worker::new(alloc, turns, visits, limits_for(ask.workers));
     let end = search(&setup, g.root(), ask.gap, &mut state, &mut desk)?;
     Ok(Done {
         pass: desk.into_pass().into_bare(),

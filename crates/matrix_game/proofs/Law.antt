@@ -28,7 +28,7 @@ shift_of m = sum_by down m.cells
 abbrev pub lifted_at : Grid → ℕ → ℕ → ℕ
 lifted_at m a b = up (cell_at m a b) + shift_of m - down (cell_at m a b)
 
-place-below : (m : Grid) (a b : ℕ) → IsShaped m → a < m.rows → b < m.cols → a * m.cols + b < length m.cells
+pub place-below : (m : Grid) (a b : ℕ) → IsShaped m → a < m.rows → b < m.cols → a * m.cols + b < length m.cells
 place-below m a b s h k = omega (arith, mul-add-lt a m.cols b m.rows h k, s.all_cells)
 
 pub lifted_at-is : (m : Grid) (a b : ℕ) → IsShaped m → a < m.rows → b < m.cols → IsLifted (shift_of m) (cell_at m a b) (lifted_at m a b)

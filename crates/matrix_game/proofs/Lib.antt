@@ -7,4 +7,8 @@ pub mod Mixtures
 pub mod Law
 pub mod Loop
 pub mod Stages
+pub mod ShiftLemmas
+pub mod HeightLemmas
 mod Rows
+pub mod MemoryLemmas
+pub mod LaneLemmas

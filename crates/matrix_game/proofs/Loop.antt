@@ -76,6 +76,11 @@ mixture-light n w q e h light =
     (λ k l. let in_n : k < n = omega (arith, length-mixture_of w q) in
     omega (arith, count_term n (λ a. get_or (mixture_of w q) a 0) k in_n, weight-mixture_of n w q e h))
 
+pub mixture-sum : (n w : ℕ) (q : List ℕ) → length q ≡ n → 0 < n → sum (mixture_of w q) ≡ w
+mixture-sum n w q e h =
+    let p = mixture_of w q in
+    sum-count p ∙ ap (λ k. count_below k (λ a. get_or p a 0)) (length-mixture_of w q ∙ e) ∙ weight-mixture_of n w q e h
+
 count_of-le : (n : ℕ) (j : ℕ → ℕ) (b : ℕ) → count_of n j b ≤ n
 count_of-le zero j b = omega arith
 count_of-le (suc n) j b =

@@ -92,13 +92,13 @@ weighted_sum-small (suc n) c p z h =
     let last = mul-le-mul_left (p n) (h n (omega arith)) in
     omega (arith, ints, before, product, last)
 
-weights_sum : (n w : ℕ) (p : List ℕ) → IsWeighted n w p → count_below n (λ a. get_or p a 0) ≡ w
+pub weights_sum : (n w : ℕ) (p : List ℕ) → IsWeighted n w p → count_below n (λ a. get_or p a 0) ≡ w
 weights_sum n w p h = ap (λ k. count_below k (λ a. get_or p a 0)) (sym h.each) ∙ sym (sum-count p) ∙ h.all
 
 cell-small : (m : Grid) (a b : ℕ) → IsMatrix m → a < m.rows → b < m.cols → unsigned_abs (cell_at m a b) ≤ 4000000000
 cell-small m a b i h k = i.small_cells (a * m.cols + b) (omega (arith, mul-add-lt a m.cols b m.rows h k, i.shaped.all_cells))
 
-row_floor-small : (m : Grid) (w : ℕ) (p : List ℕ) → IsMatrix m → IsWeighted m.rows w p → unsigned_abs (row_floor m p) ≤ 4000000000 * w
+pub row_floor-small : (m : Grid) (w : ℕ) (p : List ℕ) → IsMatrix m → IsWeighted m.rows w p → unsigned_abs (row_floor m p) ≤ 4000000000 * w
 row_floor-small m w p i h =
     let b = best_reply m p in
     let b_in : b < m.cols = first_least-below m.cols (column_sum m p) (omega (arith, i.shaped.some_col)) in

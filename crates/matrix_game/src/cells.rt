@@ -1,6 +1,6 @@
 //! The cells of a matrix, what weights pay in them, and its saddles.
 
-ghost use Rattle.std.specs.Prelude.{◌≡◌, ◌↔◌, ℕ, IsTrue, IsOk, IfOk, IfSome, IfNone, ◌+◌, ◌*◌, ◌<◌, ◌≤◌, length, All, pos, ◌*ℤ◌, unsigned_abs};
+ghost use Rattle.std.specs.Prelude.{◌≡◌, ◌↔◌, ℕ, IsTrue, IsOk, IfOk, IfSome, IfNone, ◌+◌, ◌*◌, ◌<◌, ◌≤◌, length, All, pos, ◌*ℤ◌, unsigned_abs, slice_index_or, ◌≤ℤ◌};
 ghost use Rattle.matrix_game.specs.Grid.{IsSaddle, IsFirstSaddle, HasGoodShape, IsSmall, IsFirstLarge, cell_at, column_sum, row_sum, best_reply, row_floor, col_ceiling};
 
 use crate::MOST_MOVES;
@@ -36,6 +36,13 @@ pub enum ShapeError {
     /// The first cell whose size is too great.
     #[error("cell {place} is too large")]
     CellRange { place: u32 },
+}
+
+// The least and the greatest of the cells.
+#[derive(Clone, Copy)]
+pub(crate) struct CellRange {
+    pub(crate) least: i64,
+    pub(crate) greatest: i64,
 }
 
 // A reply, and what the weights that it answers pay there.
@@ -107,6 +114,22 @@ impl Matrix {
             }
         }
         None
+    }
+
+    pub(crate) fn range(&self) -> CellRange
+        ensures above { (i : ℕ) → i < length self.now.cells → result.least ≤ℤ slice_index_or self.now.cells i (pos 0) }
+        ensures below { (i : ℕ) → i < length self.now.cells → slice_index_or self.now.cells i (pos 0) ≤ℤ result.greatest }
+        ensures small_least { unsigned_abs result.least ≤ 4000000000 }
+        ensures small_greatest { unsigned_abs result.greatest ≤ 4000000000 }
+        ensures ordered { result.least ≤ℤ result.greatest }
+    {
+        let mut least = self.cells[0];
+        let mut greatest = least;
+        for cell in &self.cells {
+            least = least.min(*cell);
+            greatest = greatest.max(*cell);
+        }
+        CellRange { least, greatest }
     }
 
     pub(crate) fn cell(&self, row: usize, col: usize) -> i64

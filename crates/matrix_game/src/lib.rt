@@ -2,9 +2,12 @@
 #![tactic(auto)]
 
 ghost use Rattle.matrix_game.specs.Rounds.{ResolutionLaw, StageLaw};
+ghost use Rattle.matrix_game.specs.Shifts.{ShiftLaw};
 
 mod budget;
 mod cells;
+mod heights;
+mod memory;
 mod regrets;
 mod rounds;
 mod shares;
@@ -12,6 +15,7 @@ mod stage;
 
 pub use budget::Turns;
 pub use cells::{Matrix, ShapeError};
+pub use memory::StageMemory;
 pub use stage::{StageError, StagePlans};
 
 /// The greatest number of rows and of columns.
@@ -26,6 +30,11 @@ pub fn stage_law()
 /// The same as a difference, at a resolution that is fine enough for what two cells differ by.
 pub fn resolution_law()
     ensures { ResolutionLaw }
+{}
+
+/// One number added to every cell changes no regret, round, reply, saddle or answer.
+pub fn shift_law()
+    ensures { ShiftLaw }
 {}
 
 #[cfg(test)]

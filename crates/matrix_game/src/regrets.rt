@@ -18,8 +18,12 @@ pub(crate) trait Regret: Copy {
     fn wide(self) -> u128
         ensures { result ≡ number self };
 
-    /// The number without its lowest bits, so many as make it fit. Only an estimate rests on it, so nothing is promised.
-    fn top(self, drop: u32) -> u64;
+    /// About the number, over 2 to the power `drop`. Only an estimate rests on it, so nothing is promised.
+    fn about(self, drop: u32) -> f64;
+
+    fn narrow(self) -> u64
+        requires { number self < 2 ^ 64 }
+        ensures { result ≡ number self };
 
     fn plus(self, other: Self) -> Self
         requires { number self + number other < limit }
@@ -52,7 +56,14 @@ impl Regret for u64 {
         u128::from(self)
     }
 
-    fn top(self, _drop: u32) -> u64 {
+    fn about(self, drop: u32) -> f64 {
+        if drop == 0 {
+            return (self & 0xf_ffff_ffff_ffff) as f64;
+        }
+        (self.wrapping_shr(drop) & 0xf_ffff_ffff_ffff) as f64
+    }
+
+    fn narrow(self) -> u64 {
         self
     }
 
@@ -83,8 +94,12 @@ impl Regret for u128 {
         self
     }
 
-    fn top(self, drop: u32) -> u64 {
-        (self.wrapping_shr(drop) & u128::from(u64::MAX)) as u64
+    fn about(self, drop: u32) -> f64 {
+        ((self.wrapping_shr(drop) & 0xf_ffff_ffff_ffff) as u64) as f64
+    }
+
+    fn narrow(self) -> u64 {
+        self as u64
     }
 
     fn plus(self, other: u128) -> u128 {

@@ -1,10 +1,12 @@
 //! Regret matching plus over whole numbers, each round against a best reply.
 
-ghost use Rattle.std.specs.Prelude.{◌≡◌, IsTrue, IfOk, ◌^◌, ◌<◌, ◌≤◌, length, map, slice_index, sum, replicate, unsigned_abs};
+ghost use Rattle.std.specs.Prelude.{◌≡◌, IsTrue, IfOk, IfSome, ◌*◌, ◌^◌, ◌<◌, ◌≤◌, length, map, slice_index, sum, replicate, unsigned_abs};
 ghost use Rattle.matrix_game.specs.Grid.{HasRoom, IsSpread};
+ghost use Rattle.matrix_game.specs.Heights.{AreHeights};
 ghost use Rattle.matrix_game.specs.Rounds.{raised_regret, raised_regrets, rounds, best_mixture, reply_counts};
 
 use crate::cells::{Matrix, Reply};
+use crate::heights::Heights;
 use crate::regrets::Regret;
 use crate::shares::mix;
 use std::alloc::{AllocError, Global};
@@ -14,6 +16,17 @@ use std::alloc::{AllocError, Global};
 pub(crate) struct Solution {
     pub(crate) p: Vec<u32>,
     pub(crate) v: Vec<u32>,
+}
+
+impl Solution {
+    pub(crate) fn copied(&self) -> Result<Solution, AllocError>
+        ensures p { IfOk result (λ r. r.p.items ≡ self.now.p.items) }
+        ensures v { IfOk result (λ r. r.v.items ≡ self.now.v.items) }
+    {
+        let p = self.p.clone()?;
+        let v = self.v.clone()?;
+        Ok(Solution { p, v })
+    }
 }
 
 impl Matrix {
@@ -56,13 +69,8 @@ impl Matrix {
         ensures spread { IsSpread self.now result }
         ensures small { result ≤ 8000000000 }
     {
-        let mut low = self.cells[0];
-        let mut high = low;
-        for cell in &self.cells {
-            low = low.min(*cell);
-            high = high.max(*cell);
-        }
-        (high - low) as u64
+        let range = self.range();
+        (range.greatest - range.least) as u64
     }
 
     // Whether the regrets fit 64 bits in as many rounds as the weight: in each a regret rises by at most the weight
@@ -79,6 +87,7 @@ impl Matrix {
     fn play<R: Regret>(
         &self,
         weight: u32,
+        heights: &Option<Heights>,
         regrets: &mut [R],
         mixture: &mut [u32],
         best: &mut [u32],
@@ -87,6 +96,9 @@ impl Matrix {
         requires some { 1 ≤ weight }
         requires light { weight ≤ 1048576 }
         requires room { HasRoom self.now weight R.limit }
+        requires heights { IfSome heights.now (λ h. AreHeights self.now h.least (8 * h.blocks) h.cells.items) }
+        requires height_rows { IfSome heights.now (λ h. h.rows ≡ self.now.rows) }
+        requires small_least { IfSome heights.now (λ h. unsigned_abs h.least ≤ 4000000000) }
         requires regrets { map R.number regrets.old ≡ replicate self.now.rows 0 }
         requires mixture { length mixture.old ≡ self.now.rows }
         requires best { best.old ≡ replicate self.now.rows 0 }
@@ -100,7 +112,7 @@ impl Matrix {
         let mut low = 0;
         for round in 0..weight {
             mix(weight, regrets, all, mixture);
-            let reply = self.best_reply(mixture);
+            let reply = self.reply(weight, mixture, heights);
             counts[reply.col] += 1;
             if round == 0 || low < reply.paid {
                 low = reply.paid;
@@ -119,15 +131,16 @@ impl Matrix {
     {
         let rows = self.rows;
         let cols = self.cols;
+        let heights = self.heights(alloc)?;
         let mut mixture = vec![in alloc; 0u32; rows]?;
         let mut p = vec![in alloc; 0u32; rows]?;
         let mut v = vec![in alloc; 0u32; cols]?;
         if self.is_narrow(weight) {
             let mut regrets = vec![in alloc; 0u64; rows]?;
-            self.play(weight, &mut regrets, &mut mixture, &mut p, &mut v);
+            self.play(weight, &heights, &mut regrets, &mut mixture, &mut p, &mut v);
         } else {
             let mut regrets = vec![in alloc; 0u128; rows]?;
-            self.play(weight, &mut regrets, &mut mixture, &mut p, &mut v);
+            self.play(weight, &heights, &mut regrets, &mut mixture, &mut p, &mut v);
         }
         Ok(Solution { p, v })
     }

@@ -1,4 +1,4 @@
-use crate::{Matrix, ShapeError, StageError, Turns};
+use crate::{Matrix, ShapeError, StageError, StageMemory, Turns};
 use std::alloc::{AllocError, Global};
 use std::test::Fail;
 
@@ -13,6 +13,31 @@ fn solves_by_rounds(rt: HostRuntime) -> Result<(), Fail> {
     assert_eq!(rt; (turns.limit(), turns.spent(), turns.left()), (1, 1, 0));
     let refused = game.solve(rt.alloc(), 4, &mut Turns::new(0));
     assert_eq!(rt; refused.err(), Some(StageError::Spent));
+    Ok(())
+}
+
+#[test]
+fn remembers_up_to_one_number(rt: HostRuntime) -> Result<(), Fail> {
+    for (limit, kept) in [(0, 0), (1, 1), (8, 3)] {
+        let mut memory = StageMemory::new(limit);
+        let mut turns = Turns::new(5);
+        for (cells, total) in [
+            ([3, -1, -2, 4], 64),
+            ([5, -1, -2, 4], 64),
+            ([3, -1, -2, 4], 65),
+            ([-2, -6, -7, -1], 64),
+            ([8, 4, 3, 9], 64),
+        ] {
+            assert!(rt; 1 <= total && total <= 1048576);
+            let game = Matrix::new(2, 2, Vec::from_array(rt.alloc(), cells)?)?;
+            let plans = game.solve_with_memory(rt.alloc(), total, &mut turns, &mut memory)?;
+            let played = game.solve(rt.alloc(), total, &mut Turns::new(1))?;
+            assert_eq!(rt; plans.p.as_slice(), played.p.as_slice());
+            assert_eq!(rt; plans.v.as_slice(), played.v.as_slice());
+            assert_eq!(rt; (plans.low, plans.high), (played.low, played.high));
+        }
+        assert_eq!(rt; (memory.len(), turns.left()), (kept, 0));
+    }
     Ok(())
 }
 
@@ -47,8 +72,9 @@ fn refuses_shapes_and_cells(rt: HostRuntime) -> Result<(), Fail> {
 fn is_send<T: Send>(_value: &T) {}
 
 #[test]
-fn turns_may_be_sent() {
+fn turns_and_memories_may_be_sent() {
     is_send(&Turns::new(1));
+    is_send(&StageMemory::new(1));
 }
 
 // Cells of at most the size, either way, by a linear congruence.

@@ -1,9 +1,10 @@
 -- Searches of the states after held moves, one after another.
-use Rattle.std.proofs.Common.{◌≡◌, ◌⊎◌, inl, inr, ⊎_elim, ℕ, ◌+◌, ◌-◌, ◌*◌, ◌<◌, ◌≤◌, ℤ, pos, Bool, true, false, cond, List, [], ◌∷◌, ◌++◌, length, get_or, slice_index, Some, None, Contains, refl, sym, ap, subst, ◌∙◌, arith}
+use Rattle.std.proofs.Common.{◌≡◌, ◌⊎◌, inl, inr, ⊎_elim, ℕ, ◌+◌, ◌-◌, ◌*◌, ◌/◌, ◌%◌, ◌<◌, ◌≤◌, ℤ, pos, Bool, true, false, cond, List, [], ◌∷◌, ◌++◌, length, get_or, slice_index, Some, None, Contains, refl, sym, ap, subst, ◌∙◌, arith}
 use Rattle.std.proofs.lemmas.Int.{ints}
 use Rattle.std.proofs.lemmas.Bool.{cases_lt}
 use Rattle.std.proofs.lemmas.List.{length-append, get_or_append_left, get_or-append_right}
 use Rattle.std.proofs.lemmas.List.Elements.{All-contains, All-from_get_or, All-nil, All-push, Contains-get_or, Contains-append_cases}
+use Rattle.sim_game.specs.declared.Side.{Side}
 use Rattle.sim_game.specs.declared.Side.TheVariants.{One, Two}
 use Rattle.sim_game.specs.Model.{GameModel, IsGame, IsTurn, LeadsTo, Reachable}
 use Rattle.sim_game.specs.Resolution.{IsStageGap}
@@ -12,7 +13,11 @@ use Rattle.plan_book.specs.Books.{Grows}
 use Rattle.plan_book.specs.Entries.{IsLawfulEntry}
 use Rattle.matrix_game.specs.Budget.{Budget, left_of, after_turn}
 use Rattle.bounds_board.specs.Views.{BoardView, IsLater}
-use Rattle.bounds_board.proofs.ViewLemmas.{later_refl, later_trans}
+use Rattle.bounds_board.proofs.ViewLemmas.{later_refl}
+use Rattle.serial_ab.specs.Counts.{VisitsView, Counts, spent_on}
+use Rattle.serial_ab.specs.Searches.{IsKept}
+use Rattle.serial_ab.specs.Transpositions.{AreRemembered}
+use Rattle.serial_ab.proofs.TableLemmas.{remembered_later}
 use Rattle.restricted_game.specs.declared.held.StepEnd.{StepEnd}
 use Rattle.restricted_game.specs.declared.held.StepEnd.TheVariants.{Grown, Done}
 use Rattle.restricted_game.specs.Held.{HeldMoves, count_held, held_after}
@@ -22,11 +27,12 @@ use Rattle.oracle_search.specs.declared.ends.SearchEnd.{SearchEnd}
 use Rattle.oracle_search.specs.declared.ends.SearchEnd.TheVariants.{Reached, Settled, Spent, Full}
 use Rattle.oracle_search.specs.declared.ends.Stop.{Stop}
 use Rattle.oracle_search.specs.declared.ends.Stop.TheVariants as stops
-use Rattle.oracle_search.specs.Searches.{IsBetter, IsWorked, IsWorkedBelow, HasVisited, HasTurned, TakesTurns, TakesAtMost, HasTaken, HasTurn, HasFinished, Ends, open_states, IsBoardFull, IsStop, stop_of, IsStoppedAs, IsDone, AreDone}
+use Rattle.oracle_search.specs.Searches.{IsWorked, IsWorkedBelow, HasVisited, HasTurned, TakesTurns, TakesAtMost, HasTaken, HasTurn, HasKept, IsFirstHeld, Ends, open_states, IsBoardFull, IsStop, stop_of, IsStoppedAs, IsEarlyEnd, IsDone, AreDone}
 use Rattle.oracle_search.specs.Workers.{WorkerView, WorkView, at_work, with_full, with_key}
-use Rattle.oracle_search.proofs.BetterLemmas.{better_quiet}
-use Rattle.std.proofs.Math.Nat.{mul-le-mul_right}
-use Rattle.oracle_search.proofs.WorkLemmas.{visited_none, turned_none, worked_by, worked_none, worked_after, full_kept, full_below, within_later, extended_after}
+use Rattle.oracle_search.proofs.BetterLemmas.{better_quiet, better_serial}
+use Rattle.std.proofs.Math.Nat.{mul-zero, mul-le-mul_right, div-lt_iff_lt-mul, mod-lt, mod-eq_of_lt, mod-add-mod, add-mod_right}
+use Rattle.std.proofs.lemmas.Nat.{div-mul-add, mod-mul-add}
+use Rattle.oracle_search.proofs.WorkLemmas.{visited_none, turned_none, worked_by, worked_none, worked_after, worked_under, full_kept, full_below, within_later, within_not_beyond, extended_after}
 
 -- what was kept, that no turn was taken but at states that were finished, and what is done
 pub record IsPassed {S G N : Type 0} (m : GameModel S) (s : S) (limit : ℕ) (old new : WorkView G N) (Known : Type 0) : Type 0 where
@@ -60,6 +66,43 @@ each_more P n before last i l = ⊎_elim (λ (a : i < n). before i a) (λ (b : i
 -- what holds of each element by its place holds of those that the list contains
 pub contained : (P : ℕ → Type 0) (xs : List ℕ) → ((i : ℕ) → i < length xs → P (slice_index xs i)) → (x : ℕ) → Contains xs x → P x
 contained P xs each x has = All-contains P xs x (All-from_get_or P xs 0 each) has
+
+-- the pairs of moves row by row, as on a ring
+ring_place : (first count p : ℕ) → p < count → (turn : ℕ) × (turn < count) × ((first + turn) % count ≡ p)
+ring_place first count p below =
+    let r = first % count in
+    let inside : r < count = mod-lt first (omega arith) in
+    let turned : (turn : ℕ) → (first + turn) % count ≡ (r + turn) % count = λ turn. sym (mod-add-mod first count turn) in
+    ⊎_elim
+    (λ (a : p < r). let turn = p + count - r in
+    let is : r + turn ≡ p + count = omega arith in
+    (turn, omega arith, turned turn ∙ ap (λ (n : ℕ). n % count) is ∙ add-mod_right p count ∙ mod-eq_of_lt below))
+    (λ (b : r ≤ p). let turn = p - r in
+    let is : r + turn ≡ p = omega arith in
+    (turn, omega arith, turned turn ∙ ap (λ (n : ℕ). n % count) is ∙ mod-eq_of_lt below))
+    (cases_lt p r)
+
+-- the moves of a pair
+pub pair_inside : (n height width : ℕ) → 0 < height * width → (n % (height * width) / width < height) × (n % (height * width) % width < width)
+pair_inside n height width some =
+    let wide : 0 < width = ⊎_elim (λ (a : 0 < width). a) (λ (b : width ≤ 0). let none : width ≡ 0 = omega arith in let zero : height * width ≡ 0 = ap (λ (k : ℕ). height * k) none ∙ mul-zero height in absurd (omega arith)) (cases_lt 0 width) in
+    ((div-lt_iff_lt-mul {k = width} {x = n % (height * width)} {y = height} wide).1 (mod-lt n some), mod-lt (n % (height * width)) wide)
+
+-- what holds of each pair by its place on the ring holds of those that the lists contain
+pub ring_contained : (P : ℕ → ℕ → Type 0) (first : ℕ) (rows cols : List ℕ)
+    → ((turn : ℕ) → turn < length rows * length cols → P (slice_index rows ((first + turn) % (length rows * length cols) / length cols)) (slice_index cols ((first + turn) % (length rows * length cols) % length cols)))
+    → (one two : ℕ) → Contains rows one → Contains cols two → P one two
+ring_contained P first rows cols each one two has_one has_two =
+    contained (λ x. P x two) rows (λ i in_rows. contained (λ y. P (slice_index rows i) y) cols (λ j in_cols.
+    let width = length cols in
+    let count = length rows * width in
+    let next : (i + 1) * width ≤ count = mul-le-mul_right {m = i + 1} {n = length rows} width (omega arith) in
+    let below : i * width + j < count = omega arith in
+    let at = ring_place first count (i * width + j) below in
+    let pair = at.2 in
+    subst (λ (x : ℕ). P (slice_index rows x) (slice_index cols j)) (ap (λ (n : ℕ). n / width) pair ∙ div-mul-add i width j in_cols)
+    (subst (λ (y : ℕ). P (slice_index rows ((first + at.0) % count / width)) (slice_index cols y)) (ap (λ (n : ℕ). n % width) pair ∙ mod-mul-add i width j in_cols) (each at.0 at.1)))
+    two has_two) one has_one
 
 one_rank : (r k : ℕ) → 1 ≤ r → (r - 1) * k + k ≡ r * k
 one_rank r k some = let is : r ≡ (r - 1) + 1 = omega arith in let more : ((r - 1) + 1) * k ≡ (r - 1) * k + k = omega arith in sym (ap (λ (n : ℕ). n * k) is ∙ more)
@@ -96,7 +139,7 @@ module _ {G N : Type 0} where
   taken_on states most v board w x taken = record { unless_full = taken.unless_full }
 
   -- visits alone change no count of turns
-  pub same_taken : (states most : ℕ) (v board : BoardView G N) (w new : WorkerView) (x : WorkView G N) → new ≡ record w { visits = new.visits } → TakesAtMost states most (at_work board new) x → TakesAtMost states most (at_work v w) x
+  pub same_taken : (states most : ℕ) (v board : BoardView G N) (w new : WorkerView) (x : WorkView G N) → new ≡ record w { visits = new.visits; searches = new.searches } → TakesAtMost states most (at_work board new) x → TakesAtMost states most (at_work v w) x
   same_taken states most v board w new x is taken = record {
     unless_full = λ not.
         let spent : new.turns.spent ≡ w.turns.spent = ap (λ (y : WorkerView). y.turns.spent) is in
@@ -137,8 +180,8 @@ module _ {S G N : Type 0} (m : GameModel S) where
   done_within s v within goes_on stage is = omega (arith, ints)
 
   -- ---- one part after another
-  pub passed_none : (s : S) (limit : ℕ) (v : WorkView G N) (Known : Type 0) → AreFinished m v.board.total v.board v.settled.keys → Known → IsPassed m s limit v v Known
-  passed_none s limit v Known finished done = record { worked = worked_none m s limit v finished; turns = taken_none (limit - 1) v; done = done }
+  pub passed_none : (s : S) (limit : ℕ) (v : WorkView G N) (Known : Type 0) → HasKept m v → Known → IsPassed m s limit v v Known
+  passed_none s limit v Known kept done = record { worked = worked_none m s limit v kept; turns = taken_none (limit - 1) v; done = done }
 
   pub passed_after : (s : S) (limit other below : ℕ) (u v w : WorkView G N) (Known More : Type 0) → other ≤ limit → below ≤ limit - 1 → IsPassed m s limit u v Known → IsWorkedBelow m s other v w → TakesAtMost 0 below v w
       → (IsLater v.board w.board → Known → More) → IsPassed m s limit u w More
@@ -213,9 +256,12 @@ module _ {S G N : Type 0} (m : GameModel S) (game : IsGame m) (s : S) (r : Reach
         turns = worked.turns;
         visits = worked.visits;
         settled = extended_after m total (m.rank s) (m.rank s + 1) (m.rank s + 1) board board u.settled w.settled (with_key w key).settled (later_refl board) (omega arith) (omega arith) worked.settled more;
-        finished = record {
-          each = All-push (IsFinished m total board 32) w.settled.keys key worked.finished.each (finished_now total 32 board row held (omega arith) close);
-          apart = apart_more w.settled.keys key worked.finished.apart not;
+        kept = record {
+          finished = record {
+            each = All-push (IsFinished m total board 32) w.settled.keys key worked.kept.finished.each (finished_now total 32 board row held (omega arith) close);
+            apart = apart_more w.settled.keys key worked.kept.finished.apart not;
+          };
+          remembered = worked.kept.remembered;
         };
         cause = worked.cause;
       })
@@ -243,29 +289,42 @@ step_turned old new none one = ⊎_elim
     record { limit = limit; rises = omega arith; within = λ h. omega (arith, some h); none = λ e. ap (λ (t : Budget). t.spent) (none e) })
     one
 
--- ---- the parts of a search that finish no state
-module _ {S G N : Type 0} (m : GameModel S) (s : S) (limit : ℕ) (v : BoardView G N) (w : WorkerView) (finished : HasFinished m (at_work v w)) where
-  pub worked_quiet : (board : BoardView G N) → IsLater v board → board.entries ≡ v.entries → IsWorkedBelow m s limit (at_work v w) (at_work board w)
-  worked_quiet board later same = worked_by m s limit (at_work v w) (at_work board w) (better_quiet m v.total v board later same) (turned_none w.turns) (visited_none w.visits) refl (λ e. e) finished (λ e. inl e)
+visited_counts : (side : Side) (most : ℕ) (x y : VisitsView) → Counts side most x y → HasVisited x y
+visited_counts side most x y c = record { limit = c.limit; rises = each side c } where
+  each : (side : Side) → Counts side most x y → (of : Side) → spent_on of x ≤ spent_on of y
+  each One c One = c.rises
+  each One c Two = let same = c.other in omega arith
+  each Two c One = let same = c.other in omega arith
+  each Two c Two = c.rises
 
-  pub worked_twice : (x y : BoardView G N) → IsLater v x → x.entries ≡ v.entries → IsLater x y → y.entries ≡ x.entries → IsWorkedBelow m s limit (at_work v w) (at_work y w)
-  worked_twice x y later same next next_same = worked_quiet y (later_trans v x y later next) (next_same ∙ same)
+-- ---- the parts of a search that finish no state
+module _ {S G N : Type 0} (m : GameModel S) (s : S) (limit : ℕ) (v : BoardView G N) (w : WorkerView) (kept : HasKept m (at_work v w)) where
+  pub worked_quiet : (board : BoardView G N) → IsLater v board → board.entries ≡ v.entries → IsWorkedBelow m s limit (at_work v w) (at_work board w)
+  worked_quiet board later same = worked_by m s limit (at_work v w) (at_work board w) (better_quiet m v.total v board later same) (turned_none w.turns) (visited_none w.visits) refl (λ e. e) kept (remembered_later later kept.remembered) (λ e. inl e)
 
   -- a turn
   pub worked_turn : (board : BoardView G N) (new : WorkerView) → IsLater v board → Grows (IsLawfulEntry m v.total) v.entries board.entries → (left_of w.turns ≡ 0 → new.turns ≡ w.turns) → (new.turns ≡ w.turns) ⊎ (new.turns ≡ after_turn w.turns)
       → new ≡ record w { turns = new.turns } → IsWorkedBelow m s limit (at_work v w) (at_work board new)
   worked_turn board new later posted none one is = subst (λ (x : WorkerView). IsWorkedBelow m s limit (at_work v w) (at_work board x)) (sym is)
-      (worked_by m s limit (at_work v w) (at_work board (record w { turns = new.turns })) (record { later = later; posted = posted }) (step_turned w.turns new.turns none one) (visited_none w.visits) refl (λ e. e) finished (λ e. inl e))
+      (worked_by m s limit (at_work v w) (at_work board (record w { turns = new.turns })) (record { later = later; posted = posted }) (step_turned w.turns new.turns none one) (visited_none w.visits) refl (λ e. e) kept (remembered_later later kept.remembered) (λ e. inl e))
 
-  -- searches by pure plans
-  pub worked_pure : (board : BoardView G N) (new : WorkerView) → IsBetter m v.total v board → HasVisited w.visits new.visits → new ≡ record w { visits = new.visits } → IsWorkedBelow m s limit (at_work v w) (at_work board new)
-  worked_pure board new better visited is = subst (λ (x : WorkerView). IsWorkedBelow m s limit (at_work v w) (at_work board x)) (sym is)
-      (worked_by m s limit (at_work v w) (at_work board (record w { visits = new.visits })) better (turned_none w.turns) visited refl (λ e. e) finished (λ e. inl e))
+  -- a serial search
+  pub worked_serial : (board : BoardView G N) (new : WorkerView) (side : Side) (most : ℕ) → IsKept m side most v board w.visits new.visits → AreRemembered m board new.searches
+      → new ≡ record w { visits = new.visits; searches = new.searches } → IsWorkedBelow m s limit (at_work v w) (at_work board new)
+  worked_serial board new side most counted remembered is = subst (λ (x : WorkerView). IsWorkedBelow m s limit (at_work v w) (at_work board x)) (sym is)
+      (worked_by m s limit (at_work v w) (at_work board (record w { visits = new.visits; searches = new.searches })) (better_serial m side most v board w.visits new.visits counted) (turned_none w.turns)
+      (visited_counts side most w.visits new.visits counted.visits) refl (λ e. e) kept remembered (λ e. inl e))
 
   -- a claim that was full
   pub worked_full : (board : BoardView G N) (new : WorkerView) → IsLater v board → board.entries ≡ v.entries → new ≡ with_full w → IsBoardFull m s board → IsWorkedBelow m s limit (at_work v w) (at_work board new)
   worked_full board new later same is was = subst (λ (x : WorkerView). IsWorkedBelow m s limit (at_work v w) (at_work board x)) (sym is)
-      (worked_by m s limit (at_work v w) (at_work board (with_full w)) (better_quiet m v.total v board later same) (turned_none w.turns) (visited_none w.visits) refl (λ _. refl) finished (λ _. inr was))
+      (worked_by m s limit (at_work v w) (at_work board (with_full w)) (better_quiet m v.total v board later same) (turned_none w.turns) (visited_none w.visits) refl (λ _. refl) kept (remembered_later later kept.remembered) (λ _. inr was))
+
+-- the claim of a state after the moves of another, and its search
+pub worked_claimed : {S G N : Type 0} (m : GameModel S) (s child : S) (limit : ℕ) (v board : BoardView G N) (w : WorkerView) (x : WorkView G N) → HasKept m (at_work v w) → IsLater v board → board.entries ≡ v.entries
+    → ((t : S) → LeadsTo m child t → LeadsTo m s t) → IsWorkedBelow m child limit (at_work board w) x → IsWorkedBelow m s limit (at_work v w) x
+worked_claimed m s child limit v board w x kept later same leads worked =
+    worked_after m s limit limit limit (at_work v w) (at_work board w) x (omega arith) (omega arith) (worked_quiet m s limit v w kept board later same) (worked_under m s child limit (at_work board w) x leads worked)
 
 -- a claim that was full, and its turns
 pub full_stop : {S G N : Type 0} (m : GameModel S) (s : S) (board : BoardView G N) (w new : WorkerView) → new ≡ with_full w → IsBoardFull m s board → IsStop m s (at_work board new) stops.Full
@@ -319,8 +378,8 @@ after_cols h (Grown row col) = refl
 after_cols h (Done lower upper) = refl
 
 module _ {S G N : Type 0} (m : GameModel S) (s : S) (goes_on : 1 ≤ m.rank s) where
-  pub growing_none : (v : WorkView G N) (held : HeldMoves) → AreFinished m v.board.total v.board v.settled.keys → count_held held ≡ 2 → held.most_rows ≡ m.moves One s → held.most_cols ≡ m.moves Two s → IsGrowing m s v v held
-  growing_none v held finished two rows cols = record { worked = worked_none m s (m.rank s) v finished; turns = λ _. inl (omega arith); few = omega arith; rows = rows; cols = cols }
+  pub growing_none : (v : WorkView G N) (held : HeldMoves) → HasKept m v → IsFirstHeld m s held → IsGrowing m s v v held
+  growing_none v held kept first = let two = first.two in record { worked = worked_none m s (m.rank s) v kept; turns = λ _. inl (omega arith); few = omega arith; rows = first.rows; cols = first.cols }
 
   -- what a restricted game and the states after its moves took, wherever these stopped
   pub growing_taken : (u v w : WorkView G N) (held : HeldMoves) → IsGrowing m s u v held → IsWorked m s v w → TakesAtMost (m.rank s - 1) (m.rank s - 1) v w → TakesAtMost (m.rank s) (m.rank s) u w
@@ -405,6 +464,19 @@ module _ {S G N : Type 0} (m : GameModel S) (s : S) (goes_on : 1 ≤ m.rank s) w
   stopped_open u w target stop Settled why is taken = absurd is
   stopped_open u w target stop Spent why is taken = taken
   stopped_open u w target stop Full why is taken = taken
+
+  -- ---- how a search ends before its first turn
+  pub early_ends : (w : WorkView G N) (target : ℤ) (end : SearchEnd) → IsEarlyEnd m w.board s target (Some end) → Ends m s target w end
+  early_ends w target Reached early = λ _. early
+  early_ends w target Settled early = (goes_on, early.0, early.1)
+  early_ends w target Spent early = absurd early
+  early_ends w target Full early = absurd early
+
+  pub early_reached : (v : BoardView G N) (target : ℤ) (end : SearchEnd) → IsWithin v (m.key s) target → IsEarlyEnd m v s target (Some end) → end ≡ Reached
+  early_reached v target Reached within early = refl
+  early_reached v target Settled within early = absurd (within_not_beyond m v (m.key s) target within early.0)
+  early_reached v target Spent within early = absurd early
+  early_reached v target Full within early = absurd early
 
   -- ---- how close the bounds are where no reply is fresh
   pub close_after : (game : IsGame m) (r : Reachable m s) (v w : BoardView G N) (held : HeldMoves) (lower upper : ℤ) → w.total ≡ v.total

@@ -1,18 +1,25 @@
 -- What one part of a search after another keeps.
-use Rattle.std.proofs.Common.{◌≡◌, ◌⊎◌, inl, inr, ⊎_elim, ℕ, ◌≤◌, ℤ, pos, ◌≤ℤ◌, true, List, [], ◌++◌, refl, sym, ap, subst, ◌∙◌, append_assoc, append-nil, arith}
+use Rattle.std.proofs.Common.{◌≡◌, ◌⊎◌, inl, inr, ⊎_elim, ℕ, ◌+◌, ◌*◌, ◌/◌, ◌≤◌, ℤ, pos, ◌-ℤ◌, ◌≤ℤ◌, cond, true, List, [], ◌++◌, refl, sym, ap, subst, ◌∙◌, append_assoc, append-nil, arith}
+use Rattle.std.specs.Int.{div_ceil}
+use Rattle.std.proofs.Math.Nat.{mul-le-mul_left, mul-div_cancel_left}
+use Rattle.std.proofs.lemmas.Grind.{div_ceil_times}
 use Rattle.std.proofs.lemmas.Int.{ints}
 use Rattle.std.proofs.lemmas.List.Elements.{All-append, All-nil, All-weaker}
 use Rattle.sim_game.specs.declared.Side.TheVariants.{One, Two}
-use Rattle.sim_game.specs.Model.{GameModel, LeadsTo}
+use Rattle.sim_game.specs.Model.{GameModel, IsGame, LeadsTo, Reachable}
+use Rattle.sim_game.specs.Resolution.{IsStageGap, IsResolution}
+use Rattle.sim_game.proofs.ReachLemmas.{reachable_induction}
 use Rattle.sim_game.proofs.SideLemmas.{looser_trans}
 use Rattle.plan_book.specs.Serial.{serial_bound}
 use Rattle.matrix_game.specs.Budget.{Budget, left_of}
 use Rattle.bounds_board.specs.Views.{BoardView, IsLater}
 use Rattle.bounds_board.proofs.FullLemmas.{full_later, full_weaker}
 use Rattle.serial_ab.specs.Counts.{VisitsView}
-use Rattle.oracle_search.specs.Finished.{FinishedView, IsWithin, IsBeyond, IsFinished, AreFinished, IsExtended, rank_gap}
-use Rattle.oracle_search.specs.Searches.{IsBetter, HasVisited, HasTurned, IsBoardFull, IsWorkedBelow, IsPureTight, IsPureWithin}
-use Rattle.oracle_search.specs.Workers.{WorkView}
+use Rattle.serial_ab.specs.Transpositions.{AreRemembered}
+use Rattle.serial_ab.proofs.TableLemmas.{remembered_none}
+use Rattle.oracle_search.specs.Finished.{FinishedView, IsWithin, IsBeyond, IsFinished, AreFinished, IsExtended, IsClose, rank_gap, left_gap}
+use Rattle.oracle_search.specs.Searches.{IsBetter, HasVisited, HasTurned, HasKept, IsBoardFull, IsWorkedBelow, IsPureTight, IsPureWithin}
+use Rattle.oracle_search.specs.Workers.{WorkerView, WorkView, at_work}
 use Rattle.oracle_search.proofs.BetterLemmas.{better_refl, better_trans}
 
 pub visited_none : (v : VisitsView) → HasVisited v v
@@ -93,22 +100,32 @@ module _ {S G N : Type 0} (m : GameModel S) where
     full = λ e. q.full (p.full e);
   }
 
+  -- a worker that has done nothing
+  pub kept_none : (v : BoardView G N) (w : WorkerView) → w.settled.keys ≡ [] → w.searches ≡ [] → HasKept m (at_work v w)
+  kept_none v w no_keys no_searches = record {
+    finished = subst (AreFinished m v.total v) (sym no_keys) (record { each = All-nil (IsFinished m v.total v 32); apart = λ i j l h. absurd (omega arith) });
+    remembered = subst (AreRemembered m v) (sym no_searches) remembered_none;
+  }
+
   -- a part that finishes no state
   pub worked_by : (s : S) (limit : ℕ) (old new : WorkView G N) → IsBetter m old.board.total old.board new.board → HasTurned old.turns new.turns → HasVisited old.visits new.visits
       → new.settled.keys ≡ old.settled.keys → (old.settled.was_full ≡ true → new.settled.was_full ≡ true)
-      → AreFinished m old.board.total old.board old.settled.keys → (new.settled.was_full ≡ true → old.settled.was_full ≡ true ⊎ IsBoardFull m s new.board) → IsWorkedBelow m s limit old new
-  worked_by s limit old new better turned visited same full finished cause = record {
+      → HasKept m old → AreRemembered m new.board new.searches → (new.settled.was_full ≡ true → old.settled.was_full ≡ true ⊎ IsBoardFull m s new.board) → IsWorkedBelow m s limit old new
+  worked_by s limit old new better turned visited same full kept remembered cause = record {
     board = better;
     turns = turned;
     visits = visited;
     settled = extended_none new.board.total limit new.board old.settled new.settled same full;
-    finished = subst (λ (total : ℕ). AreFinished m total new.board new.settled.keys) (sym better.later.total)
-        (subst (λ (keys : List ℕ). AreFinished m old.board.total new.board keys) (sym same) (are_finished_later old.board.total old.board new.board old.settled.keys better.later finished));
+    kept = record {
+      finished = subst (λ (total : ℕ). AreFinished m total new.board new.settled.keys) (sym better.later.total)
+          (subst (λ (keys : List ℕ). AreFinished m old.board.total new.board keys) (sym same) (are_finished_later old.board.total old.board new.board old.settled.keys better.later kept.finished));
+      remembered = remembered;
+    };
     cause = cause;
   }
 
-  pub worked_none : (s : S) (limit : ℕ) (v : WorkView G N) → AreFinished m v.board.total v.board v.settled.keys → IsWorkedBelow m s limit v v
-  worked_none s limit v finished = worked_by s limit v v (better_refl m v.board.total v.board) (turned_none v.turns) (visited_none v.visits) refl (λ e. e) finished (λ e. inl e)
+  pub worked_none : (s : S) (limit : ℕ) (v : WorkView G N) → HasKept m v → IsWorkedBelow m s limit v v
+  worked_none s limit v kept = worked_by s limit v v (better_refl m v.board.total v.board) (turned_none v.turns) (visited_none v.visits) refl (λ e. e) kept kept.remembered (λ e. inl e)
 
   pub worked_after : (s : S) (a b c : ℕ) (u v w : WorkView G N) → a ≤ c → b ≤ c → IsWorkedBelow m s a u v → IsWorkedBelow m s b v w → IsWorkedBelow m s c u w
   worked_after s a b c u v w wide wider p q = record {
@@ -117,7 +134,7 @@ module _ {S G N : Type 0} (m : GameModel S) where
     visits = visited_after u.visits v.visits w.visits p.visits q.visits;
     settled = extended_after w.board.total a b c v.board w.board u.settled v.settled w.settled q.board.later wide wider
         (subst (λ (total : ℕ). IsExtended m total v.board a u.settled v.settled) (sym q.board.later.total) p.settled) q.settled;
-    finished = q.finished;
+    kept = q.kept;
     cause = λ e. ⊎_elim
         (λ (before : v.settled.was_full ≡ true). ⊎_elim (λ (first : u.settled.was_full ≡ true). inl first) (λ (was : IsBoardFull m s v.board). inr (full_kept s v.board w.board q.board.later was)) (p.cause before))
         (λ (was : IsBoardFull m s w.board). inr was) (q.cause e);
@@ -130,6 +147,26 @@ module _ {S G N : Type 0} (m : GameModel S) where
     turns = p.turns;
     visits = p.visits;
     settled = p.settled;
-    finished = p.finished;
+    kept = p.kept;
     cause = λ e. ⊎_elim (λ (before : v.settled.was_full ≡ true). inl before) (λ (was : IsBoardFull m child w.board). inr (full_below s child w.board leads was)) (p.cause e);
   }
+
+-- ---- a state that is left to another worker
+-- no reachable state has a greater rank than the root
+pub rank_below_root : {S : Type 0} (m : GameModel S) → IsGame m → (s : S) → Reachable m s → m.rank s ≤ m.rank m.root
+rank_below_root m game = reachable_induction m (λ s. m.rank s ≤ m.rank m.root) (omega arith) (λ s t r here turn. let falls = game.rank_falls s t r turn in omega arith)
+
+-- a rank's part of the resolution
+pub rank_part : {S : Type 0} (m : GameModel S) (total n : ℕ) → 1 ≤ m.rank m.root → (r : IsResolution m total n) → n / m.rank m.root ≡ r.gap + 1 + cond m.chance_free 0 1
+rank_part m total n some r = ap (λ (k : ℕ). k / m.rank m.root) r.sums ∙ mul-div_cancel_left (r.gap + 1 + cond m.chance_free 0 1) some
+
+-- the gap at which a state is left is within what its rank allows
+pub close_left : {S G N : Type 0} (m : GameModel S) (total stage : ℕ) (v : BoardView G N) (s : S) (gap : ℤ) → v.total ≡ total → IsStageGap m total stage
+    → gap ≡ v.seen Two (m.key s) -ℤ v.seen One (m.key s) → gap ≤ℤ pos (left_gap m stage (m.rank s)) → IsClose m v.total v s
+close_left m total stage v s gap same is is_gap near other other_is =
+    let there : IsStageGap m total other = subst (λ (n : ℕ). IsStageGap m n other) same other_is in
+    let one_gap : stage ≡ other = let a = is.least other there.enough in let b = there.least stage is.enough in omega arith in
+    let each = stage + 1 + cond m.chance_free 0 1 in
+    let part : div_ceil each 32 ≤ each = let rounded = (div_ceil_times each 32 (omega arith)).1 in omega arith in
+    let less : m.rank s * div_ceil each 32 ≤ m.rank s * each = mul-le-mul_left (m.rank s) part in
+    subst (λ (k : ℕ). IsWithin v (m.key s) (pos (rank_gap m k (m.rank s)))) one_gap (omega (arith, ints))

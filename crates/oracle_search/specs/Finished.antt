@@ -1,5 +1,6 @@
 -- The states that a worker has finished, and when a state counts as finished.
 use Rattle.std.specs.Prelude.{◌≡◌, ◌≢◌, ℕ, ◌+◌, ◌*◌, ◌<◌, ◌≤◌, ℤ, pos, ◌+ℤ◌, ◌≤ℤ◌, ◌<ℤ◌, Bool, true, cond, Some, List, ◌++◌, length, slice_index, All}
+use Rattle.std.specs.Int.{div_ceil}
 use Rattle.sim_game.specs.declared.Side.TheVariants.{One, Two}
 use Rattle.sim_game.specs.Model.{GameModel, Reachable}
 use Rattle.sim_game.specs.Resolution.{IsStageGap}
@@ -21,6 +22,10 @@ IsBeyond v key gap = (v.seen One key +ℤ gap) <ℤ v.seen Two key
 -- the gap of a state of this rank that the stages of its turns reach: a stage's gap and the roundings, for each rank
 abbrev pub rank_gap : {S : Type 0} → GameModel S → ℕ → ℕ → ℕ
 rank_gap m stage rank = rank * (stage + 1 + cond m.chance_free 0 1)
+
+-- the gap at which a state of this rank is left to another worker: a 32nd of the same for each rank, rounded up
+abbrev pub left_gap : {S : Type 0} → GameModel S → ℕ → ℕ → ℕ
+left_gap m stage rank = rank * div_ceil (stage + 1 + cond m.chance_free 0 1) 32
 
 -- the bounds seen at the state are as close as its rank allows
 abbrev pub IsClose : {S G N : Type 0} → GameModel S → ℕ → BoardView G N → S → Type 0

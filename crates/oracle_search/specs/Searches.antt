@@ -10,6 +10,10 @@ use Rattle.plan_book.specs.Serial.{serial_bound, tree_size}
 use Rattle.matrix_game.specs.Budget.{Budget, left_of, after_turn}
 use Rattle.bounds_board.specs.Views.{BoardView, IsLater, WasFull}
 use Rattle.serial_ab.specs.Counts.{VisitsView, spent_on, left_on}
+use Rattle.serial_ab.specs.Transpositions.{AreRemembered}
+use Rattle.restricted_game.specs.Held.{HeldMoves, count_held}
+use Rattle.serial_ab.specs.declared.windowed.SerialEnd.{SerialEnd}
+use Rattle.serial_ab.specs.declared.windowed.SerialEnd.TheVariants.{Exact, AtLeast, AtMost, Cut}
 use Rattle.oracle_search.specs.declared.ends.SearchEnd.{SearchEnd}
 use Rattle.oracle_search.specs.declared.ends.SearchEnd.TheVariants.{Reached, Settled, Spent, Full}
 use Rattle.oracle_search.specs.declared.ends.Stop.{Stop}
@@ -42,21 +46,22 @@ HasTurn old new = (1 ≤ left_of old) × (new ≡ after_turn old)
 abbrev pub IsBoardFull : {S G N : Type 0} → GameModel S → S → BoardView G N → Type 0
 IsBoardFull m s v = WasFull m v (LeadsTo m s)
 
+-- each settled key is that of a finished state, and none stands twice; each search that is remembered is one over this board
+pub record HasKept {S G N : Type 0} (m : GameModel S) (v : WorkView G N) : Type 0 where
+  pub finished : AreFinished m v.board.total v.board v.settled.keys
+  pub remembered : AreRemembered m v.board v.searches
+
 -- what each part of the search of a state keeps; the states that it finishes have ranks below the limit
 pub record IsWorkedBelow {S G N : Type 0} (m : GameModel S) (s : S) (limit : ℕ) (old new : WorkView G N) : Type 0 where
   pub board : IsBetter m old.board.total old.board new.board
   pub turns : HasTurned old.turns new.turns
   pub visits : HasVisited old.visits new.visits
   pub settled : IsExtended m new.board.total new.board limit old.settled new.settled
-  pub finished : AreFinished m new.board.total new.board new.settled.keys
+  pub kept : HasKept m new
   pub cause : new.settled.was_full ≡ true → old.settled.was_full ≡ true ⊎ IsBoardFull m s new.board
 
 abbrev pub IsWorked : {S G N : Type 0} → GameModel S → S → WorkView G N → WorkView G N → Type 0
 IsWorked m s old new = IsWorkedBelow m s (m.rank s) old new
-
--- each settled key is that of a finished state, and none stands twice
-abbrev pub HasFinished : {S G N : Type 0} → GameModel S → WorkView G N → Type 0
-HasFinished m v = AreFinished m v.board.total v.board v.settled.keys
 
 -- how a search of a state with a target may end; an end of the game has no gap
 abbrev pub Ends : {S G N : Type 0} → GameModel S → S → ℤ → WorkView G N → SearchEnd → Type 0
@@ -133,3 +138,24 @@ IsStoppedAs v key target stop Reached = IsWithin v key target
 IsStoppedAs v key target stop Settled = ⊥
 IsStoppedAs v key target stop Spent = IsBeyond v key target × (stop ≡ stops.Spent)
 IsStoppedAs v key target stop Full = IsBeyond v key target × (stop ≡ stops.Full)
+
+-- how the search of a state may end before its first turn: the bounds seen are within the target, or as close as its rank allows
+abbrev pub IsEarlyEnd : {S G N : Type 0} → GameModel S → BoardView G N → S → ℤ → Option SearchEnd → Type 0
+IsEarlyEnd m v s target None = IsBeyond v (m.key s) target
+IsEarlyEnd m v s target (Some Reached) = IsWithin v (m.key s) target
+IsEarlyEnd m v s target (Some Settled) = IsBeyond v (m.key s) target × IsClose m v.total v s
+IsEarlyEnd m v s target (Some Spent) = ⊥
+IsEarlyEnd m v s target (Some Full) = ⊥
+
+-- the number that a serial search found, unless it was cut
+abbrev pub number_in : SerialEnd → Option ℤ
+number_in (Exact value) = Some value
+number_in (AtLeast value) = Some value
+number_in (AtMost value) = Some value
+number_in Cut = None
+
+-- a restricted game at the state that holds one move of each side
+pub record IsFirstHeld {S : Type 0} (m : GameModel S) (s : S) (held : HeldMoves) : Type 0 where
+  pub two : count_held held ≡ 2
+  pub rows : held.most_rows ≡ m.moves One s
+  pub cols : held.most_cols ≡ m.moves Two s

@@ -1,7 +1,9 @@
 -- What a worker has left, and what it has done.
-use Rattle.std.specs.Prelude.{ℕ, true, false, [], ◌∷◌, ◌++◌}
+use Rattle.std.specs.Prelude.{ℕ, List, true, false, [], ◌∷◌, ◌++◌}
 use Rattle.matrix_game.specs.Budget.{Budget}
 use Rattle.serial_ab.specs.Counts.{VisitsView}
+use Rattle.serial_ab.specs.declared.transpositions.Query.{Query}
+use Rattle.serial_ab.specs.declared.transpositions.Memo.{Memo}
 use Rattle.bounds_board.specs.Views.{BoardView}
 use Rattle.oracle_search.specs.Finished.{FinishedView}
 
@@ -9,6 +11,8 @@ pub record WorkerView : Type 0 where
   pub turns : Budget
   pub visits : VisitsView
   pub settled : FinishedView
+  -- the serial searches that it remembers
+  pub searches : List (Query × Memo)
 
 -- with no full board in mind, as each search begins
 abbrev pub without_full : WorkerView → WorkerView
@@ -28,9 +32,11 @@ pub record WorkView (G N : Type 0) : Type 0 where
   pub turns : Budget
   pub visits : VisitsView
   pub settled : FinishedView
+  -- the serial searches that it remembers
+  pub searches : List (Query × Memo)
 
 abbrev pub at_work : {G N : Type 0} → BoardView G N → WorkerView → WorkView G N
-at_work board worker = record { board = board; turns = worker.turns; visits = worker.visits; settled = worker.settled }
+at_work board worker = record { board = board; turns = worker.turns; visits = worker.visits; settled = worker.settled; searches = worker.searches }
 
 abbrev pub at_start : {G N : Type 0} → BoardView G N → WorkerView → WorkView G N
 at_start board worker = at_work board (without_full worker)

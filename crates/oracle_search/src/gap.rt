@@ -1,15 +1,16 @@
 //! How far the bounds at a state are apart.
 
-ghost use Rattle.std.specs.Prelude.{◌≡◌, ◌-ℤ◌, ◌≤ℤ◌, pos, Some, MatchBool};
+ghost use Rattle.std.specs.Prelude.{◌≡◌, ◌≤◌, ◌-ℤ◌, ◌≤ℤ◌, ℕ, pos, Some, MatchBool};
 ghost use Rattle.sim_game.specs.declared.Side.TheVariants.{One, Two};
 ghost use Rattle.sim_game.specs.Model.{Reachable};
+ghost use Rattle.sim_game.specs.Resolution.{IsStageGap};
 ghost use Rattle.bounds_board.specs.Views.{IsLater, IsEnclosure};
-ghost use Rattle.oracle_search.specs.Finished.{IsWithin, IsBeyond};
-ghost use Rattle.oracle_search.specs.Searches.{IsStoppedAs};
+ghost use Rattle.oracle_search.specs.Finished.{IsWithin, IsBeyond, left_gap};
+ghost use Rattle.oracle_search.specs.Searches.{IsStoppedAs, IsEarlyEnd};
 
 use crate::ends::{SearchEnd, Stop};
 use bounds_board::{Bounds, Row};
-use sim_game::Game;
+use sim_game::{Game, resolution};
 
 /// How far the bounds at the state are apart, read anew.
 pub(crate) fn gap_at<G: Game, B: Bounds<G>>(g: G, s: G::State, row: Row, board: &mut B) -> i64
@@ -44,6 +45,52 @@ pub(crate) fn is_within<G: Game, B: Bounds<G>>(
         (IsBeyond (B.view board.new) ((G.model g).key s) target) }
 {
     gap_at(g, s, row, board) <= target
+}
+
+/// The gap, in millionths of a payoff, at which a state is left to another worker that has searched it: a 32nd of what
+/// the stages of each rank reach, rounded up.
+fn left_gap<G: Game>(g: G, s: G::State, total: u32) -> i64
+    requires reachable { Reachable (G.model g) s }
+    requires goes_on { 1 ≤ (G.model g).rank s }
+    requires low { 8192 ≤ total }
+    requires high { total ≤ 1048576 }
+    ensures { (stage : ℕ) × IsStageGap (G.model g) total stage
+        × (result ≡ pos (left_gap (G.model g) stage ((G.model g).rank s))) }
+{
+    let each = resolution(g, total) as u64 / g.rank(g.root()) as u64;
+    (g.rank(s) as u64 * each.div_ceil(32)) as i64
+}
+
+/// How the search of a state ends before its first turn, if it does: its gap is at most the target, or it is left to
+/// another worker, where that is allowed.
+pub(crate) fn ended_early<G: Game, B: Bounds<G>>(
+    g: G,
+    s: G::State,
+    row: Row,
+    target: i64,
+    may_leave: bool,
+    board: &mut B,
+) -> Option<SearchEnd>
+    requires game { (B.view board.old).game ≡ g }
+    requires reachable { Reachable (G.model g) s }
+    requires goes_on { 1 ≤ (G.model g).rank s }
+    requires row { (B.view board.old).key_at row ≡ Some ((G.model g).key s) }
+    ensures later { IsLater (B.view board.old) (B.view board.new) }
+    ensures entries { (B.view board.new).entries ≡ (B.view board.old).entries }
+    ensures end { IsEarlyEnd (G.model g) (B.view board.new) s target result }
+{
+    let gap = gap_at(g, s, row, board);
+    if gap <= target {
+        return Some(SearchEnd::Reached);
+    }
+    if !may_leave {
+        return None;
+    }
+    if gap <= left_gap(g, s, board.total()) {
+        Some(SearchEnd::Settled)
+    } else {
+        None
+    }
 }
 
 /// How the search of a state ends that stopped: it is reached all the same where its gap, read once more, is at most the

@@ -1,14 +1,15 @@
 //! Restricted games that grow by best replies.
 
-ghost use Rattle.std.specs.Prelude.{◌≡◌, ◌≤◌, ◌≤ℤ◌, pos, Some, Err, IfOk};
+ghost use Rattle.std.specs.Prelude.{◌≡◌, ◌≤ℤ◌, ◌≤◌, pos, Some, Err, IfOk};
 ghost use Rattle.sim_game.specs.declared.Side.{Side};
 ghost use Rattle.sim_game.specs.Model.{Reachable};
 ghost use Rattle.matrix_game.specs.Budget.{left_of};
 ghost use Rattle.restricted_game.specs.declared.held.StepFault.{StepFault};
+ghost use Rattle.restricted_game.specs.Children.{AreChildRows, HasNoRows};
 ghost use Rattle.restricted_game.specs.Held.{HasGrown, held_after};
 ghost use Rattle.restricted_game.specs.Gaps.{HasStepGap};
 ghost use Rattle.oracle_search.specs.Workers.{at_work};
-ghost use Rattle.oracle_search.specs.Searches.{HasFinished, IsWorked, HasEnded, HasTurn, IsBoardFull};
+ghost use Rattle.oracle_search.specs.Searches.{HasKept, IsWorked, HasEnded, HasTurn, IsBoardFull, IsFirstHeld};
 
 use crate::children::search_children;
 use crate::ends::{SearchEnd, Stop};
@@ -16,8 +17,33 @@ use crate::gap::{is_within, stopped};
 use crate::gate::Gate;
 use crate::worker::{Setup, Worker};
 use bounds_board::{Bounds, Row};
-use restricted_game::{Restricted, StepEnd, StepFault};
+use restricted_game::{ChildRows, Restricted, StepEnd, StepFault};
 use sim_game::{Game, NoMemory, Side};
+
+/// The moves that a restricted game at a state holds, and the rows of the states after pairs of moves.
+#[derive(Drop)]
+struct Growth {
+    held: Restricted,
+    children: ChildRows,
+}
+
+impl Growth {
+    /// One move of each side, which depends on the worker, and no row.
+    fn new<G: Game, T: Gate>(setup: &Setup<'_, G, T>, s: G::State) -> Result<Growth, NoMemory>
+        requires reachable { Reachable (G.model setup.now.game) s }
+        requires goes_on { 1 ≤ (G.model setup.now.game).rank s }
+        ensures held { IfOk result (λ growth. IsFirstHeld (G.model setup.now.game) s growth.held) }
+        ensures children { IfOk result (λ growth. HasNoRows (G.model setup.now.game) s growth.children) }
+    {
+        let rows = setup.game.moves(Side::One, s);
+        let cols = setup.game.moves(Side::Two, s);
+        let first = (setup.worker % rows, setup.worker % cols);
+        Ok(Growth {
+            held: Restricted::new(setup.alloc, rows, cols, first)?,
+            children: ChildRows::new(setup.alloc, setup.game, s)?,
+        })
+    }
+}
 
 /// Plays a restricted game at a state, which begins with one move of each side that depends on the worker, until the gap
 /// is at most the target, no reply is fresh, or the search stops.
@@ -35,27 +61,24 @@ pub(crate) fn grow<G: Game, B: Bounds<G>, T: Gate>(
     requires goes_on { 1 ≤ (G.model setup.now.game).rank s }
     requires row { (B.view board.old).key_at row ≡ Some ((G.model setup.now.game).key s) }
     requires target { pos 0 ≤ℤ target }
-    requires finished { HasFinished (G.model setup.now.game) (at_work (B.view board.old) worker.old) }
+    requires kept { HasKept (G.model setup.now.game) (at_work (B.view board.old) worker.old) }
     ensures worked { IsWorked (G.model setup.now.game) s
         (at_work (B.view board.old) worker.old) (at_work (B.view board.new) worker.new) }
     ensures ended { IfOk result (HasEnded (G.model setup.now.game) s target
         (at_work (B.view board.old) worker.old) (at_work (B.view board.new) worker.new)) }
 {
     let g = setup.game;
-    let rows = g.moves(Side::One, s);
-    let cols = g.moves(Side::Two, s);
-    let first = (setup.worker % rows, setup.worker % cols);
-    let mut held = match Restricted::new(setup.alloc, rows, cols, first) {
-        Ok(held) => held,
+    let mut growth = match Growth::new(setup, s) {
+        Ok(growth) => growth,
         Err(_) => return Err(NoMemory),
     };
     'growth: loop {
-        match search_children(setup, s, held.rows(), held.cols(), worker, board) {
+        match search_children(setup, s, &growth.held, &mut growth.children, worker, board) {
             Ok(None) => {}
             Ok(Some(stop)) => return Ok(stopped(g, s, row, target, stop, board)),
             Err(_) => return Err(NoMemory),
         }
-        match take_turn(setup, s, row, &mut held, worker, board) {
+        match take_turn(setup, s, row, &mut growth, worker, board) {
             Ok(end) => {
                 if is_within(g, s, row, target, board) {
                     return Ok(SearchEnd::Reached);
@@ -80,7 +103,7 @@ fn take_turn<G: Game, B: Bounds<G>, T: Gate>(
     setup: &Setup<'_, G, T>,
     s: G::State,
     row: Row,
-    held: &mut Restricted,
+    growth: &mut Growth,
     worker: &mut Worker,
     board: &mut B,
 ) -> Result<StepEnd, StepFault>
@@ -88,20 +111,31 @@ fn take_turn<G: Game, B: Bounds<G>, T: Gate>(
     requires reachable { Reachable (G.model setup.now.game) s }
     requires goes_on { 1 ≤ (G.model setup.now.game).rank s }
     requires row { (B.view board.old).key_at row ≡ Some ((G.model setup.now.game).key s) }
-    requires rows { held.old.most_rows ≡ (G.model setup.now.game).moves Side.One s }
-    requires cols { held.old.most_cols ≡ (G.model setup.now.game).moves Side.Two s }
-    requires finished { HasFinished (G.model setup.now.game) (at_work (B.view board.old) worker.old) }
+    requires rows { growth.old.held.most_rows ≡ (G.model setup.now.game).moves Side.One s }
+    requires cols { growth.old.held.most_cols ≡ (G.model setup.now.game).moves Side.Two s }
+    requires children { AreChildRows (G.model setup.now.game) (B.view board.old) s growth.old.children }
+    requires kept { HasKept (G.model setup.now.game) (at_work (B.view board.old) worker.old) }
+    ensures children { AreChildRows (G.model setup.now.game) (B.view board.new) s growth.new.children }
     ensures worked { IsWorked (G.model setup.now.game) s
         (at_work (B.view board.old) worker.old) (at_work (B.view board.new) worker.new) }
     ensures same { worker.new ≡ record worker.old { turns = worker.new.turns } }
-    ensures gap { IfOk result (HasStepGap (G.model setup.now.game) (B.view board.old) (B.view board.new) s held.old) }
-    ensures held { IfOk result (λ end. held.new ≡ held_after held.old end) }
-    ensures grown { IfOk result (HasGrown held.old held.new) }
+    ensures gap { IfOk result (HasStepGap (G.model setup.now.game)
+        (B.view board.old) (B.view board.new) s growth.old.held) }
+    ensures held { IfOk result (λ end. growth.new.held ≡ held_after growth.old.held end) }
+    ensures grown { IfOk result (HasGrown growth.old.held growth.new.held) }
     ensures turn { IfOk result (λ _. HasTurn worker.old.turns worker.new.turns) }
     ensures spent { result ≡ Err StepFault.Spent
         → (left_of worker.old.turns ≡ 0) × (worker.new.turns ≡ worker.old.turns) }
     ensures full { result ≡ Err StepFault.Full → IsBoardFull (G.model setup.now.game) s (B.view board.new) }
 {
     setup.gate.at_turn(setup.worker, worker.turns().spent());
-    held.step(setup.game, s, row, board, &mut worker.turns)
+    growth.held.step(
+        setup.game,
+        s,
+        row,
+        &mut growth.children,
+        board,
+        &mut worker.turns,
+        &mut worker.stages,
+    )
 }

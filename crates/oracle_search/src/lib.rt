@@ -15,4 +15,4 @@ pub use ends::SearchEnd;
 pub use finished::Settled;
 pub use gate::{Gate, OpenGate};
 pub use state::search;
-pub use worker::{Setup, Worker};
+pub use worker::{MemoryLimits, Setup, Worker};

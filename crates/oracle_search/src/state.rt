@@ -1,24 +1,26 @@
 //! The search of a state.
 
-ghost use Rattle.std.specs.Prelude.{◌≡◌, ◌≤◌, ◌≤ℤ◌, false, pos, Some, IfOk};
+ghost use Rattle.std.specs.Prelude.{◌≡◌, ◌≤◌, ◌≤ℤ◌, false, pos, IfOk};
 ghost use Rattle.sim_game.specs.Model.{Reachable};
+ghost use Rattle.restricted_game.specs.Children.{IsRowOf};
 ghost use Rattle.oracle_search.specs.Workers.{at_start, at_work};
-ghost use Rattle.oracle_search.specs.Searches.{HasFinished, IsWorked, Ends, HasTaken, HasEnded, HasVisits, IsPureTight, IsPureWithin};
+ghost use Rattle.oracle_search.specs.Searches.{HasKept, IsWorked, Ends, HasTaken, HasEnded, HasVisits, IsPureTight, IsPureWithin};
 
 use crate::ends::{SearchEnd, Stop};
-use crate::gap::{gap_at, is_within, stopped};
+use crate::gap::{ended_early, gap_at, stopped};
 use crate::gate::Gate;
 use crate::growth::grow;
 use crate::serial_bounds::bound_state;
 use crate::worker::{Setup, Worker};
-use bounds_board::{Bounds, Row};
+use bounds_board::{BoardFault, Bounds, Row};
 use sim_game::{Game, NoMemory};
 
 /// Bounds a state until its gap is at most the target, in millionths of a payoff. `Full`, and what the worker keeps in
 /// mind of full boards, tell of the claims of this call alone.
 ///
 /// The double-oracle search of Bošanský et al. (2016): bounds by pure plans first, then a game on a few moves of each
-/// side that grows by best replies, with its children searched before each turn.
+/// side that grows by best replies, with its children searched before each turn. A state below this one at which the
+/// board shows more than its pure plans and a small gap is left to the worker that has brought it there.
 pub fn search<G: Game, B: Bounds<G>, T: Gate>(
     setup: &Setup<'_, G, T>,
     s: G::State,
@@ -29,7 +31,7 @@ pub fn search<G: Game, B: Bounds<G>, T: Gate>(
     requires game { (B.view board.old).game ≡ setup.now.game }
     requires reachable { Reachable (G.model setup.now.game) s }
     requires target { pos 0 ≤ℤ target }
-    requires finished { HasFinished (G.model setup.now.game) (at_work (B.view board.old) worker.old) }
+    requires kept { HasKept (G.model setup.now.game) (at_work (B.view board.old) worker.old) }
     ensures worked { IsWorked (G.model setup.now.game) s
         (at_start (B.view board.old) worker.old) (at_work (B.view board.new) worker.new) }
     ensures ends { IfOk result (Ends (G.model setup.now.game) s target (at_work (B.view board.new) worker.new)) }
@@ -44,13 +46,12 @@ pub fn search<G: Game, B: Bounds<G>, T: Gate>(
         → IsPureWithin (G.model setup.now.game) s target
         → IfOk result (λ end. (end ≡ SearchEnd.Reached) × (worker.new.turns ≡ worker.old.turns)) }
 {
-    worker.begin();
+    worker.begin(setup.game.rank(s));
     search_state(setup, s, target, worker, board)
 }
 
 /// Bounds a state; a full board that the worker has in mind stays there.
-#[cycle(search)]
-pub(crate) fn search_state<G: Game, B: Bounds<G>, T: Gate>(
+fn search_state<G: Game, B: Bounds<G>, T: Gate>(
     setup: &Setup<'_, G, T>,
     s: G::State,
     target: i64,
@@ -60,7 +61,7 @@ pub(crate) fn search_state<G: Game, B: Bounds<G>, T: Gate>(
     requires game { (B.view board.old).game ≡ setup.now.game }
     requires reachable { Reachable (G.model setup.now.game) s }
     requires target { pos 0 ≤ℤ target }
-    requires finished { HasFinished (G.model setup.now.game) (at_work (B.view board.old) worker.old) }
+    requires kept { HasKept (G.model setup.now.game) (at_work (B.view board.old) worker.old) }
     ensures worked { IsWorked (G.model setup.now.game) s
         (at_work (B.view board.old) worker.old) (at_work (B.view board.new) worker.new) }
     ensures ended { IfOk result (HasEnded (G.model setup.now.game) s target
@@ -84,9 +85,9 @@ pub(crate) fn search_state<G: Game, B: Bounds<G>, T: Gate>(
     }
 }
 
-/// Bounds a state that has a row.
+/// Bounds a state that is no end, by its row.
 #[cycle(search)]
-fn search_row<G: Game, B: Bounds<G>, T: Gate>(
+pub(crate) fn search_row<G: Game, B: Bounds<G>, T: Gate>(
     setup: &Setup<'_, G, T>,
     s: G::State,
     row: Row,
@@ -96,10 +97,9 @@ fn search_row<G: Game, B: Bounds<G>, T: Gate>(
 ) -> Result<SearchEnd, NoMemory>
     requires game { (B.view board.old).game ≡ setup.now.game }
     requires reachable { Reachable (G.model setup.now.game) s }
-    requires goes_on { 1 ≤ (G.model setup.now.game).rank s }
-    requires row { (B.view board.old).key_at row ≡ Some ((G.model setup.now.game).key s) }
+    requires row { IsRowOf (G.model setup.now.game) (B.view board.old) s row }
     requires target { pos 0 ≤ℤ target }
-    requires finished { HasFinished (G.model setup.now.game) (at_work (B.view board.old) worker.old) }
+    requires kept { HasKept (G.model setup.now.game) (at_work (B.view board.old) worker.old) }
     ensures worked { IsWorked (G.model setup.now.game) s
         (at_work (B.view board.old) worker.old) (at_work (B.view board.new) worker.new) }
     ensures ended { IfOk result (HasEnded (G.model setup.now.game) s target
@@ -115,16 +115,17 @@ fn search_row<G: Game, B: Bounds<G>, T: Gate>(
         return Ok(SearchEnd::Reached);
     }
     match bound_state(setup, s, row, worker, board) {
-        Ok(false) => {
-            if is_within(g, s, row, target, board) {
-                return Ok(SearchEnd::Reached);
+        Ok(is_ahead) => {
+            let may_leave = worker.may_leave(g.rank(s));
+            match ended_early(g, s, row, target, is_ahead && may_leave, board) {
+                Some(end) => Ok(end),
+                None => grow(setup, s, row, target, worker, board),
             }
-            grow(setup, s, row, target, worker, board)
         }
-        Ok(true) => {
+        Err(BoardFault::Full) => {
             worker.note_full();
             Ok(stopped(g, s, row, target, Stop::Full, board))
         }
-        Err(_) => Err(NoMemory),
+        Err(BoardFault::NoMemory) => Err(NoMemory),
     }
 }

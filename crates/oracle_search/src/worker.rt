@@ -1,13 +1,14 @@
 //! One worker of a search.
 
-ghost use Rattle.std.specs.Prelude.{◌≡◌, [], false, MatchBool, OnOk, OnErr};
+ghost use Rattle.std.specs.Prelude.{◌≡◌, ◌≤◌, [], false, IsTrue, MatchBool, OnOk, OnErr};
 ghost use Rattle.std.specs.List.{Contains};
+ghost use Rattle.matrix_game.specs.Budget.{left_of};
 ghost use Rattle.oracle_search.specs.Workers.{with_key, with_full, without_full};
 
 use crate::finished::Settled;
 use crate::gate::Gate;
-use matrix_game::Turns;
-use serial_ab::Visits;
+use matrix_game::{StageMemory, Turns};
+use serial_ab::{TranspositionTable, Visits};
 use sim_game::{Game, NoMemory};
 use std::alloc::Global;
 use std::marker::Model;
@@ -22,12 +23,23 @@ pub struct Setup<'a, G: Game, T: Gate> {
     pub gate: &'a T,
 }
 
-/// What a worker has left, and what it has done.
+/// How much the memories of a worker may hold: serial searches, some 80 bytes each, and solved stages.
+#[derive(Clone, Copy, Debug)]
+pub struct MemoryLimits {
+    pub searches: u32,
+    pub stages: u32,
+}
+
+/// What a worker has left, what it has done, and its memories, which change no answer.
 #[derive(Drop)]
 pub struct Worker {
     pub(crate) turns: Turns,
     pub(crate) visits: Visits,
+    pub(crate) searches: TranspositionTable,
+    pub(crate) stages: StageMemory,
     settled: Settled,
+    // The rank of the state that its last search began with.
+    first_rank: u32,
 }
 
 impl Model for Worker {
@@ -35,18 +47,26 @@ impl Model for Worker {
 
     ghost Value = { WorkerView };
 
-    ghost view = { λ w. record { turns = w.turns; visits = w.visits; settled = w.settled } };
+    ghost view = { λ w. record { turns = w.turns; visits = w.visits; settled = w.settled; searches = w.searches } };
 }
 
 impl Worker {
-    /// A worker that has finished no state. It takes no memory.
-    pub fn new(alloc: Global, turns: Turns, visits: Visits) -> Worker
-        ensures { result ≡ record { turns = turns; visits = visits; settled = record { keys = []; was_full = false } } }
+    /// A worker that has finished no state, with empty memories. It takes no memory.
+    pub fn new(alloc: Global, turns: Turns, visits: Visits, limits: MemoryLimits) -> Worker
+        ensures { result ≡ record {
+          turns = turns;
+          visits = visits;
+          settled = record { keys = []; was_full = false };
+          searches = [];
+        } }
     {
         Worker {
             turns,
             visits,
+            searches: TranspositionTable::new(alloc, limits.searches as usize),
+            stages: StageMemory::new(limits.stages),
             settled: Settled::new(alloc),
+            first_rank: 0,
         }
     }
 
@@ -104,10 +124,19 @@ impl Worker {
         self.settled.set_full(true);
     }
 
-    /// Forgets the full boards of earlier searches.
-    pub(crate) fn begin(&mut self)
+    /// Begins a search at a state of this rank: the full boards of earlier searches are forgotten.
+    pub(crate) fn begin(&mut self, rank: u32)
         ensures { self.new ≡ without_full self.old }
     {
+        self.first_rank = rank;
         self.settled.set_full(false);
+    }
+
+    /// Whether a state of this rank may be left to another worker that has searched it: it is below the state that the
+    /// search began with, and no search of this worker has stopped half-way, since a turn is left and no board was full.
+    pub(crate) fn may_leave(&self, rank: u32) -> bool
+        ensures { IsTrue result → (1 ≤ left_of self.now.turns) × (self.now.settled.was_full ≡ false) }
+    {
+        rank < self.first_rank && self.turns.left() > 0 && !self.settled.was_full()
     }
 }

@@ -11,7 +11,7 @@ use Rattle.std.specs.List.{range_with_len}
 use Rattle.oshi_zumo.specs.declared.Setting.{Setting}
 use Rattle.oshi_zumo.specs.declared.State.{State}
 use Rattle.oshi_zumo.specs.Position.{IsPosition}
-use Rattle.oshi_zumo.specs.Rules.{coins_of, is_off, is_over, bids_from, bids, push_of, rank_of, key_of, oshi_zumo_game}
+use Rattle.oshi_zumo.specs.Rules.{coins_of, is_off, is_over, bids_from, bids, push_of, rank_of, oshi_zumo_game}
 use Rattle.sim_game.specs.declared.Side.{Side}
 use Rattle.sim_game.specs.declared.Side.TheVariants.{One, Two}
 use Rattle.sim_game.specs.Model.{Turn, IsTurn, Reachable, IsGame, after_turn}
@@ -61,8 +61,7 @@ bid_falls least coins i top p h q r = elim (cases_lt coins least) [
       let none : (coins - get_or (bids_from least coins) i 0) / least ≡ 0 = div-eq_of_lt (omega arith) in
       omega arith
   | inr enough ↦
-      let bid = (bid_within least coins i enough h).1 in
-      rw bid (omega (arith, quotient_falls least coins (least + i) p enough (omega arith)))
+      rw ((bid_within least coins i enough h).1) (omega (arith, quotient_falls least coins (least + i) p enough (omega arith)))
 ]
 
 -- ---- ends
@@ -98,13 +97,7 @@ place_on_board size place poor h = grind (arith, nat_tests)
 
 -- ---- keys
 pub same_state : (s t : State) → s.place ≡ t.place → s.one ≡ t.one → s.two ≡ t.two → s ≡ t
-same_state s t p q r =
-    let made : ℤ → ℕ → ℕ → State = λ place one two. record { place = place; one = one; two = two } in
-    let e : made s.place s.one s.two ≡ made t.place t.one t.two = rw (p, q, r) refl in
-    e
-
-same_key : (s t : State) → s.one ≤ 31 → t.one ≤ 31 → s.two ≤ 31 → t.two ≤ 31 → unsigned_abs s.place ≤ 9 → unsigned_abs t.place ≤ 9 → key_of s ≡ key_of t → s ≡ t
-same_key s t a b c d near near' e = same_state s t (omega (arith, ints)) (omega (arith, ints)) (omega (arith, ints))
+same_state s t p q r = λ i. record { place = p i; one = q i; two = r i }
 
 -- ---- turns
 pub moves_open : (over : Bool) (xs : List ℕ) (i : ℕ) → i < length (cond over [] xs) → over ≡ false
@@ -147,11 +140,9 @@ module _ (g : Setting) (p : IsPosition g) where
       let top = max (s.one / g.least) (s.two / g.least) in
       let place_one : t.one < length (bids_from g.least s.one) = rw (open_bids g One s over) at turn.one_below in
       let place_two : t.two < length (bids_from g.least s.two) = rw (open_bids g Two s over) at turn.two_below in
-      let one = bid_falls g.least s.one t.one top p.least_low place_one here.1 (omega arith) in
-      let two = bid_falls g.least s.two t.two top p.least_low place_two here.1 (omega arith) in
       let next = after_turn (oshi_zumo_game g) s t in
-      let paid_one : next.one / g.least < top = rw (open_bids g One s over) one in
-      let paid_two : next.two / g.least < top = rw (open_bids g Two s over) two in
+      let paid_one : next.one / g.least < top = rw (open_bids g One s over) (bid_falls g.least s.one t.one top p.least_low place_one here.1 (omega arith)) in
+      let paid_two : next.two / g.least < top = rw (open_bids g Two s over) (bid_falls g.least s.two t.two top p.least_low place_two here.1 (omega arith)) in
       let rank : rank_of g s ≡ top = ap (λ (b : Bool). cond b 0 top) here.0 in
       rw rank (cond_below (is_off g next) (max (next.one / g.least) (next.two / g.least)) top (omega arith))
 
@@ -164,16 +155,18 @@ module _ (g : Setting) (p : IsPosition g) where
 
   sound_turn : (s : State) (t : Turn) → IsSound g s → IsTurn (oshi_zumo_game g) s t → IsSound g (after_turn (oshi_zumo_game g) s t)
   sound_turn s t sound turn =
-      let small = place_on_board g.size s.place (ltb s.one g.least && ltb s.two g.least) (turn_open s t turn) in
-      let push = push_small (get_or (bids g One s) t.one 0) (get_or (bids g Two s) t.two 0) in
       record {
         one_high = omega (arith, sound.one_high);
         two_high = omega (arith, sound.two_high);
-        near = omega (arith, ints, small, push);
+        near = omega (arith, ints, place_on_board g.size s.place (ltb s.one g.least && ltb s.two g.least) (turn_open s t turn), push_small (get_or (bids g One s) t.one 0) (get_or (bids g Two s) t.two 0));
       }
 
   pub sound : (s : State) → Reachable (oshi_zumo_game g) s → IsSound g s
   sound = reachable_induction (oshi_zumo_game g) (IsSound g) sound_root (λ s t _ here turn. sound_turn s t here turn)
+
+  -- the fields of the key
+  pub in_bits : (s : State) → Reachable (oshi_zumo_game g) s → (unsigned_abs s.place ≤ 9) × (s.one ≤ 31) × (s.two ≤ 31)
+  in_bits s r = let here = sound s r in (omega (arith, here.near, p.size_high), omega (arith, here.one_high, p.one_high), omega (arith, here.two_high, p.two_high))
 
   end_moves : (side : Side) (s : State) → rank_of g s ≡ 0 → length (bids g side s) ≡ 0
   end_moves side s h = rw (over_at_end (is_off g s) s.one s.two g.least p.least_low h) refl
@@ -205,8 +198,7 @@ module _ (g : Setting) (p : IsPosition g) where
     rank_falls = λ s t r turn. rank_falls s t turn;
     payoff_low = λ s r h. (sign_small s.place).0;
     payoff_high = λ s r h. (sign_small s.place).1;
-    same_key = λ s t r r' e. let here = sound s r in let there = sound t r' in
-        same_key s t (omega arith) (omega arith) (omega arith) (omega arith) (omega arith) (omega arith) e;
+    same_key = λ s t r r' e. let here = in_bits s r in let there = in_bits t r' in same_state s t (omega (arith, ints)) (omega (arith, ints)) (omega (arith, ints));
     key_high = λ s r. let here = sound s r in omega (arith, ints);
     draws_low = λ s a b r h h'. omega arith;
     draws_high = λ s a b r h h'. omega arith;

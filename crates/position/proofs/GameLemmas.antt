@@ -1,27 +1,17 @@
 -- The games, one by one: what was built, and that a position has one game.
-use Rattle.std.proofs.Common.{◌≡◌, ℕ, ℤ, List, None, refl, subst}
+use Rattle.std.proofs.Common.{subst}
 use Rattle.sim_game.specs.Model.{GameModel, IsGame}
-use Rattle.goofspiel.specs.declared.Pay.{Pay}
-use Rattle.goofspiel.specs.declared.Goofspiel.{Goofspiel as GoofspielGame}
-use Rattle.goofspiel.specs.Position as goofspiel
 use Rattle.goofspiel.specs.Laws.{goofspiel_is_game}
 use Rattle.goofspiel.specs.Rules.{goofspiel_game}
 use Rattle.goofspiel.proofs.PositionLemmas as goofspiel_position
-use Rattle.goofspiel.specs.declared.drawn.GoofspielDrawn.{GoofspielDrawn as DrawnGame}
 use Rattle.goofspiel.specs.DrawnLaws.{drawn_is_game}
 use Rattle.goofspiel.specs.DrawnRules.{drawn_game}
-use Rattle.oshi_zumo.specs.declared.OshiZumo.{OshiZumo as OshiZumoGame}
-use Rattle.oshi_zumo.specs.Position as oshi_zumo
 use Rattle.oshi_zumo.specs.Laws.{oshi_zumo_is_game}
 use Rattle.oshi_zumo.specs.Rules.{oshi_zumo_game}
 use Rattle.oshi_zumo.proofs.PositionLemmas as oshi_zumo_position
-use Rattle.tron.specs.declared.Tron.{Tron as TronGame}
-use Rattle.tron.specs.Position as tron
 use Rattle.tron.specs.Laws.{tron_is_game}
 use Rattle.tron.specs.Rules.{tron_game}
 use Rattle.tron.proofs.PositionLemmas as tron_position
-use Rattle.pursuit.specs.declared.Pursuit.{Pursuit as PursuitGame}
-use Rattle.pursuit.specs.Position as pursuit
 use Rattle.pursuit.specs.Laws.{pursuit_is_game}
 use Rattle.pursuit.specs.Rules.{pursuit_game}
 use Rattle.pursuit.proofs.PositionLemmas as pursuit_position
@@ -29,28 +19,7 @@ use Rattle.certificate.specs.declared.report.PositionText.{PositionText}
 use Rattle.certificate.specs.declared.report.PositionText.TheVariants as texts
 use Rattle.position.specs.declared.games.AnyGame.{AnyGame}
 use Rattle.position.specs.declared.games.AnyGame.TheVariants.{Goofspiel, OshiZumo, Tron, GoofspielDrawn, Pursuit}
-use Rattle.position.specs.Games.{fault_of, IsGameOf, state_of, model_of, OfGame, IsSameGame}
-
--- the game that was built
-pub goofspiel_built : (text : PositionText) (one two prizes : List ℕ) (score : ℤ) (pay : Pay) (g : GoofspielGame) → text ≡ texts.Goofspiel one two prizes score pay
-    → (goofspiel.first_fault one two prizes score ≡ None) × goofspiel.IsSettingOf one two prizes score pay g.setting → (fault_of text ≡ None) × IsGameOf text (Goofspiel g)
-goofspiel_built text one two prizes score pay g is (none, setting) = rw (is, none) (refl, (g, refl, setting))
-
-pub oshi_zumo_built : (text : PositionText) (size one two least : ℕ) (place : ℤ) (g : OshiZumoGame) → text ≡ texts.OshiZumo size one two least place
-    → (oshi_zumo.first_fault (oshi_zumo.setting_of size one two least place) ≡ None) × oshi_zumo.IsSettingOf size one two least place g.setting → (fault_of text ≡ None) × IsGameOf text (OshiZumo g)
-oshi_zumo_built text size one two least place g is (none, setting) = rw (is, none) (refl, (g, refl, setting))
-
-pub tron_built : (text : PositionText) (height width : ℕ) (walls : List ℕ) (one two : ℕ) (g : TronGame) → text ≡ texts.Tron height width walls one two
-    → (tron.first_fault height width walls one two ≡ None) × tron.IsSettingOf height width walls one two g.setting → (fault_of text ≡ None) × IsGameOf text (Tron g)
-tron_built text height width walls one two g is (none, setting) = rw (is, none) (refl, (g, refl, setting))
-
-pub goofspiel_drawn_built : (text : PositionText) (one two prizes : List ℕ) (score : ℤ) (pay : Pay) (g : DrawnGame) → text ≡ texts.GoofspielDrawn one two prizes score pay
-    → (goofspiel.first_fault one two prizes score ≡ None) × goofspiel.IsSettingOf one two prizes score pay g.setting → (fault_of text ≡ None) × IsGameOf text (GoofspielDrawn g)
-goofspiel_drawn_built text one two prizes score pay g is (none, setting) = rw (is, none) (refl, (g, refl, setting))
-
-pub pursuit_built : (text : PositionText) (nodes : ℕ) (edges : List ℕ) (one two rounds : ℕ) (g : PursuitGame) → text ≡ texts.Pursuit nodes edges one two rounds
-    → (pursuit.first_fault nodes edges one two rounds ≡ None) × pursuit.IsSettingOf nodes edges one two rounds g.setting → (fault_of text ≡ None) × IsGameOf text (Pursuit g)
-pursuit_built text nodes edges one two rounds g is (none, setting) = rw (is, none) (refl, (g, refl, setting))
+use Rattle.position.specs.Games.{IsGameOf, state_of, model_of, OfGame, IsSameGame}
 
 pub one_game : (text : PositionText) (g h : AnyGame) → IsGameOf text g → IsGameOf text h → IsSameGame g h
 one_game (texts.Goofspiel one two prizes score pay) g h (a, g_is, p) (b, h_is, q) = rw g_is (b, h_is, goofspiel_position.one_setting one two prizes score pay a.setting b.setting p q)

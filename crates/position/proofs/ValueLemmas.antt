@@ -9,32 +9,27 @@ use Rattle.std.proofs.lemmas.List.Folds.{list_all-map}
 use Rattle.serde_json.specs.Data.{Data}
 use Rattle.serde_json.specs.View.{view, items_view, members_view}
 use Rattle.serde_json.specs.declared.value.Value.{Value}
-use Rattle.position.specs.declared.error.InputError.TheVariants.{Kind, Range, Unknown}
+use Rattle.position.specs.declared.error.InputError.TheVariants.{Kind, Range}
 use Rattle.position.specs.declared.error.Field.{Field}
-use Rattle.position.specs.Objects.{list_of, names_of, is_known, is_whole, is_byte, byte_of, byte_in, whole_in, bytes_in, members_at, known_at}
+use Rattle.position.specs.Objects.{list_of, names_of, is_known, is_whole, is_byte, byte_of, byte_in, whole_in, bytes_in}
 
-pub list_of-items_view : (vs : List Value) → list_of (items_view vs) ≡ map view vs
-list_of-items_view [] = refl
-list_of-items_view (v ∷ vs) = ap (λ (ds : List Data). view v ∷ ds) (list_of-items_view vs)
+pub list_of_items : (vs : List Value) → list_of (items_view vs) ≡ map view vs
+list_of_items [] = refl
+list_of_items (v ∷ vs) = ap (λ (ds : List Data). view v ∷ ds) (list_of_items vs)
 
-known-members_view : (known : List Field) (ms : List (String Global × Value)) → list_all (is_known known) (names_of (members_view ms)) ≡ list_all (λ k. is_known known (string_bytes k)) (keys_of ms)
-known-members_view known [] = refl
-known-members_view known (m ∷ ms) = rw (known-members_view known ms) refl
+pub known_members : (known : List Field) (ms : List (String Global × Value)) → list_all (is_known known) (names_of (members_view ms)) ≡ list_all (λ k. is_known known (string_bytes k)) (keys_of ms)
+known_members known [] = refl
+known_members known (m ∷ ms) = rw (known_members known ms) refl
 
 filter_map-map : {A B C : Type 0} (f : B → Option C) (g : A → B) (xs : List A) → filter_map f (map g xs) ≡ filter_map (λ x. f (g x)) xs
 filter_map-map f g [] = refl
 filter_map-map {A} {B} {C} f g (x ∷ xs) = rw (filter_map-map f g xs) refl
 
 -- what the tests on the items decide
-pub bytes_in-view : (field : Field) (most : ℕ) (vs : List Value) (whole small : Bool) → whole ≡ list_all (λ v. is_whole (view v)) vs → small ≡ (nat_le (length vs) most && list_all (λ v. is_byte (view v)) vs)
+pub bytes_in_view : (field : Field) (most : ℕ) (vs : List Value) (whole small : Bool) → whole ≡ list_all (λ v. is_whole (view v)) vs → small ≡ (nat_le (length vs) most && list_all (λ v. is_byte (view v)) vs)
     → bytes_in field most (map view vs) ≡ cond whole (cond small (Ok (filter_map (λ v. byte_in (view v)) vs)) (Err (Range field))) (Err (Kind field))
 unfolding bytes_in
-bytes_in-view field most vs whole small w s = rw (w, s, list_all-map is_whole view vs, list_all-map is_byte view vs, length-map vs view, filter_map-map byte_in view vs) refl
-
-pub known_at-view : (known : List Field) (d : Data) (ms : List (String Global × Value)) (all : Bool) → members_at d ≡ Ok (members_view ms) → all ≡ list_all (λ k. is_known known (string_bytes k)) (keys_of ms)
-    → known_at known d ≡ cond all (Ok tt) (Err Unknown)
-unfolding known_at
-known_at-view known d ms all e a = rw (e, known-members_view known ms, a) refl
+bytes_in_view field most vs whole small w s = rw (w, s, list_all-map is_whole view vs, list_all-map is_byte view vs, length-map vs view, filter_map-map byte_in view vs) refl
 
 -- ---- small numbers
 

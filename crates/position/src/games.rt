@@ -8,7 +8,7 @@ ghost use Rattle.certificate.specs.Positions.{AreCardsInRange};
 ghost use Rattle.certificate.specs.Ranges.{IsPositionInRange};
 ghost use Rattle.position.specs.declared.games.AnyGame.{AnyGame};
 ghost use Rattle.position.specs.Objects.{Gives};
-ghost use Rattle.position.specs.Games.{fields_of, pay_at, cards_at, goofspiel_at, oshi_zumo_at, tron_at, goofspiel_drawn_at, pursuit_at, text_of, HasShortLists, fault_of, IsGameOf, model_of, IsSameGame};
+ghost use Rattle.position.specs.Games.{pay_at, cards_at, goofspiel_at, oshi_zumo_at, tron_at, goofspiel_drawn_at, pursuit_at, text_of, HasShortLists, fault_of, IsGameOf, model_of, IsSameGame};
 
 use crate::object::{byte_list, natural_number, number_between, text};
 use crate::{Field, InputError};
@@ -139,83 +139,11 @@ pub fn build(text: &PositionText) -> Result<AnyGame, InputError>
 }
 
 /// A position has one game.
+#[tactic(auto, using(crate::proofs::GameLemmas::one_game))]
 pub fn position_has_one_game()
     ensures { (text : PositionText) (g h : AnyGame) → IsGameOf text g → IsGameOf text h
         → IsSameGame g h }
 {}
-
-const GOOFSPIEL: [Field; 12] = [
-    Field::Game,
-    Field::One,
-    Field::Two,
-    Field::Prizes,
-    Field::Score,
-    Field::Pay,
-    Field::Gap,
-    Field::Weight,
-    Field::Turns,
-    Field::Visits,
-    Field::Rows,
-    Field::Workers,
-];
-
-const OSHI_ZUMO: [Field; 12] = [
-    Field::Game,
-    Field::Size,
-    Field::One,
-    Field::Two,
-    Field::Least,
-    Field::Place,
-    Field::Gap,
-    Field::Weight,
-    Field::Turns,
-    Field::Visits,
-    Field::Rows,
-    Field::Workers,
-];
-
-const TRON: [Field; 12] = [
-    Field::Game,
-    Field::Height,
-    Field::Width,
-    Field::Walls,
-    Field::One,
-    Field::Two,
-    Field::Gap,
-    Field::Weight,
-    Field::Turns,
-    Field::Visits,
-    Field::Rows,
-    Field::Workers,
-];
-
-const PURSUIT: [Field; 12] = [
-    Field::Game,
-    Field::Nodes,
-    Field::Edges,
-    Field::One,
-    Field::Two,
-    Field::Rounds,
-    Field::Gap,
-    Field::Weight,
-    Field::Turns,
-    Field::Visits,
-    Field::Rows,
-    Field::Workers,
-];
-
-/// The fields that the game and the ask have.
-pub(crate) fn fields(game: GameKind) -> &'static [Field]
-    ensures { result.now ≡ fields_of game }
-{
-    match game {
-        GameKind::Goofspiel => &GOOFSPIEL,
-        GameKind::OshiZumo => &OSHI_ZUMO,
-        GameKind::Tron => &TRON,
-        GameKind::GoofspielDrawn => &GOOFSPIEL,
-        GameKind::Pursuit => &PURSUIT,
-    }
-}
 
 #[tactic(auto, unfolding(crate::specs::Games::pay_at))]
 fn pay(object: &Value) -> Result<Pay, InputError>

@@ -2,6 +2,7 @@
 #![tactic(auto)]
 
 mod error;
+mod fields;
 mod games;
 mod memory_sink;
 mod memory_source;

@@ -46,6 +46,7 @@ impl MemorySource {
 impl Source for MemorySource {
     ghost state = { λ s. record { left = Some s.left; faults = s.faults } };
 
+    #[tactic(auto, using(crate::proofs::SourceLemmas::left_after, crate::proofs::SourceLemmas::at_end))]
     fn read(&mut self, into: &mut [u8]) -> Result<usize, Failed>
         requires { 0 < length into.old }
         ensures bound { IfOk result (λ n. n ≤ length into.new) }

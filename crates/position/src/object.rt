@@ -12,6 +12,7 @@ use seq::Seq;
 use serde_json::{Category, Map, Value};
 use std::alloc::{AllocError, Global};
 
+#[tactic(auto, using(crate::proofs::JsonLemmas::json_ok, crate::proofs::JsonLemmas::json_err))]
 pub(crate) fn json(alloc: Global, bytes: &[u8]) -> Result<Value, InputError>
     ensures { Gives view result (json_of bytes.now) }
 {
@@ -121,6 +122,7 @@ fn bytes_of(alloc: Global, items: &[Value]) -> Result<Vec<u8>, AllocError>
     items.iter().filter_map(byte).collect(alloc)
 }
 
+#[tactic(auto, using(crate::proofs::ValueLemmas::bytes_in_view, crate::proofs::ValueLemmas::bytes_fit))]
 fn bytes_from(
     alloc: Global,
     field: Field,
@@ -148,7 +150,7 @@ fn items(field: Field, object: &Value) -> Result<&Vec<Value>, InputError>
 }
 
 /// At most `most` whole numbers from 0 to 255.
-#[tactic(auto, unfolding(crate::specs::Objects::bytes_at))]
+#[tactic(auto, using(crate::proofs::ValueLemmas::list_of_items), unfolding(crate::specs::Objects::bytes_at))]
 pub(crate) fn byte_list(
     alloc: Global,
     field: Field,
@@ -182,7 +184,7 @@ fn members(object: &Value) -> Result<&Map<String, Value>, InputError>
 }
 
 /// Refuses an object that has a name of another field.
-#[tactic(auto, unfolding(crate::specs::Objects::known_at))]
+#[tactic(auto, using(crate::proofs::ValueLemmas::known_members), unfolding(crate::specs::Objects::known_at))]
 pub(crate) fn only_known(fields: &[Field], object: &Value) -> Result<(), InputError>
     ensures { Gives (λ u. u) result (known_at fields.now (view object.now)) }
 {

@@ -36,6 +36,7 @@ impl PlainSource {
 impl Source for PlainSource {
     ghost state = { λ s. record { left = Some s; faults = 0 } };
 
+    #[tactic(auto, using(crate::proofs::SourceLemmas::left_after, crate::proofs::SourceLemmas::at_end))]
     fn read(&mut self, into: &mut [u8]) -> Result<usize, Failed> {
         let n = copy_from(&self.bytes, self.at, into);
         self.at += n;

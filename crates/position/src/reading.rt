@@ -6,7 +6,8 @@ ghost use Rattle.certificate.specs.Ranges.{IsAskInRange, IsPositionInRange};
 ghost use Rattle.position.specs.Games.{IsGameOf};
 ghost use Rattle.position.specs.Position.{Gives, game_at, ask_at, object_at, task_of, position_of};
 
-use crate::games::{fields, position_text};
+use crate::fields::fields;
+use crate::games::position_text;
 use crate::object::{json, natural_number, number_between, only_known, text};
 use crate::{AnyGame, Field, InputError, build};
 use certificate::{Ask, GameKind, PositionText};

@@ -1,4 +1,3 @@
 mod Examples
-pub mod NodeLemmas
 pub mod PositionLemmas
 pub mod RoundLemmas

@@ -3,6 +3,7 @@ use Rattle.std.proofs.Common.{◌≡◌, ℕ, ◌+◌, ◌*◌, ◌/◌, ◌<◌
 use Rattle.std.proofs.lemmas.Bool.{cases_eq, cases_lt, eq-eqb, le-ltb, leb-false, lt-ltb, ne_eqb}
 use Rattle.std.proofs.lemmas.Bool.Decides.{nat_tests}
 use Rattle.std.proofs.lemmas.List.{get_or-replicate, get_or-set_other, get_or-set_same, take_all, length-replicate}
+use Rattle.std.proofs.Math.Bool.{or-false, or_assoc}
 use Rattle.std.proofs.Math.ListN.{get_or-eq_default}
 use Rattle.std.proofs.lemmas.Nat.Bits.{bit_at-zero}
 use Rattle.std.proofs.lemmas.List.Elements.{All-from_get_or}
@@ -13,11 +14,10 @@ use Rattle.std.proofs.lemmas.Grind.{same_number_lists}
 use Rattle.std.specs.List.{All, list_any, position_or_len, range_with_len}
 use Rattle.pursuit.specs.declared.Setting.{Setting}
 use Rattle.pursuit.specs.Edges.{edge_numbers, first_node, is_joined, is_joined_in, joins, second_node}
-use Rattle.pursuit.specs.Nodes.{is_in, with_node}
-use Rattle.pursuit.specs.NodeLaws.{bit_clear, in_with}
-use Rattle.pursuit.proofs.NodeLemmas.{below_bits, same_set}
+use Rattle.state_key.specs.Sets.{is_in, with_number}
+use Rattle.state_key.proofs.SetLemmas.{below_bits, bit_clear, in_with, same_set}
 use Rattle.pursuit.specs.Position.{first_loop, IsSettingOf}
-use Rattle.pursuit.specs.Rules.{Graph, graph_of, graph_of_edges}
+use Rattle.pursuit.specs.Rules.{graph_of, graph_of_edges}
 
 -- ---- the first place of a range at which a test passes
 in_range : (n i : ℕ) → i < n → get_or (range_with_len 0 n) i 0 ≡ i
@@ -74,18 +74,14 @@ none_past nodes edges a b none h = none_joins edges a b (λ edge l.
     (omega (arith, node_small nodes edges (2 * edge) none (omega arith))) (omega (arith, node_small nodes edges (2 * edge + 1) none (omega arith))))
 
 -- ---- the sets of neighbours
-or_false : (b : Bool) → (b || false) ≡ b
-or_false true = refl
-or_false false = refl
-
 pub arc_added : (sets : List ℕ) (from to a b : ℕ) → from < length sets
-    → is_joined_in (set sets from (with_node (get_or sets from 0) to)) a b ≡ (is_joined_in sets a b || (eqb from a && eqb to b))
+    → is_joined_in (set sets from (with_number (get_or sets from 0) to)) a b ≡ (is_joined_in sets a b || (eqb from a && eqb to b))
 arc_added sets from to a b h = elim (cases_eq a from) [
   | inl same ↦
       let there : eqb from from ≡ true = eq-eqb from from refl in
-      rw (same, there, get_or-set_same sets from (with_node (get_or sets from 0) to) 0 h) (in_with (get_or sets from 0) to b)
+      rw (same, there, get_or-set_same sets from (with_number (get_or sets from 0) to) 0 h) (in_with (get_or sets from 0) to b)
   | inr differ ↦
-      rw (ne_eqb from a (λ e. differ (sym e)), get_or-set_other sets from a (with_node (get_or sets from 0) to) 0 differ) (sym (or_false (is_joined_in sets a b)))
+      rw (ne_eqb from a (λ e. differ (sym e)), get_or-set_other sets from a (with_number (get_or sets from 0) to) 0 differ) (sym (or-false (is_joined_in sets a b)))
 ]
 
 -- so many edges are in the sets
@@ -102,10 +98,6 @@ none_in n a zero_set = elim (cases_lt a n) [
 pub gathered_none : (edges : List ℕ) → IsGathered edges 0 (replicate 32 0)
 gathered_none edges = record { rows = refl; joined = λ a b. ap (λ (set : ℕ). is_in set b) (none_in 32 a 0) ∙ ap (λ (bit : ℕ). eqb bit 1) (bit_at-zero b) }
 
-or_assoc : (a b c : Bool) → ((a || b) || c) ≡ (a || (b || c))
-or_assoc true b c = refl
-or_assoc false b c = refl
-
 pub gathered_more : (edges : List ℕ) (count : ℕ) (sets arcs more : List ℕ) → count < length edges / 2 → length more ≡ 32 → IsGathered edges count sets
     → ((a b : ℕ) → is_joined_in arcs a b ≡ (is_joined_in sets a b || (eqb (first_node edges count) a && eqb (second_node edges count) b)))
     → ((a b : ℕ) → is_joined_in more a b ≡ (is_joined_in arcs a b || (eqb (second_node edges count) a && eqb (first_node edges count) b)))
@@ -116,8 +108,7 @@ gathered_more edges count sets arcs more l rows before one two = record {
       let there = eqb (first_node edges count) a && eqb (second_node edges count) b in
       let back = eqb (second_node edges count) a && eqb (first_node edges count) b in
       let n = length edges / 2 in
-      let next = list_any_more (joins edges a b) (edge_numbers edges) count 0 (omega (arith, length-range_with_len 0 n)) in
-      let last = rw (in_range n count l) at next in
+      let last = rw (in_range n count l) at (list_any_more (joins edges a b) (edge_numbers edges) count 0 (omega (arith, length-range_with_len 0 n))) in
       two a b ∙ ap (λ (x : Bool). x || back) (one a b ∙ ap (λ (x : Bool). x || there) (before.joined a b)) ∙ or_assoc (list_any (joins edges a b) (take count (edge_numbers edges))) there back ∙ sym last;
 }
 
@@ -132,20 +123,10 @@ sets_within nodes edges sets none joined node =
     below_bits nodes (get_or sets node 0) (λ i l. bit_clear (get_or sets node 0) i (joined node i ∙ none_past nodes edges node i none l))
 
 -- the rules look at the same graph
-same_tests : (f h : ℕ → ℕ → Bool) → ((a b : ℕ) → f a b ≡ h a b) → f ≡ h
-same_tests f h agree = λ i a b. agree a b i
-
 pub same_graph : (g : Setting) (edges : List ℕ) → ((a b : ℕ) → is_joined_in g.neighbours a b ≡ is_joined edges a b) → graph_of g ≡ graph_of_edges g.nodes edges
-same_graph g edges joined =
-    let made : (ℕ → ℕ → Bool) → Graph = λ joined. record { nodes = g.nodes; joined = joined } in
-    let e : made (is_joined_in g.neighbours) ≡ made (is_joined edges) = ap made (same_tests (is_joined_in g.neighbours) (is_joined edges) joined) in
-    e
+same_graph g edges joined = λ i. record { nodes = g.nodes; joined = λ a b. joined a b i }
 
 pub one_setting : (nodes : ℕ) (edges : List ℕ) (one two rounds : ℕ) (g h : Setting) → IsSettingOf nodes edges one two rounds g → IsSettingOf nodes edges one two rounds h → g ≡ h
 one_setting nodes edges one two rounds g h p q =
-    let made : ℕ → List ℕ → ℕ → ℕ → ℕ → Setting = λ nodes neighbours one two rounds. record { nodes = nodes; neighbours = neighbours; one = one; two = two; rounds = rounds } in
-    let sets : g.neighbours ≡ h.neighbours = same_number_lists g.neighbours h.neighbours (p.sets ∙ sym q.sets)
-    (λ a l. same_set (get_or g.neighbours a 0) (get_or h.neighbours a 0) (λ b. p.joined a b ∙ sym (q.joined a b))) in
-    let e : made g.nodes g.neighbours g.one g.two g.rounds ≡ made h.nodes h.neighbours h.one h.two h.rounds =
-    rw (p.nodes_is ∙ sym q.nodes_is, sets, p.one_is ∙ sym q.one_is, p.two_is ∙ sym q.two_is, p.rounds_is ∙ sym q.rounds_is) refl in
-    e
+    let sets = same_number_lists g.neighbours h.neighbours (p.sets ∙ sym q.sets) (λ a l. same_set (get_or g.neighbours a 0) (get_or h.neighbours a 0) (λ b. p.joined a b ∙ sym (q.joined a b))) in
+    λ i. record { nodes = (p.nodes_is ∙ sym q.nodes_is) i; neighbours = sets i; one = (p.one_is ∙ sym q.one_is) i; two = (p.two_is ∙ sym q.two_is) i; rounds = (p.rounds_is ∙ sym q.rounds_is) i }

@@ -112,9 +112,8 @@ module _ (r : Graph) where
 
   child_rank : (first s : State) (own reply draw n : ℕ) → 1 ≤ rank_of s → rank_of s ≤ suc n → rank_of (child_of (game_from r first) One s own reply draw) ≤ n
   child_rank first s own reply draw n h l =
-      let now = rank_now s.caught s.rounds (goes_on s.caught s.rounds h) in
       let next : State = child_of (game_from r first) One s own reply draw in
-      rank_below next.caught next.rounds n (omega (arith, now.0))
+      rank_below next.caught next.rounds n (omega (arith, (rank_now s.caught s.rounds (goes_on s.caught s.rounds h)).0))
 
   pub more_within : (first last : State) (n k : ℕ) (s t : State) → HasMoreRounds s t → rank_of s ≤ n → rank_of t ≤ k → within first n s ≤ℤ within last k t
   more_within first last zero k s t more p q = more_end first last zero k s t more (omega arith)

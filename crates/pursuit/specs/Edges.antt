@@ -1,7 +1,7 @@
 -- Edges: a list of pairs of nodes, one pair after the other, and the set of neighbours of each node.
 use Rattle.std.specs.Prelude.{ℕ, Bool, ◌+◌, ◌*◌, ◌/◌, ◌||◌, ◌&&◌, ◌==◌, List, length, slice_index}
 use Rattle.std.specs.List.{list_any, range_with_len}
-use Rattle.pursuit.specs.Nodes.{is_in}
+use Rattle.state_key.specs.Sets.{is_in}
 
 -- both nodes of the edge of this number
 abbrev pub first_node : List ℕ → ℕ → ℕ

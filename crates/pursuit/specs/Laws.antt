@@ -14,25 +14,25 @@ use Rattle.sim_game.specs.Model.{Turn, IsTurn, Reachable, IsGame, after_turn}
 use Rattle.sim_game.proofs.ReachLemmas.{reachable_induction}
 use Rattle.pursuit.specs.declared.Setting.{Setting}
 use Rattle.pursuit.specs.declared.State.{State}
-use Rattle.pursuit.specs.Nodes.{is_in, with_node, members, nodes_in}
-use Rattle.pursuit.specs.NodeLaws.{filter_agrees, in_with, members_count, ones_with, with_below}
+use Rattle.state_key.specs.Sets.{is_in, with_number, members}
+use Rattle.state_key.proofs.SetLemmas.{bit_clear, filter_agrees, in_with, members_count, ones_with, with_below}
 use Rattle.pursuit.specs.Position.{IsPosition}
 use Rattle.pursuit.specs.Rules.{Graph, degree, greatest_below, width_of, reach, node_of, is_over, ways, rank_of, key_of, graph_from, graph_of, pursuit_game}
 
 -- ---- sets and lists of nodes
 -- the nodes of a set that passes a test, below the number of nodes
-listed : (n set : ℕ) (p : ℕ → Bool) → ((node : ℕ) → is_in set node ≡ p node) → nodes_in n set ≡ filter p (range_with_len 0 n)
+listed : (n set : ℕ) (p : ℕ → Bool) → ((node : ℕ) → is_in set node ≡ p node) → members n 0 set ≡ filter p (range_with_len 0 n)
 unfolding members
 listed n set p h = filter_agrees (λ node. eqb (bit_at set (node - 0)) 1) p n 0 (λ node l u. let e : node - 0 ≡ node = omega arith in ap (λ (i : ℕ). eqb (bit_at set i) 1) e ∙ h node)
 
-pub neighbours_listed : (n : ℕ) (sets : List ℕ) (node : ℕ) → nodes_in n (get_or sets node 0) ≡ filter ((graph_from n sets).joined node) (range_with_len 0 n)
+pub neighbours_listed : (n : ℕ) (sets : List ℕ) (node : ℕ) → members n 0 (get_or sets node 0) ≡ filter ((graph_from n sets).joined node) (range_with_len 0 n)
 neighbours_listed n sets node = listed n (get_or sets node 0) ((graph_from n sets).joined node) (λ other. refl)
 
 pub degree_is : (n : ℕ) (sets : List ℕ) (node : ℕ) → get_or sets node 0 < 2 ^ n → degree (graph_from n sets) node ≡ ones (get_or sets node 0)
 degree_is n sets node small = sym (ap length (neighbours_listed n sets node)) ∙ members_count n 0 (get_or sets node 0) small
 
-pub reach_listed : (n : ℕ) (sets : List ℕ) (node : ℕ) → nodes_in n (with_node (get_or sets node 0) node) ≡ reach (graph_from n sets) node
-reach_listed n sets node = listed n (with_node (get_or sets node 0) node) (λ other. is_in (get_or sets node 0) other || eqb node other) (λ other. in_with (get_or sets node 0) node other)
+pub reach_listed : (n : ℕ) (sets : List ℕ) (node : ℕ) → members n 0 (with_number (get_or sets node 0) node) ≡ reach (graph_from n sets) node
+reach_listed n sets node = listed n (with_number (get_or sets node 0) node) (λ other. is_in (get_or sets node 0) other || eqb node other) (λ other. in_with (get_or sets node 0) node other)
 
 pub greatest_above : (n : ℕ) (f : ℕ → ℕ) (i : ℕ) → i < n → f i ≤ greatest_below n f
 greatest_above zero f i h = absurd (omega arith)
@@ -119,24 +119,21 @@ bit_small true = omega arith
 bit_small false = omega arith
 
 same_state : (s t : State) → s.one ≡ t.one → s.two ≡ t.two → s.rounds ≡ t.rounds → s.caught ≡ t.caught → s ≡ t
-same_state s t p q r u =
-    let made : ℕ → ℕ → ℕ → Bool → State = λ one two rounds caught. record { one = one; two = two; rounds = rounds; caught = caught } in
-    let e : made s.one s.two s.rounds s.caught ≡ made t.one t.two t.rounds t.caught = rw (p, q, r, u) refl in
-    e
+same_state s t p q r u = λ i. record { one = p i; two = q i; rounds = r i; caught = u i }
 
 module _ (g : Setting) (p : IsPosition g) where
   pub node_below : (side : Side) (s : State) → IsSound g s → node_of side s < g.nodes
   node_below One s here = here.one_below
   node_below Two s here = here.two_below
 
-  pub set_small : (node : ℕ) → node < g.nodes → with_node (get_or g.neighbours node 0) node < 2 ^ g.nodes
+  pub set_small : (node : ℕ) → node < g.nodes → with_number (get_or g.neighbours node 0) node < 2 ^ g.nodes
   set_small node h = with_below g.nodes (get_or g.neighbours node 0) node h (p.within node)
 
   -- a node reaches one node more than it has neighbours
   pub reach_count : (node : ℕ) → node < g.nodes → length (reach (graph_of g) node) ≡ degree (graph_of g) node + 1
   reach_count node h =
-      sym (ap length (reach_listed g.nodes g.neighbours node)) ∙ members_count g.nodes 0 (with_node (get_or g.neighbours node 0) node) (set_small node h)
-      ∙ ones_with (get_or g.neighbours node 0) node (p.no_loop node) ∙ ap (λ (n : ℕ). n + 1) (sym (degree_is g.nodes g.neighbours node (p.within node)))
+      sym (ap length (reach_listed g.nodes g.neighbours node)) ∙ members_count g.nodes 0 (with_number (get_or g.neighbours node 0) node) (set_small node h)
+      ∙ ones_with (get_or g.neighbours node 0) node (bit_clear (get_or g.neighbours node 0) node (p.no_loop node)) ∙ ap (λ (n : ℕ). n + 1) (sym (degree_is g.nodes g.neighbours node (p.within node)))
 
   few_ways : (side : Side) (s : State) → IsSound g s → length (reach (graph_of g) (node_of side s)) ≤ width_of (graph_of g)
   few_ways side s here =
@@ -147,8 +144,8 @@ module _ (g : Setting) (p : IsPosition g) where
   width_high : width_of (graph_of g) ≤ 32
   width_high =
       let each : (node : ℕ) → node < g.nodes → degree (graph_of g) node ≤ 31 = λ node h.
-      let most = ones-le g.nodes (with_node (get_or g.neighbours node 0) node) (set_small node h) in
-      omega (arith, ones_with (get_or g.neighbours node 0) node (p.no_loop node), degree_is g.nodes g.neighbours node (p.within node), most, p.nodes_high) in
+      let most = ones-le g.nodes (with_number (get_or g.neighbours node 0) node) (set_small node h) in
+      omega (arith, ones_with (get_or g.neighbours node 0) node (bit_clear (get_or g.neighbours node 0) node (p.no_loop node)), degree_is g.nodes g.neighbours node (p.within node), most, p.nodes_high) in
       omega (arith, greatest_high g.nodes 31 (degree (graph_of g)) each)
 
   sound_root : IsSound g (pursuit_game g).root

@@ -1,7 +1,5 @@
 pub mod Edges
 pub mod Laws
-pub mod NodeLaws
-pub mod Nodes
 pub mod Position
 pub mod Refusals
 pub mod Rules

@@ -3,7 +3,7 @@
 
 ghost use Rattle.std.specs.Prelude.{◌≡◌, ◌<◌, ◌^◌, length, slice_index, MatchResult, None, Some};
 ghost use Rattle.pursuit.specs.Laws.{pursuit_is_game, IsSound};
-ghost use Rattle.pursuit.specs.Nodes.{nodes_in};
+ghost use Rattle.state_key.specs.Sets.{members};
 ghost use Rattle.pursuit.specs.Position.{first_fault, IsPosition, IsSettingOf};
 ghost use Rattle.pursuit.specs.Rules.{graph_of, is_catch, is_over, node_of, pursuit_game, reach, width_of, KeepsRules};
 
@@ -111,7 +111,7 @@ impl Pursuit {
     #[inline]
     fn reach(&self, node: u8) -> u32
         requires { node < self.now.setting.nodes }
-        ensures is { nodes_in self.now.setting.nodes result ≡ reach (graph_of self.now.setting) node }
+        ensures is { members self.now.setting.nodes 0 result ≡ reach (graph_of self.now.setting) node }
         ensures small { result < 2 ^ self.now.setting.nodes }
     {
         with_node(self.setting.neighbours[node as usize], node)

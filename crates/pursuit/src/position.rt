@@ -1,7 +1,7 @@
 //! The rules that the numbers of a position keep, tried one by one, and its graph.
 ghost use Rattle.std.specs.Prelude.{◌≡◌, ℕ, List, ◌<◌, ◌≤◌, ◌^◌, ◌*◌, ◌%◌, ◌||◌, ◌&&◌, ◌==◌, nat_le, All, IfSome, length, position, slice_index, MatchResult, None, Some};
 ghost use Rattle.pursuit.specs.Edges.{is_joined, is_joined_in};
-ghost use Rattle.pursuit.specs.Nodes.{with_node};
+ghost use Rattle.state_key.specs.Sets.{with_number};
 ghost use Rattle.pursuit.specs.Position.{edge_loop, edge_range, first_loop, place_range};
 ghost use Rattle.pursuit.specs.Rules.{graph_from, width_of};
 
@@ -68,7 +68,7 @@ pub(crate) fn check_places(nodes: u8, one: u8, two: u8) -> Result<(), PursuitErr
 #[inline]
 pub(crate) fn with_node(set: u32, node: u8) -> u32
     requires { node < 32 }
-    ensures { result ≡ with_node set node }
+    ensures { result ≡ with_number set node }
 {
     set | 1 << node
 }

@@ -10,9 +10,12 @@ use Rattle.sim_game.specs.Model.{GameModel, IsGame, Reachable}
 use Rattle.sim_game.specs.Sides.{other_side}
 use Rattle.bounds_board.specs.Views.{BoardView}
 use Rattle.restricted_game.specs.declared.held.StepEnd.TheVariants.{Grown, Done}
+use Rattle.restricted_game.specs.declared.plans.Plans.{Plans}
+use Rattle.restricted_game.specs.declared.table.Table.{Table}
 use Rattle.restricted_game.specs.Gaps.{HasStepGap}
 use Rattle.restricted_game.specs.Held.{HeldMoves, AreMoves, IsHolding, count_held, with_move, held_after}
 use Rattle.restricted_game.specs.Runs.{IsPlan, IsStepRun}
+use Rattle.restricted_game.specs.Tables.{ArePlans}
 use Rattle.restricted_game.proofs.HeldLemmas.{moves_more, held_few}
 use Rattle.restricted_game.proofs.StageLemmas.{step_close}
 
@@ -53,13 +56,19 @@ none_from None e = refl
 none_from (Some x) e = absurd (cc)
 
 -- ---- the end
-module _ {S G N : Type 0} (m : GameModel S) (game : IsGame m) (u v : BoardView G N) (s : S) (reach : Reachable m s) (h held : HeldMoves) (is : h ≡ held) (holding : IsHolding h)
-    (most_rows : held.most_rows ≡ m.moves One s) (most_cols : held.most_cols ≡ m.moves Two s) (row col : Option ℕ) (lower upper : ℤ) (run : IsStepRun m u v s h.rows h.cols row col lower upper) where
+module _ {S : Type 0} (m : GameModel S) (s : S) (h held : HeldMoves) (is : h ≡ held) (holding : IsHolding h) (most_rows : held.most_rows ≡ m.moves One s) (most_cols : held.most_cols ≡ m.moves Two s)
+    {total : ℕ} {table : Table} (plans : Plans) (planned : ArePlans m s total h.rows h.cols table plans) where
+  abbrev row : Option ℕ
+  row = plans.two.fresh
+
+  abbrev col : Option ℕ
+  col = plans.one.fresh
+
   new_row : IfSome row (IsNew h.most_rows h.rows)
-  new_row = subst (λ (n : ℕ). IfSome row (IsNew n h.rows)) (sym (ap (λ (k : HeldMoves). k.most_rows) is ∙ most_rows)) (fresh_new m Two s u.total h.cols h.rows run.col_weights run.two.numbers run.two.plan upper row run.two.planned)
+  new_row = subst (λ (n : ℕ). IfSome row (IsNew n h.rows)) (sym (ap (λ (k : HeldMoves). k.most_rows) is ∙ most_rows)) (fresh_new m Two s _ _ _ _ _ _ _ _ planned.two)
 
   new_col : IfSome col (IsNew h.most_cols h.cols)
-  new_col = subst (λ (n : ℕ). IfSome col (IsNew n h.cols)) (sym (ap (λ (k : HeldMoves). k.most_cols) is ∙ most_cols)) (fresh_new m One s u.total h.rows h.cols run.row_weights run.one.numbers run.one.plan lower col run.one.planned)
+  new_col = subst (λ (n : ℕ). IfSome col (IsNew n h.cols)) (sym (ap (λ (k : HeldMoves). k.most_cols) is ∙ most_cols)) (fresh_new m One s _ _ _ _ _ _ _ _ planned.one)
 
   pub row_room : (room len : ℕ) → len ≡ length h.rows → h.most_rows ≤ room → IfSome row (λ _. len < room)
   row_room room len = new_room h.most_rows room len h.rows row holding.rows new_row

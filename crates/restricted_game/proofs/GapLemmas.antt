@@ -1,5 +1,5 @@
 -- Numbers, sums and quotients that are close to each other.
-use Rattle.std.proofs.Common.{◌≡◌, ⊎_elim, ℕ, ◌+◌, ◌<◌, ℤ, pos, ◌+ℤ◌, ◌-ℤ◌, ◌*ℤ◌, ◌≤ℤ◌, ◌<ℤ◌, sym, ap, subst, ◌∙◌, arith}
+use Rattle.std.proofs.Common.{◌≡◌, ⊎_elim, ℕ, ◌+◌, ◌<◌, ℤ, pos, ◌+ℤ◌, ◌*ℤ◌, ◌≤ℤ◌, ◌<ℤ◌, sym, ap, subst, ◌∙◌, arith}
 use Rattle.std.proofs.lemmas.Int.{ints}
 use Rattle.sums.specs.Sums.{sum_below, count_below}
 use Rattle.sums.specs.Quotients.{floor_quotient, ceiling_quotient}
@@ -16,13 +16,6 @@ over_floor k x p = ⊎_elim
     (λ (h : (pos k *ℤ (floor_quotient k x +ℤ pos 1)) <ℤ x). absurd (let wrong = floor_greatest k x (floor_quotient k x +ℤ pos 1) p (omega (arith, ints)) in omega (arith, ints)))
     (λ (h : x ≤ℤ (pos k *ℤ (floor_quotient k x +ℤ pos 1))). h)
     (tighter_or One x (pos k *ℤ (floor_quotient k x +ℤ pos 1)))
-
--- and at least the divisor times one less than its quotient rounded up
-under_ceiling : (k : ℕ) (x : ℤ) → 0 < k → (pos k *ℤ (ceiling_quotient k x -ℤ pos 1)) ≤ℤ x
-under_ceiling k x p = ⊎_elim
-    (λ (h : x <ℤ (pos k *ℤ (ceiling_quotient k x -ℤ pos 1))). absurd (let wrong = ceiling_least k x (ceiling_quotient k x -ℤ pos 1) p (omega (arith, ints)) in omega (arith, ints)))
-    (λ (h : (pos k *ℤ (ceiling_quotient k x -ℤ pos 1)) ≤ℤ x). h)
-    (tighter_or Two x (pos k *ℤ (ceiling_quotient k x -ℤ pos 1)))
 
 -- the quotients of close numbers are one further apart
 pub quotients_close : (total gap : ℕ) (low high : ℤ) → 0 < total → high ≤ℤ (low +ℤ pos total *ℤ pos gap) → ceiling_quotient total high ≤ℤ (floor_quotient total low +ℤ pos (gap + 1))

@@ -1,4 +1,5 @@
 pub mod CellLemmas
+pub mod ChildLemmas
 pub mod EndLemmas
 pub mod GapLemmas
 pub mod HeldLemmas

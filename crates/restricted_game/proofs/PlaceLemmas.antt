@@ -8,6 +8,8 @@ place_within height width stride one two draw p q r =
     let pair : one * width + two < height * width = omega (arith, mul-add-lt one width two height p q) in
     omega (arith, mul-add-lt (one * width + two) stride draw (height * width) pair r)
 
--- pairs of moves with one place are the same
-pub same_pair : (width a b one two : ℕ) → b < width → two < width → a * width + b ≡ one * width + two → (a ≡ one) × (b ≡ two)
-same_pair width a b one two p q e = same_from_place a b one two width p q e
+-- draws with one place are the same
+pub same_place : (width stride a b d one two draw : ℕ) → b < width → two < width → d < stride → draw < stride → place_of width stride a b d ≡ place_of width stride one two draw → (a ≡ one) × (b ≡ two) × (d ≡ draw)
+same_place width stride a b d one two draw p q r l e =
+    let same = same_from_place (a * width + b) d (one * width + two) draw stride r l e in
+    let pair = same_from_place a b one two width p q same.0 in (pair.0, pair.1, same.1)

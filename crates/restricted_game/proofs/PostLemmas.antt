@@ -1,7 +1,6 @@
 -- Entries that may be posted, and lists of entries that grow.
-use Rattle.std.proofs.Common.{◌≡◌, ℕ, ℤ, List, [], ◌∷◌, ◌++◌, refl, sym, ap, subst, ◌∙◌, append_assoc, append-nil}
+use Rattle.std.proofs.Common.{◌≡◌, ℕ, List, [], ◌∷◌, ◌++◌, sym, ap, subst, ◌∙◌, append_assoc, append-nil}
 use Rattle.std.proofs.lemmas.List.Elements.{All-nil, All-cons, All-append}
-use Rattle.sim_game.specs.declared.Side.{Side}
 use Rattle.sim_game.specs.Model.{GameModel}
 use Rattle.plan_book.specs.declared.Entry.{Entry}
 use Rattle.plan_book.specs.Entries.{IsEntry, IsLawfulEntry}
@@ -10,7 +9,7 @@ use Rattle.sim_game.proofs.SideLemmas.{tighter_than}
 use Rattle.bounds_board.specs.Views.{BoardView, IsLater, IsPostable, IsSeenNumber}
 use Rattle.bounds_board.proofs.PlainLemmas.{entry_weaker}
 use Rattle.bounds_board.proofs.ViewLemmas.{seen_later}
-use Rattle.restricted_game.specs.Runs.{IsPosted, posts, passes, entry_at}
+use Rattle.restricted_game.specs.Runs.{IsPosted, posts, passes}
 
 pub grows_none : (P : Entry → Type 0) (xs ys : List Entry) → ys ≡ xs → Grows P xs ys
 grows_none P xs ys e = record { more = []; joins = e ∙ sym (append-nil xs); each = All-nil P }
@@ -31,10 +30,6 @@ postable_later m u v e later h =
 
 pub postable_lawful : {S G N : Type 0} (m : GameModel S) (v : BoardView G N) (e : Entry) → IsPostable m v e → IsLawfulEntry m v.total e
 postable_lawful m v e h = entry_weaker m v.total (IsSeenNumber m v) (λ _ _ _. Unit {0}) e (λ s x _ k. tt) h
-
-pub entry_is : {S : Type 0} (m : GameModel S) (side : Side) (s : S) (key : ℕ) (bound bound' : ℤ) (weights weights' : List ℕ) (reads reads' : List ℤ) → key ≡ m.key s → bound ≡ bound' → weights ≡ weights' → reads ≡ reads'
-    → (let e : Entry = record { key = key; side = side; bound = bound; weights = weights; reads = reads } in e) ≡ entry_at m side s bound' weights' reads'
-entry_is m side s key bound bound' weights weights' reads reads' a b c d = rw (a, b, c, d) refl
 
 -- tighter than what a later view had seen is tighter than what an earlier one had
 pub posted_earlier : {G N : Type 0} (t u : BoardView G N) (e : Entry) (old new : List Entry) → IsLater t u → IsPosted u e old new → IsPosted t e old new

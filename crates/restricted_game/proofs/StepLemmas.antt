@@ -1,5 +1,5 @@
 -- What a plan proves at the state: its entry, and a side's part of the step.
-use Rattle.std.proofs.Common.{◌≡◌, inl, ℕ, ◌<◌, ◌≤◌, ℤ, pos, ◌*ℤ◌, Option, List, sum, get_or, slice_index, refl, sym, ap, subst, ◌∙◌}
+use Rattle.std.proofs.Common.{◌≡◌, inl, ℕ, ◌<◌, ◌≤◌, ℤ, pos, ◌*ℤ◌, Option, Some, List, sum, get_or, slice_index, refl, sym, ap, subst, ◌∙◌, arith}
 use Rattle.sums.specs.Sums.{count_below}
 use Rattle.sums.proofs.CountLemmas.{count_list}
 use Rattle.sums.proofs.SumLemmas.{sum_weights}
@@ -18,7 +18,7 @@ use Rattle.bounds_board.specs.Views.{BoardView, IsLater, IsPostable}
 use Rattle.bounds_board.proofs.ViewLemmas.{later_refl}
 use Rattle.restricted_game.specs.declared.plans.Plans.{Plans}
 use Rattle.restricted_game.specs.declared.table.Table.{Table}
-use Rattle.restricted_game.specs.Numbers.{IsClaimed, IsReadNumber, IsWanted}
+use Rattle.restricted_game.specs.Numbers.{IsReadNumber, IsWanted}
 use Rattle.restricted_game.specs.Runs.{IsPlan, IsSideRun, IsPosted, IsStepRun, entry_at}
 use Rattle.restricted_game.specs.Tables.{IsFilled, ArePlans, ArePosted, numbers_in, side_entry}
 use Rattle.restricted_game.proofs.CellLemmas.{mean_from}
@@ -68,15 +68,15 @@ module _ {S G N : Type 0} (m : GameModel S) (game : IsGame m) (s : S) (reach : R
   bound_high : IsNoTighter side bound (opening_bound m (other_side side))
   bound_high = backed_within m game side s bound reach (by_step s bound total plan numbers plan_step (λ move other draw p q t w. (weighted_read move other draw p q t w).backed))
 
-  plan_postable : (reads : List ℤ) → reads ≡ reads_of m side s plan numbers → v.total ≡ total → IsPostable m v (entry_at m side s bound plan reads)
-  plan_postable reads listed is_total = let range = in_range m side bound bound_low bound_high in record {
+  plan_postable : v.total ≡ total → IsPostable m v (entry_at m side s bound plan (reads_of m side s plan numbers))
+  plan_postable is_total = let range = in_range m side bound bound_low bound_high in record {
     state = s;
     reachable = reach;
     is_key = refl;
     low = range.0;
     high = range.1;
     numbers = numbers;
-    listed = listed;
+    listed = refl;
     step = subst (λ (n : ℕ). IsStep m side s n plan numbers bound) (sym is_total) plan_step;
     backed = λ move other draw p q t w. (weighted_read move other draw p q t w).backed;
     known = λ move other draw p q t w. number_seen m u v side _ _ (weighted_read move other draw p q t w);
@@ -92,21 +92,27 @@ module _ {S G N : Type 0} (m : GameModel S) (game : IsGame m) (s : S) (reach : R
   }
 
 -- ---- both sides
-module _ {S G N : Type 0} (m : GameModel S) (game : IsGame m) (s : S) (reach : Reachable m s) (goes_on : 1 ≤ m.rank s) (u v : BoardView G N) (read : IsLater u v) (some : 1 ≤ u.total) (rows cols : List ℕ) (table : Table) (filled : IsFilled m u v s rows cols table)
-    (plans : Plans) (planned : ArePlans m s u.total rows cols table plans) where
-  pub one_postable : IsPostable m v (side_entry m One s plans.one)
+module _ {S G N : Type 0} (m : GameModel S) (game : IsGame m) (s : S) (reach : Reachable m s) (goes_on : 1 ≤ m.rank s) {u v : BoardView G N} {total : ℕ} (is_total : total ≡ u.total) (low : 8192 ≤ total) {rows cols : List ℕ} {table : Table} {plans : Plans}
+    (read : IsLater u v) (filled : IsFilled m u v s rows cols table) (are_plans : ArePlans m s total rows cols table plans) where
+  some : 1 ≤ u.total
+  some = omega (arith, low, is_total)
+
+  planned : ArePlans m s u.total rows cols table plans
+  planned = subst (λ (n : ℕ). ArePlans m s n rows cols table plans) is_total are_plans
+
+  pub one_postable : IsPostable m v (side_entry m One s table plans.one)
   one_postable =
       plan_postable m game s reach goes_on u v One u.total some rows cols planned.row_weights planned.stage.rows.all (numbers_in One table) plans.one.weights.items plans.one.bound plans.one.fresh planned.one
-      (one_read m u v s rows cols table filled) plans.one.reads.items planned.one_reads read.total
+      (one_read m u v s rows cols table filled) read.total
 
-  pub two_postable : IsPostable m v (side_entry m Two s plans.two)
+  pub two_postable : IsPostable m v (side_entry m Two s table plans.two)
   two_postable =
       plan_postable m game s reach goes_on u v Two u.total some cols rows planned.col_weights planned.stage.cols.all (numbers_in Two table) plans.two.weights.items plans.two.bound plans.two.fresh planned.two
-      (two_read m u v s rows cols table filled) plans.two.reads.items planned.two_reads read.total
+      (two_read m u v s rows cols table filled) read.total
 
-  pub step_run : (w : BoardView G N) → IsLater v w → v.entries ≡ u.entries → IsClaimed w (m.key s) → ArePosted m v w s plans → IsStepRun m u w s rows cols plans.two.fresh plans.one.fresh plans.one.bound plans.two.bound
-  step_run w after quiet claimed posted = record {
-    claimed = claimed;
+  pub step_run : {w : BoardView G N} {row : ℕ} → IsLater v w → v.entries ≡ u.entries → u.key_at row ≡ Some (m.key s) → ArePosted m v w s table plans → IsStepRun m u w s rows cols plans.two.fresh plans.one.fresh plans.one.bound plans.two.bound
+  step_run {w} {row} after quiet holds posted = record {
+    claimed = record { row = row; holds = after.keys row _ (read.keys row _ holds) };
     grid = planned.grid;
     row_weights = planned.row_weights;
     col_weights = planned.col_weights;
@@ -117,8 +123,6 @@ module _ {S G N : Type 0} (m : GameModel S) (game : IsGame m) (s : S) (reach : R
         (two_read m u v s rows cols table filled) w after posted.two_seen;
     is_grid = planned.is_grid;
     between = posted.between;
-    one_posted = subst (λ (e : Entry). IsPosted u e u.entries posted.between) (ap (entry_at m One s plans.one.bound plans.one.weights.items) planned.one_reads)
-        (subst (λ (l : List Entry). IsPosted u (side_entry m One s plans.one) l posted.between) quiet (posted_earlier u v _ _ _ read posted.one_posted));
-    two_posted = subst (λ (e : Entry). IsPosted u e posted.between w.entries) (ap (entry_at m Two s plans.two.bound plans.two.weights.items) planned.two_reads)
-        (posted_earlier u v _ _ _ read posted.two_posted);
+    one_posted = subst (λ (l : List Entry). IsPosted u (side_entry m One s table plans.one) l posted.between) quiet (posted_earlier u v _ _ _ read posted.one_posted);
+    two_posted = posted_earlier u v _ _ _ read posted.two_posted;
   }

@@ -1,3 +1,4 @@
+pub mod Children
 pub mod Gaps
 pub mod Held
 pub mod Numbers

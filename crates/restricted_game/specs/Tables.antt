@@ -32,14 +32,9 @@ pub record IsStride {S : Type 0} (m : GameModel S) (stride : ℕ) : Type 0 where
   pub few : stride ≤ 13
   pub draws : (s : S) (one two : ℕ) → Reachable m s → one < m.moves One s → two < m.moves Two s → m.draws s one two ≤ stride
 
--- the first draws after a pair of moves were read between two views into the places from a base on, and no earlier place changed
-pub record AreDrawn {S G N : Type 0} (m : GameModel S) (u v : BoardView G N) (s : S) (one two base count : ℕ) (old new : List Enclosure) : Type 0 where
-  pub earlier : (place : ℕ) → place < base → enclosure_at new place ≡ enclosure_at old place
-  pub read : (draw : ℕ) → draw < count → AreRead m u v (m.drawn s one two draw) (enclosure_at new (base + draw))
-
--- the draws after the first pairs of moves, row by row, were read between two views where they are wanted
-pub record AreFilled {S G N : Type 0} (m : GameModel S) (u v : BoardView G N) (s : S) (rows cols : List ℕ) (width stride pairs : ℕ) (enclosures : List Enclosure) : Type 0 where
-  pub read : (one two draw : ℕ) → one < m.moves One s → two < m.moves Two s → one * width + two < pairs → IsWanted rows cols one two → draw < m.draws s one two
+-- the wanted draws at the first places were read between two views
+pub record AreFilled {S G N : Type 0} (m : GameModel S) (u v : BoardView G N) (s : S) (rows cols : List ℕ) (width stride places : ℕ) (enclosures : List Enclosure) : Type 0 where
+  pub read : (one two draw : ℕ) → one < m.moves One s → two < m.moves Two s → place_of width stride one two draw < places → IsWanted rows cols one two → draw < m.draws s one two
       → AreRead m u v (m.drawn s one two draw) (enclosure_at enclosures (place_of width stride one two draw))
 
 -- ---- a whole table
@@ -88,17 +83,15 @@ pub record ArePlans {S : Type 0} (m : GameModel S) (s : S) (total : ℕ) (rows c
   pub is_grid : IsHeldGrid m s rows cols (numbers_in One table) grid
   pub one : IsPlan m One s total rows cols row_weights (numbers_in One table) plans.one.weights.items plans.one.bound plans.one.fresh
   pub two : IsPlan m Two s total cols rows col_weights (numbers_in Two table) plans.two.weights.items plans.two.bound plans.two.fresh
-  pub one_reads : plans.one.reads.items ≡ reads_of m One s plans.one.weights.items (numbers_in One table)
-  pub two_reads : plans.two.reads.items ≡ reads_of m Two s plans.two.weights.items (numbers_in Two table)
 
--- the entry of a side's plan
-abbrev pub side_entry : {S : Type 0} → GameModel S → Side → S → SidePlan → Entry
-side_entry m side s plan = entry_at m side s plan.bound plan.weights.items plan.reads.items
+-- the entry of a side's plan over the numbers of a table
+abbrev pub side_entry : {S : Type 0} → GameModel S → Side → S → Table → SidePlan → Entry
+side_entry m side s table plan = entry_at m side s plan.bound plan.weights.items (reads_of m side s plan.weights.items (numbers_in side table))
 
 -- the entries of both plans were posted where they are tighter, One's first
-pub record ArePosted {S G N : Type 0} (m : GameModel S) (u v : BoardView G N) (s : S) (plans : Plans) : Type 0 where
+pub record ArePosted {S G N : Type 0} (m : GameModel S) (u v : BoardView G N) (s : S) (table : Table) (plans : Plans) : Type 0 where
   pub between : List Entry
-  pub one_posted : IsPosted u (side_entry m One s plans.one) u.entries between
-  pub two_posted : IsPosted u (side_entry m Two s plans.two) between v.entries
+  pub one_posted : IsPosted u (side_entry m One s table plans.one) u.entries between
+  pub two_posted : IsPosted u (side_entry m Two s table plans.two) between v.entries
   pub one_seen : IsNoTighter One plans.one.bound (v.seen One (m.key s))
   pub two_seen : IsNoTighter Two plans.two.bound (v.seen Two (m.key s))

@@ -5,14 +5,18 @@ ghost use Rattle.plan_book.specs.Books.{Grows};
 ghost use Rattle.plan_book.specs.Entries.{IsLawfulEntry};
 ghost use Rattle.matrix_game.specs.Budget.{left_of, after_turn};
 ghost use Rattle.bounds_board.specs.Views.{IsLater, WasFull};
+ghost use Rattle.restricted_game.specs.Children.{AreChildRows};
 ghost use Rattle.restricted_game.specs.Held.{AreMoves, HasGrown, held_after, with_move};
 ghost use Rattle.restricted_game.specs.Gaps.{HasStepGap};
 ghost use Rattle.restricted_game.specs.Numbers.{IsReadChild};
 ghost use Rattle.restricted_game.specs.Runs.{IsStepEnd};
 
-use crate::steps::find;
-use bounds_board::{Bounds, Row};
-use matrix_game::Turns;
+use crate::children::ChildRows;
+use crate::plans::plan_both;
+use crate::posts::post_both;
+use crate::reading::read_table;
+use bounds_board::{BoardFault, Bounds, Row};
+use matrix_game::{StageMemory, Turns};
 use sim_game::{Game, NoMemory, Side};
 use std::alloc::Global;
 use std::marker::Model;
@@ -47,6 +51,7 @@ pub struct Restricted {
 
 impl Model for Restricted {
     ghost use Rattle.std.specs.Prelude.{◌≤◌, vec_capacity};
+    ghost use Rattle.restricted_game.specs.Children.{AreChildRows};
     ghost use Rattle.restricted_game.specs.Held.{HeldMoves, IsHolding};
 
     ghost Value = { HeldMoves };
@@ -105,15 +110,17 @@ impl Restricted {
     /// Reads the states after held moves, solves the game on the held moves for one turn, posts what the weights of each
     /// side prove against all replies, and holds the best replies that were not held.
     ///
-    /// The state is one that is no end, and has as many moves of each side as this game was made for; the row is its own.
-    /// `Spent` comes where no turn is left, before all else; `Full` where the claim of a child found the board full.
+    /// The state is one that is no end, and has as many moves of each side as this game was made for; the row is its own,
+    /// and `children` keeps the rows of the states that it reads. `Spent` comes where no turn is left, before all else; `Full` where the claim of a child found the board full.
     pub fn step<G: Game, B: Bounds<G>>(
         &mut self,
         g: G,
         s: G::State,
         row: Row,
+        children: &mut ChildRows,
         board: &mut B,
         turns: &mut Turns,
+        memory: &mut StageMemory,
     ) -> Result<StepEnd, StepFault>
         requires game { (B.view board.old).game ≡ g }
         requires reachable { Reachable (G.model g) s }
@@ -121,8 +128,10 @@ impl Restricted {
         requires row { (B.view board.old).key_at row ≡ Some ((G.model g).key s) }
         requires rows { self.old.most_rows ≡ (G.model g).moves Side.One s }
         requires cols { self.old.most_cols ≡ (G.model g).moves Side.Two s }
+        requires children { AreChildRows (G.model g) (B.view board.old) s children.old }
         ensures later { IsLater (B.view board.old) (B.view board.new) }
         ensures posted { Grows (IsLawfulEntry (G.model g) (B.view board.old).total) (B.view board.old).entries (B.view board.new).entries }
+        ensures children { AreChildRows (G.model g) (B.view board.new) s children.new }
         ensures ended { IfOk result (IsStepEnd (G.model g) (B.view board.old) (B.view board.new) s self.old) }
         ensures gap { IfOk result (HasStepGap (G.model g) (B.view board.old) (B.view board.new) s self.old) }
         ensures held { IfOk result (λ end. self.new ≡ held_after self.old end) }
@@ -138,24 +147,36 @@ impl Restricted {
         ensures no_turn { (result ≡ Err StepFault.Spent) ⊎ (result ≡ Err StepFault.Full) → turns.new ≡ turns.old }
         ensures one_turn { (turns.new ≡ turns.old) ⊎ (turns.new ≡ after_turn turns.old) }
     {
+        if turns.left() == 0 {
+            return Err(StepFault::Spent);
+        }
         let alloc = *self.rows.allocator();
         let rows = self.rows.as_slice();
         let cols = self.cols.as_slice();
-        let found = match find(alloc, g, s, row, rows, cols, board, turns) {
-            Ok(found) => found,
-            Err(fault) => return Err(fault),
+        let total = board.total();
+        let table = match read_table(alloc, g, s, rows, cols, children, board) {
+            Ok(table) => table,
+            Err(BoardFault::Full) => return Err(StepFault::Full),
+            Err(BoardFault::NoMemory) => return Err(StepFault::NoMemory),
         };
-        if found.row.is_none() && found.col.is_none() {
-            return Ok(StepEnd::Done {
-                lower: found.lower,
-                upper: found.upper,
-            });
+        let plans = match plan_both(alloc, g, s, total, &table, rows, cols, turns, memory) {
+            Ok(plans) => plans,
+            Err(_) => return Err(StepFault::NoMemory),
+        };
+        let (lower, fresh_col) = (plans.one.bound, plans.one.fresh);
+        let (upper, fresh_row) = (plans.two.bound, plans.two.fresh);
+        match post_both(alloc, g, s, row, &table, plans, board) {
+            Ok(()) => {}
+            Err(_) => return Err(StepFault::NoMemory),
         }
-        hold(&mut self.rows, found.row);
-        hold(&mut self.cols, found.col);
+        if fresh_row.is_none() && fresh_col.is_none() {
+            return Ok(StepEnd::Done { lower, upper });
+        }
+        hold(&mut self.rows, fresh_row);
+        hold(&mut self.cols, fresh_col);
         Ok(StepEnd::Grown {
-            row: found.row,
-            col: found.col,
+            row: fresh_row,
+            col: fresh_col,
         })
     }
 }

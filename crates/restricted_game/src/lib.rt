@@ -4,15 +4,16 @@
 ghost use Rattle.restricted_game.specs.Held.{FewSteps};
 
 mod cells;
+mod children;
 mod held;
 mod plans;
 mod posts;
 mod reading;
 mod reads;
 mod stage;
-mod steps;
 mod table;
 
+pub use children::ChildRows;
 pub use held::{Restricted, StepEnd, StepFault};
 
 /// A restricted game takes at most 63 steps up to and with the first that is done.

@@ -2,7 +2,6 @@
 ghost use Rattle.std.specs.Prelude.{◌≡◌, ◌*◌, ◌≤◌, ◌<◌, ◌⊎◌, All, length, IfOk, OnOk, OnErr};
 ghost use Rattle.sim_game.specs.Model.{Reachable};
 ghost use Rattle.sim_game.specs.Sides.{other_side, move_of_one, move_of_two};
-ghost use Rattle.plan_book.specs.Entries.{reads_of};
 ghost use Rattle.matrix_game.specs.Budget.{left_of, after_turn};
 ghost use Rattle.matrix_game.specs.Grid.{IsSmall};
 ghost use Rattle.matrix_game.specs.Rounds.{IsWeighted};
@@ -12,11 +11,10 @@ ghost use Rattle.restricted_game.specs.Runs.{IsSpread, IsPlan};
 ghost use Rattle.restricted_game.specs.Tables.{HasShape, ArePlans, cells_in, numbers_in};
 
 use crate::cells::cells_of;
-use crate::reads::reads_of;
 use crate::stage::solve_held;
 use crate::table::Table;
 use best_reply::{Reply, reply_one, reply_two};
-use matrix_game::Turns;
+use matrix_game::{StageMemory, Turns};
 use sim_game::{Game, NoMemory, Side};
 use std::alloc::Global;
 
@@ -68,8 +66,6 @@ pub(crate) struct SidePlan {
     pub(crate) fresh: Option<u32>,
     /// One weight for each own move.
     pub(crate) weights: Vec<u32>,
-    /// The numbers after each own move of positive weight.
-    pub(crate) reads: Vec<i64>,
 }
 
 /// Plans by the weights of the held moves, over the cells and numbers of the side.
@@ -95,17 +91,14 @@ pub(crate) fn plan_side<G: Game>(
     requires weights { IsWeighted (length own.now) total weights.now }
     requires some { 1 ≤ total }
     requires light { total ≤ 1048576 }
-    ensures plan { IfOk result (λ p. IsPlan (G.model g) side s total own.now others.now weights.now (numbers_in side table.now) p.weights.items p.bound p.fresh) }
-    ensures reads { IfOk result (λ p. p.reads.items ≡ reads_of (G.model g) side s p.weights.items (numbers_in side table.now)) }
+    ensures { IfOk result (λ p. IsPlan (G.model g) side s total own.now others.now weights.now (numbers_in side table.now) p.weights.items p.bound p.fresh) }
 {
     let plan = spread(alloc, own, weights, g.moves(side, s))?;
     let reply = reply_to(side, cells, table.height, table.width, &plan, others);
-    let reads = reads_of(alloc, g, s, side, &plan, table)?;
     Ok(SidePlan {
         bound: side.quotient(reply.sum, total),
         fresh: reply.fresh.then_some(reply.place),
         weights: plan,
-        reads,
     })
 }
 
@@ -127,6 +120,7 @@ pub(crate) fn plan_both<G: Game>(
     rows: &[u32],
     cols: &[u32],
     turns: &mut Turns,
+    memory: &mut StageMemory,
 ) -> Result<Plans, NoMemory>
     requires reachable { Reachable (G.model g) s }
     requires goes_on { 1 ≤ (G.model g).rank s }
@@ -151,6 +145,7 @@ pub(crate) fn plan_both<G: Game>(
         cols,
         total,
         turns,
+        memory,
     )?;
     let p = stage.p.as_slice();
     let v = stage.v.as_slice();

@@ -1,48 +1,73 @@
 //! Posts of what the plans prove.
-ghost use Rattle.std.specs.Prelude.{◌≡◌, Some, OnOk};
+ghost use Rattle.std.specs.Prelude.{◌≡◌, Some, IfOk, OnOk, length};
 ghost use Rattle.sim_game.specs.Model.{Reachable};
 ghost use Rattle.sim_game.specs.Sides.{IsNoTighter};
 ghost use Rattle.plan_book.specs.Books.{Grows};
 ghost use Rattle.plan_book.specs.Entries.{IsLawfulEntry};
 ghost use Rattle.bounds_board.specs.Views.{IsLater, IsPostable};
 ghost use Rattle.restricted_game.specs.Runs.{IsPosted};
-ghost use Rattle.restricted_game.specs.Tables.{side_entry, ArePosted};
+ghost use Rattle.restricted_game.specs.Tables.{HasShape, side_entry, ArePosted};
 
 use crate::plans::{Plans, SidePlan};
+use crate::reads::reads_of;
+use crate::table::Table;
 use bounds_board::{Bounds, Row};
 use plan_book::Entry;
 use seq::Seq;
 use sim_game::{Game, NoMemory, Side};
+use std::alloc::Global;
+
+/// The entry of a side's plan, with the numbers of the table that it rests on.
+fn entry_of<G: Game>(
+    alloc: Global,
+    g: G,
+    s: G::State,
+    side: Side,
+    table: &Table,
+    plan: SidePlan,
+) -> Result<Entry, NoMemory>
+    requires reachable { Reachable (G.model g) s }
+    requires shape { HasShape (G.model g) s table.now }
+    requires weights { length plan.weights.items ≡ (G.model g).moves side s }
+    ensures { IfOk result (λ e. e ≡ side_entry (G.model g) side s table.now plan) }
+{
+    let reads = reads_of(alloc, g, s, side, &plan.weights, table)?;
+    Ok(Entry {
+        key: g.key(s),
+        side,
+        bound: plan.bound,
+        weights: Seq::from_vec(plan.weights),
+        reads: Seq::from_vec(reads),
+    })
+}
 
 /// Posts the bound of a side's plan, where it is tighter than the one read at the state.
 fn post_plan<G: Game, B: Bounds<G>>(
+    alloc: Global,
     g: G,
     s: G::State,
     side: Side,
     row: Row,
+    table: &Table,
     plan: SidePlan,
     board: &mut B,
 ) -> Result<(), NoMemory>
     requires game { (B.view board.old).game ≡ g }
     requires reachable { Reachable (G.model g) s }
     requires row { (B.view board.old).key_at row ≡ Some ((G.model g).key s) }
-    requires entry { IsPostable (G.model g) (B.view board.old) (side_entry (G.model g) side s plan) }
+    requires shape { HasShape (G.model g) s table.now }
+    requires weights { length plan.weights.items ≡ (G.model g).moves side s }
+    requires entry { IsPostable (G.model g) (B.view board.old) (side_entry (G.model g) side s table.now plan) }
     ensures later { IsLater (B.view board.old) (B.view board.new) }
     ensures lawful { Grows (IsLawfulEntry (G.model g) (B.view board.old).total) (B.view board.old).entries (B.view board.new).entries }
-    ensures posted { OnOk result (IsPosted (B.view board.old) (side_entry (G.model g) side s plan) (B.view board.old).entries (B.view board.new).entries) }
+    ensures posted { OnOk result (IsPosted (B.view board.old) (side_entry (G.model g) side s table.now plan) (B.view board.old).entries (B.view board.new).entries) }
     ensures seen { OnOk result (IsNoTighter side plan.bound ((B.view board.new).seen side ((G.model g).key s))) }
 {
     let known = board.read(row).of(side);
     if !side.is_tighter(plan.bound, known) {
         return Ok(());
     }
-    let e = Entry {
-        key: g.key(s),
-        side,
-        bound: plan.bound,
-        weights: Seq::from_vec(plan.weights),
-        reads: Seq::from_vec(plan.reads),
-    };
+    let e = entry_of(alloc, g, s, side, table, plan)?;
     match board.post(row, e) {
         Ok(()) => Ok(()),
         Err(_) => Err(NoMemory),
@@ -51,23 +76,28 @@ fn post_plan<G: Game, B: Bounds<G>>(
 
 /// Posts the bounds of both plans, One's first.
 pub(crate) fn post_both<G: Game, B: Bounds<G>>(
+    alloc: Global,
     g: G,
     s: G::State,
     row: Row,
+    table: &Table,
     plans: Plans,
     board: &mut B,
 ) -> Result<(), NoMemory>
     requires game { (B.view board.old).game ≡ g }
     requires reachable { Reachable (G.model g) s }
     requires row { (B.view board.old).key_at row ≡ Some ((G.model g).key s) }
-    requires one { IsPostable (G.model g) (B.view board.old) (side_entry (G.model g) Side.One s plans.one) }
-    requires two { IsPostable (G.model g) (B.view board.old) (side_entry (G.model g) Side.Two s plans.two) }
+    requires shape { HasShape (G.model g) s table.now }
+    requires rows { length plans.one.weights.items ≡ (G.model g).moves Side.One s }
+    requires cols { length plans.two.weights.items ≡ (G.model g).moves Side.Two s }
+    requires one { IsPostable (G.model g) (B.view board.old) (side_entry (G.model g) Side.One s table.now plans.one) }
+    requires two { IsPostable (G.model g) (B.view board.old) (side_entry (G.model g) Side.Two s table.now plans.two) }
     ensures later { IsLater (B.view board.old) (B.view board.new) }
     ensures lawful { Grows (IsLawfulEntry (G.model g) (B.view board.old).total) (B.view board.old).entries (B.view board.new).entries }
-    ensures posted { OnOk result (ArePosted (G.model g) (B.view board.old) (B.view board.new) s plans) }
+    ensures posted { OnOk result (ArePosted (G.model g) (B.view board.old) (B.view board.new) s table.now plans) }
 {
     let Plans { one, two } = plans;
-    post_plan(g, s, Side::One, row, one, board)?;
-    post_plan(g, s, Side::Two, row, two, board)?;
+    post_plan(alloc, g, s, Side::One, row, table, one, board)?;
+    post_plan(alloc, g, s, Side::Two, row, table, two, board)?;
     Ok(())
 }

@@ -7,7 +7,7 @@ ghost use Rattle.restricted_game.specs.Runs.{IsHeldStage};
 ghost use Rattle.restricted_game.specs.Tables.{held_grid};
 
 use crate::cells::held_cells;
-use matrix_game::{Matrix, StageError, StagePlans, Turns};
+use matrix_game::{Matrix, StageError, StageMemory, StagePlans, Turns};
 use sim_game::NoMemory;
 use std::alloc::Global;
 
@@ -21,6 +21,7 @@ pub(crate) fn solve_held(
     cols: &[u32],
     total: u32,
     turns: &mut Turns,
+    memory: &mut StageMemory,
 ) -> Result<StagePlans, NoMemory>
     requires rows { AreMoves height rows.now }
     requires cols { AreMoves width cols.now }
@@ -37,7 +38,7 @@ pub(crate) fn solve_held(
 {
     let held = held_cells(alloc, cells, height, width, rows, cols)?;
     match Matrix::new(rows.len() as u32, cols.len() as u32, held) {
-        Ok(matrix) => match matrix.solve(alloc, total, turns) {
+        Ok(matrix) => match matrix.solve_with_memory(alloc, total, turns, memory) {
             Ok(plans) => Ok(plans),
             Err(StageError::NoMemory) => Err(NoMemory),
             Err(StageError::Spent) => unreachable!(),

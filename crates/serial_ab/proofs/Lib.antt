@@ -5,4 +5,5 @@ pub mod EntryLemmas
 pub mod KeptLemmas
 pub mod RootLemmas
 pub mod SearchLemmas
+pub mod TableLemmas
 pub mod ValueLemmas

@@ -1,5 +1,5 @@
 -- What a search finds, and what it keeps.
-use Rattle.std.specs.Prelude.{◌≡◌, ℕ, ◌<◌, ◌≤◌, ℤ, Result, Ok, Err, List, [], ◌∷◌, ◌++◌, length}
+use Rattle.std.specs.Prelude.{◌≡◌, ℕ, ◌<◌, ◌≤◌, ℤ, Some, Result, Ok, Err, List, [], ◌∷◌, ◌++◌, length}
 use Rattle.sim_game.specs.declared.Side.{Side}
 use Rattle.sim_game.specs.Model.{GameModel}
 use Rattle.plan_book.specs.declared.Entry.{Entry}
@@ -50,6 +50,11 @@ pub record IsFound {S G N : Type 0} (m : GameModel S) (side : Side) (s : S) (wor
   pub seen : IsTighter side x worse → IsSeenNumber m v side s x
   pub reached : IsTighter side better x → IsNoTighter side (serial_bound m side s) x
   pub opened : 1 ≤ m.rank s → IsNoTighter side (opening_bound m side) (v.seen side (m.key s))
+
+-- the row of a state, where what was seen is no looser than the opening bound
+pub record IsOpened {S G N : Type 0} (m : GameModel S) (side : Side) (s : S) (v : BoardView G N) (row : ℕ) : Type 0 where
+  pub has_key : v.key_at row ≡ Some (m.key s)
+  pub opened : IsNoTighter side (opening_bound m side) (v.seen side (m.key s))
 
 -- the same of an own move
 pub record IsMoveFound {S G N : Type 0} (m : GameModel S) (side : Side) (s : S) (own : ℕ) (floor better : ℤ) (v : BoardView G N) (x : ℤ) : Type 0 where

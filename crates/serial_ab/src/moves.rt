@@ -9,10 +9,11 @@ ghost use Rattle.bounds_board.specs.Views.{IsLater};
 ghost use Rattle.serial_ab.specs.Searches.{IsReplied, IsPureEntry};
 
 use crate::stop::Stop;
+use crate::task::Task;
 use bounds_board::{Bounds, Row};
 use plan_book::Entry;
 use seq::Seq;
-use sim_game::{Game, Side};
+use sim_game::Game;
 use std::alloc::Global;
 
 /// Adds a number at the end.
@@ -59,37 +60,40 @@ pub(crate) fn pure_weights(
 
 /// Posts the step by one move over the numbers at its children, where its bound is tighter than what is read.
 pub(crate) fn post_move<G: Game, B: Bounds<G>>(
-    alloc: Global,
-    g: &G,
+    task: &Task<G>,
     s: G::State,
-    side: Side,
-    own: u32,
     row: Row,
+    own: u32,
     bound: i64,
     reads: &[i64],
     board: &mut B,
 ) -> Result<(), Stop>
-    requires game { (B.view board.old).game ≡ g.now }
-    requires reachable { Reachable (G.model g.now) s }
-    requires goes_on { 1 ≤ (G.model g.now).rank s }
-    requires own_move { own < (G.model g.now).moves side s }
-    requires row { (B.view board.old).key_at row ≡ Some ((G.model g.now).key s) }
-    requires low { IsNoTighter side (opening_bound (G.model g.now) side) bound }
-    requires replied { IsReplied (G.model g.now) side s own ((G.model g.now).moves (other_side side) s) (B.view board.old) reads.now bound }
+    requires game { (B.view board.old).game ≡ task.now.game }
+    requires reachable { Reachable (G.model task.now.game) s }
+    requires goes_on { 1 ≤ (G.model task.now.game).rank s }
+    requires own_move { own < (G.model task.now.game).moves task.now.side s }
+    requires row { (B.view board.old).key_at row ≡ Some ((G.model task.now.game).key s) }
+    requires low { IsNoTighter task.now.side (opening_bound (G.model task.now.game) task.now.side) bound }
+    requires replied { IsReplied (G.model task.now.game) task.now.side s own ((G.model task.now.game).moves (other_side task.now.side) s) (B.view board.old) reads.now bound }
     ensures later { IsLater (B.view board.old) (B.view board.new) }
-    ensures posted { Grows (IsPureEntry (G.model g.now) (B.view board.old).total) (B.view board.old).entries (B.view board.new).entries }
-    ensures seen { OnOk result (IsNoTighter side bound ((B.view board.new).seen side ((G.model g.now).key s))) }
+    ensures posted { Grows (IsPureEntry (G.model task.now.game) (B.view board.old).total) (B.view board.old).entries (B.view board.new).entries }
+    ensures seen { OnOk result (IsNoTighter task.now.side bound ((B.view board.new).seen task.now.side ((G.model task.now.game).key s))) }
     ensures err { OnErr result (result ≡ Err Stop.NoMemory) }
 {
-    let known = board.read(row).of(side);
-    if !side.is_tighter(bound, known) {
+    let known = board.read(row).of(task.side);
+    if !task.side.is_tighter(bound, known) {
         return Ok(());
     }
-    let weights = pure_weights(alloc, board.total(), g.moves(side, s), own)?;
-    let reads = copied(alloc, reads)?;
+    let weights = pure_weights(
+        task.alloc,
+        board.total(),
+        task.game.moves(task.side, s),
+        own,
+    )?;
+    let reads = copied(task.alloc, reads)?;
     let e = Entry {
-        key: g.key(s),
-        side,
+        key: task.game.key(s),
+        side: task.side,
         bound,
         weights: Seq::from_vec(weights),
         reads: Seq::from_vec(reads),

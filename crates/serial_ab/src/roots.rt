@@ -7,10 +7,13 @@ ghost use Rattle.plan_book.specs.Serial.{serial_bound, tree_size};
 ghost use Rattle.bounds_board.specs.Views.{WasFull};
 ghost use Rattle.serial_ab.specs.Counts.{left_on, IsCut};
 ghost use Rattle.serial_ab.specs.Searches.{Ends, IsKept};
+ghost use Rattle.serial_ab.specs.Transpositions.{AreRemembered};
 ghost use Rattle.serial_ab.specs.Roots.{IsSearchable, IsRootValue, IsRootEnd, HasCounted};
 
 use crate::search::search_state;
 use crate::stop::Stop;
+use crate::task::Task;
+use crate::transpositions::{TABLE_LIMIT, TranspositionTable};
 use crate::visits::Visits;
 use bounds_board::{Bounds, PlainBoard};
 use sim_game::{Game, NoMemory, Side, end_bound, opening_bound};
@@ -76,8 +79,9 @@ fn search_both<G: Game, B: Bounds<G>>(
     ensures ends { IfOk result (IsRootEnd (G.model g) (B.view board.old).rows visits.old visits.new) }
     ensures counted { HasCounted visits.old visits.new }
 {
-    match search_root(alloc, g, Side::One, visits, board) {
-        Ok(lower) => match search_root(alloc, g, Side::Two, visits, board) {
+    let mut table = TranspositionTable::new(alloc, TABLE_LIMIT);
+    match search_root(alloc, g, Side::One, visits, &mut table, board) {
+        Ok(lower) => match search_root(alloc, g, Side::Two, visits, &mut table, board) {
             Ok(upper) => Ok(RootEnd::Found { lower, upper }),
             Err(Stop::Cut) => Ok(RootEnd::Cut { side: Side::Two }),
             Err(Stop::Full) => Ok(RootEnd::Full),
@@ -95,19 +99,27 @@ fn search_root<G: Game, B: Bounds<G>>(
     g: G,
     side: Side,
     visits: &mut Visits,
+    table: &mut TranspositionTable,
     board: &mut B,
 ) -> Result<i64, Stop>
     requires game { (B.view board.old).game ≡ g }
+    requires remembered { AreRemembered (G.model g) (B.view board.old) table.old }
     requires searched { IsSearchable (G.model g) }
     ensures kept { IsKept (G.model g) side (tree_size (G.model g) (G.model g).root) (B.view board.old) (B.view board.new) visits.old visits.new }
+    ensures remembered { AreRemembered (G.model g) (B.view board.new) table.new }
     ensures ends { Ends (IsRootValue (G.model g) side visits.old visits.new) (IsCut side (tree_size (G.model g) (G.model g).root) visits.old visits.new)
         ((1 ≤ left_on side visits.old) × WasFull (G.model g) (B.view board.new) (LeadsTo (G.model g) (G.model g).root)) result }
 {
     let worse = opening_bound(g, side);
     let better = opening_bound(g, side.other());
+    let task = Task {
+        alloc,
+        game: g,
+        side,
+    };
     let root = g.root();
     let mut reads = Vec::new(alloc);
     search_state(
-        alloc, &g, root, side, worse, better, &mut reads, visits, board,
+        &task, root, None, worse, better, &mut reads, visits, table, board,
     )
 }

@@ -16,7 +16,7 @@ use Rattle.shared_board.specs.Words.{key_word, bound_word, key_at, bound_at, ope
 use Rattle.shared_board.specs.Rule.{IsConsistent, IsConsistentView, IsRow, IsPosted, IsInRange, Has, seen_at, seen, with_seen}
 use Rattle.shared_board.specs.Plays.{reading, posting, loaded, met, IsBound, MayPost}
 use Rattle.shared_board.specs.declared.view.View.{View}
-use Rattle.shared_board.proofs.ChangeLemmas.{changes, fits_words, keeps_words}
+use Rattle.shared_board.proofs.RuleLemmas.{backed_more, changes, fits_words, keeps_words}
 use Rattle.shared_board.proofs.ClaimLemmas.{game_is, set_apart}
 use Rattle.shared_board.proofs.ListLemmas.{set_either}
 use Rattle.shared_board.proofs.WordLemmas.{word_refl, word_trans, word_left, word_right, tighter_is, key_not_bound, bounds_apart, bound_inside, bound_not_first, bound_word-back, word_mono}
@@ -62,23 +62,16 @@ module _ {S G : Type 0} (m : GameModel S) where
   seen_as One Two v i x j posted loads P here there = there
   seen_as Two One v i x j posted loads P here there = there
 
+  -- after a bound in row i is seen, no less is seen
+  pub sees_more : (side side' : Side) (v : View G) (i x j : ℕ) (posted : List (ℕ × Side × ℕ)) (loads : ℕ) → IsLooser side (seen_at m side v i) x → IsLooser side' (seen_at m side' v j) (seen_at m side' (sees side v i x posted loads) j)
+  sees_more side side' v i x j posted loads more = seen_as side side' v i x j posted loads (λ z. IsLooser side' (seen_at m side' v j) z)
+      (λ e is. subst (λ (y : Side × ℕ). IsLooser y.0 (seen_at m y.0 v y.1) x) (λ c. (e c, is c)) more) (word_refl side' (seen_at m side' v j))
+
   pub seen_here : (rows : ℕ) (side : Side) (v : View G) (i x : ℕ) (posted : List (ℕ × Side × ℕ)) (loads : ℕ) → length (seen side v) ≡ rows → i < rows → seen_at m side (sees side v i x posted loads) i ≡ x
   seen_here rows One v i x posted loads long l = get_or-set_same v.lower i x (opening_word m One) (omega arith)
   seen_here rows Two v i x posted loads long l = get_or-set_same v.upper i x (opening_word m Two) (omega arith)
 
-which_side : (side side' : Side) (i j : ℕ) → i ≡ j → ((side ≡ side') × (i ≡ j)) ⊎ ((side ≢ side') ⊎ (i ≢ j))
-which_side One One i j e = inl (refl, e)
-which_side One Two i j e = inr (inl (λ (h : One ≡ Two). cc))
-which_side Two One i j e = inr (inl (λ (h : Two ≡ One). cc))
-which_side Two Two i j e = inl (refl, e)
-
 module _ {S G : Type 0} (m : GameModel S) (g : G) (rows : ℕ) where
-  abbrev St : Type 0
-  St = State (Unit {0}) (View G)
-
-  abbrev Rule : St → Type 0
-  Rule = IsConsistent m g rows
-
   -- a posted bound is an old one, or is proved and no tighter than x, by a view that holds a number
   abbrev Posts : View G → Side → ℕ → ℕ → ℕ × Side × ℕ → Type 0
   Posts v side i x p = Has p v.posted ⊎ ((v.numbers ≢ []) × (i ≡ p.0) × (side ≡ p.1) × IsLooser side p.2 x × ((k : ℕ) × Has (i, k) v.keys × IsProved m side k p.2) × IsInRange m p.2)
@@ -97,14 +90,7 @@ module _ {S G : Type 0} (m : GameModel S) (g : G) (rows : ℕ) where
     no_tighter = λ side' j lj. seen_as m side side' v i x j posted loads (λ z. IsLooser side' z (bound_at words side' j))
         (λ e is. subst (λ (y : Side × ℕ). IsLooser y.0 x (bound_at words y.0 y.1)) (λ c. (e c, is c)) less) (f.no_tighter side' j lj);
     backed = λ j side' y h. ⊎_elim
-        (λ (old : Has (j, side', y) v.posted). let b = f.backed j side' y old in record {
-          key = b.key;
-          known = b.known;
-          in_range = b.in_range;
-          proved = b.proved;
-          seen_too = seen_as m side side' v i x j posted loads (λ z. IsLooser side' y z)
-              (λ e is. word_trans side' y (seen_at m side' v j) x b.seen_too (subst (λ (q : Side × ℕ). IsLooser q.0 (seen_at m q.0 v q.1) x) (λ c. (e c, is c)) more)) b.seen_too;
-        })
+        (λ (old : Has (j, side', y) v.posted). backed_more m v (with_seen side (set (seen side v) i x) u) j side' y (f.backed j side' y old) (λ p k. k) (sees_more m side side' v i x j posted loads more))
         (λ (new : (v.numbers ≢ []) × (i ≡ j) × (side ≡ side') × IsLooser side y x × ((k : ℕ) × Has (i, k) v.keys × IsProved m side k y) × IsInRange m y).
         subst (λ (q : Side × ℕ). IsPosted m (with_seen side (set (seen side v) i x) u) q.1 q.0 y) (λ c. (new.2 c, new.1 c)) (record {
           key = new.4.0;
@@ -115,7 +101,7 @@ module _ {S G : Type 0} (m : GameModel S) (g : G) (rows : ℕ) where
         })) (posts (j, side', y) h);
   }
 
-  module _ (game_laws : IsGame m) (s : St) (r : Rule s) where
+  module _ (game_laws : IsGame m) (s : State (Unit {0}) (View G)) (r : IsConsistent m g rows s) where
     pub word_in_range : (side : Side) (i : ℕ) → i < rows → IsInRange m (bound_at s.words side i)
     word_in_range side i l = dite (ℕ_discrete (bound_at s.words side i) (opening_word m side)) (λ (e : bound_at s.words side i ≡ opening_word m side). subst (IsInRange m) (sym e) (opening_in_range m game_laws side))
         (λ (n : bound_at s.words side i ≢ opening_word m side). let o = r.posted side i l n in ((r.each_view o.0 o.1 o.2).backed i side (bound_at s.words side i) o.3).in_range)
@@ -132,7 +118,7 @@ module _ {S G : Type 0} (m : GameModel S) (g : G) (rows : ℕ) where
       abbrev n : ℕ
       n = bound_at s.words side i
 
-      pub reads_now : Rule record { words = set s.words (bound_word side i) n; homes = s.homes; views = set s.views id (reading side v i n) }
+      pub reads_now : IsConsistent m g rows record { words = set s.words (bound_word side i) n; homes = s.homes; views = set s.views id (reading side v i n) }
       reads_now = keeps_words m g rows s r id v (reading side v i n) (bound_word side i) at refl refl (λ x h. h) (λ p h. h)
           (fits_seen s.words r.head r.drawn id v side i n v.posted (v.loads + 1) (λ e. (mine.idle e).1) inside
           (mine.no_tighter side i inside) (word_refl side n) (λ p h. inl h) mine)
@@ -150,19 +136,15 @@ module _ {S G : Type 0} (m : GameModel S) (g : G) (rows : ℕ) where
         bound_here : bound_at after side i ≡ new
         bound_here = get_or-set_same s.words (bound_word side i) new 0 (subst (λ (z : ℕ). bound_word side i < z) (sym r.wide) (bound_inside side i rows inside))
 
-        bound_else : (side' : Side) (j : ℕ) → (side ≢ side') ⊎ (i ≢ j) → bound_at after side' j ≡ bound_at s.words side' j
-        bound_else side' j ne = get_or-set_other s.words (bound_word side i) (bound_word side' j) new 0 (λ e. let same = bounds_apart side' side j i e in ⊎_elim (λ (a : side ≢ side'). a (sym same.0)) (λ (b : i ≢ j). b (sym same.1)) ne)
-
-        which : (side' : Side) (j : ℕ) → ((side ≡ side') × (i ≡ j)) ⊎ ((side ≢ side') ⊎ (i ≢ j))
-        which side' j = dite (ℕ_discrete i j) (λ (e : i ≡ j). which_side side side' i j e) (λ (ne : i ≢ j). inr (inr ne))
+        -- what holds of the new bound in its place, and of each old one
+        bound_as : (side' : Side) (j : ℕ) (P : ℕ → Type 0) → (side ≡ side' → i ≡ j → P new) → P (bound_at s.words side' j) → P (bound_at after side' j)
+        bound_as side' j P here there = set_either s.words (bound_word side i) new (bound_word side' j) 0 P (λ e. let same = bounds_apart side side' i j e in here same.0 same.1) there
 
         bounds_grow : (side' : Side) (j : ℕ) → j < rows → IsLooser side' (bound_at s.words side' j) (bound_at after side' j)
-        bounds_grow side' j l = ⊎_elim
-            (λ (same : (side ≡ side') × (i ≡ j)). subst (λ (y : Side × ℕ). IsLooser y.0 (bound_at s.words y.0 y.1) (bound_at after y.0 y.1)) (λ c. (same.0 c, same.1 c)) (subst (IsLooser side n) (sym bound_here) (word_left side n x)))
-            (λ (ne : (side ≢ side') ⊎ (i ≢ j)). subst (IsLooser side' (bound_at s.words side' j)) (sym (bound_else side' j ne)) (word_refl side' (bound_at s.words side' j))) (which side' j)
+        bounds_grow side' j l = bound_as side' j (IsLooser side' (bound_at s.words side' j)) (λ a b. subst (λ (y : Side × ℕ). IsLooser y.0 (bound_at s.words y.0 y.1) new) (λ c. (a c, b c)) (word_left side n x)) (word_refl side' (bound_at s.words side' j))
 
         others_fit : (j : ℕ) (u : View G) → IsConsistentView m g rows s.words r.head r.drawn j u → IsConsistentView m g rows after r.head r.drawn j u
-        others_fit j u f = fits_words m g rows s.words after r.head r.drawn j u (λ q k e. key_same q ∙ e) bounds_grow f
+        others_fit j u f = fits_words m g rows s.words after r.head r.drawn r.head r.drawn j u f.leads (λ q k e. key_same q ∙ e) bounds_grow f
 
         row_ok : (j : ℕ) → j < rows → IsRow {G = G} m g rows after j
         row_ok j l = let o = r.each_row j l in record {
@@ -170,10 +152,10 @@ module _ {S G : Type 0} (m : GameModel S) (g : G) (rows : ℕ) where
           named = λ k e. o.named k (sym (key_same j) ∙ e);
           single = λ k q e lq eq. o.single k q (sym (key_same j) ∙ e) lq (sym (key_same q) ∙ eq);
           free = λ e side'. let was : key_at s.words j ≡ 0 = sym (key_same j) ∙ e in
-              bound_else side' j (inr (λ (is : i ≡ j). let k : key_at s.words i ≡ suc key = (mine.knows i key known).1 in let z : key_at s.words i ≡ 0 = ap (key_at s.words) is ∙ was in (omega arith))) ∙ o.free was side';
+              bound_as side' j (λ z. z ≡ opening_word m side') (λ _ is. absurd (let k : key_at s.words i ≡ suc key = (mine.knows i key known).1 in let z : key_at s.words i ≡ 0 = ap (key_at s.words) is ∙ was in omega arith)) (o.free was side');
         }
 
-        pub posts_now : Rule record { words = after; homes = s.homes; views = set s.views id (posting side v i x n) }
+        pub posts_now : IsConsistent m g rows record { words = after; homes = s.homes; views = set s.views id (posting side v i x n) }
         posts_now = changes m g rows s r id v (posting side v i x n) after at (length-set s.words (bound_word side i) new) (get_or-set_other s.words (bound_word side i) 0 new 0 (λ e. bound_not_first side i (sym e)))
             refl refl (λ p h. inr h) (λ p h. h)
             (fits_seen after r.head r.drawn id v side i new ((i, side, x) ∷ v.posted) v.loads (λ e. absurd (holder e)) inside
@@ -181,57 +163,30 @@ module _ {S G : Type 0} (m : GameModel S) (g : G) (rows : ℕ) where
             (λ p h. ⊎_elim (λ (e : p ≡ (i, side, x)). inr (subst (λ (q : ℕ × Side × ℕ). (v.numbers ≢ []) × (i ≡ q.0) × (side ≡ q.1) × IsLooser side q.2 new × ((k : ℕ) × Has (i, k) v.keys × IsProved m side k q.2) × IsInRange m q.2) (sym e)
             (holder, refl, refl, word_right side n x, (key, known, proved), in_range))) (λ (o : Has p v.posted). inl o) h) (others_fit id v mine))
             others_fit row_ok
-            (λ side' j l. ⊎_elim
-            (λ (same : (side ≡ side') × (i ≡ j)). subst (λ (y : Side × ℕ). (bound_at after y.0 y.1 ≡ bound_at s.words y.0 y.1) ⊎ Has (y.1, y.0, bound_at after y.0 y.1) ((i, side, x) ∷ v.posted)) (λ c. (same.0 c, same.1 c))
-            (⊎_elim (λ (e : new ≡ n). inl (bound_here ∙ e)) (λ (e : new ≡ x). inr (inl (λ c. (i, side, (bound_here ∙ e) c)))) (tighter_is side n x)))
-            (λ (ne : (side ≢ side') ⊎ (i ≢ j)). inl (bound_else side' j ne)) (which side' j))
+            (λ side' j l. bound_as side' j (λ z. (z ≡ bound_at s.words side' j) ⊎ Has (j, side', z) ((i, side, x) ∷ v.posted))
+            (λ a b. subst (λ (y : Side × ℕ). (new ≡ bound_at s.words y.0 y.1) ⊎ Has (y.1, y.0, new) ((i, side, x) ∷ v.posted)) (λ c. (a c, b c)) (⊎_elim (λ (e : new ≡ n). inl e) (λ (e : new ≡ x). inr (inl (λ c. (i, side, e c)))) (tighter_is side n x))) (inl refl))
             (λ j k l e. inl (sym (key_same j) ∙ e))
 
 module _ {S G : Type 0} (model : G → GameModel S) (g : G) (rows : ℕ) (game_laws : IsGame (model g)) where
-  told : (s : State (Unit {0}) (View G)) (r : IsConsistent (model g) g rows s) (id : ℕ) (v : View G) → get_elem? s.views id ≡ some v → (side : Side) (i : ℕ) → v.numbers ≢ [] → i < rows → (h : G) → v.game ≡ Some h
-      → IsBound model side v i (bound_at s.words side i) h
-  told s r id v at side i holder l h is = let f = r.each_view id v at in subst (IsBound model side v i (bound_at s.words side i)) (game_is g h (sym (f.same_game holder) ∙ is)) (record {
-    no_looser = f.no_tighter side i l;
-    in_range = word_in_range (model g) g rows game_laws s r side i l;
-    proved = λ k known. word_proved (model g) g rows game_laws s r side i k l (f.knows i k known).1;
-  })
+  -- what a step at the bound of a row tells, where F gives the view after it by the row
+  told : (s : State (Unit {0}) (View G)) (r : IsConsistent (model g) g rows s) (id : ℕ) (v : View G) → get_elem? s.views id ≡ some v → (side : Side) (i : ℕ) → v.numbers ≢ [] → i < rows → (F : ℕ → View G)
+      → (j : ℕ) → bound_word side i ≡ bound_word side j → (F i ≡ F j) × ((h : G) → v.game ≡ Some h → IsBound model side v j (bound_at s.words side i) h)
+  told s r id v at side i holder l F j e = let same = (bounds_apart side side i j e).1 in let f = r.each_view id v at in (
+    ap F same,
+    λ h is. subst (λ (y : ℕ × G). IsBound model side v y.0 (bound_at s.words side i) y.1) (λ c. (same c, game_is g h (sym (f.same_game holder) ∙ is) c)) (record {
+      no_looser = f.no_tighter side i l;
+      in_range = word_in_range (model g) g rows game_laws s r side i l;
+      proved = λ k known. word_proved (model g) g rows game_laws s r side i k l (f.knows i k known).1;
+    }),
+  )
 
   pub reads : (slots id : ℕ) (a : Me (Unit {0}) (View G)) (side : Side) (i : ℕ) → a.0.numbers ≢ [] → i < rows
       → Allows (IsConsistent (model g) g rows) slots id a (bound_word side i) (λ n. n) (loaded model side (step slots (bound_word side i) 0 0 none) a)
-  reads slots id a side i holder inside s r deep at _ = let n : ℕ = bound_at s.words side i in
-      let now = reads_now (model g) g rows game_laws s r id a.0 at side i inside in (
-        reading side a.0 i n,
-        keeps,
-        tt,
-        now,
-        (
-          refl,
-          set_apart (model g) g rows s (set s.words (bound_word side i) n) id a.0 (reading side a.0 i n) at now,
-          λ j e. let same : i ≡ j = (bounds_apart side side i j e).1 in subst (λ (z : ℕ). (reading side a.0 i n ≡ reading side a.0 z n) × ((h : G) → a.0.game ≡ Some h → IsBound model side a.0 z n h)) same
-              (refl, told s r id a.0 at side i holder inside),
-        ),
-      )
+  reads slots id a side i holder inside s r deep at _ = let n : ℕ = bound_at s.words side i in let w : View G = reading side a.0 i n in let now = reads_now (model g) g rows game_laws s r id a.0 at side i inside in
+      (w, keeps, tt, now, (refl, set_apart (model g) g rows s (set s.words (bound_word side i) n) id a.0 w at now, told s r id a.0 at side i holder inside (λ z. reading side a.0 z n)))
 
   pub posts : (slots id : ℕ) (a : Me (Unit {0}) (View G)) (side : Side) (i x : ℕ) → MayPost (model g) rows side a.0 i x
       → Allows (IsConsistent (model g) g rows) slots id a (bound_word side i) (λ n. tighter side n x) (met model side (step slots (bound_word side i) x 0 none) a)
-  posts slots id a side i x may s r deep at _ = let n : ℕ = bound_at s.words side i in
-      let now = posts_now (model g) g rows game_laws s r id a.0 at side i may.inside may.holder x may.key may.known may.in_range may.proved in (
-        posting side a.0 i x n,
-        keeps,
-        tt,
-        now,
-        (
-          refl,
-          set_apart (model g) g rows s (set s.words (bound_word side i) (tighter side n x)) id a.0 (posting side a.0 i x n) at now,
-          λ j e. let same : i ≡ j = (bounds_apart side side i j e).1 in subst (λ (z : ℕ). (posting side a.0 i x n ≡ posting side a.0 z x n) × ((h : G) → a.0.game ≡ Some h → IsBound model side a.0 z n h)) same
-              (refl, told s r id a.0 at side i may.holder may.inside),
-        ),
-      )
-
-  pub reads_as : (slots id : ℕ) (a : Me (Unit {0}) (View G)) (side : Side) (i count : ℕ) → count ≡ rows → a.0.numbers ≢ [] → i < rows
-      → Allows (IsConsistent (model g) g count) slots id a (bound_word side i) (λ n. n) (loaded model side (step slots (bound_word side i) 0 0 none) a)
-  reads_as slots id a side i count e holder inside = subst (λ (z : ℕ). Allows (IsConsistent (model g) g z) slots id a (bound_word side i) (λ n. n) (loaded model side (step slots (bound_word side i) 0 0 none) a)) (sym e) (reads slots id a side i holder inside)
-
-  pub posts_as : (slots id : ℕ) (a : Me (Unit {0}) (View G)) (side : Side) (i x count : ℕ) → count ≡ rows → MayPost (model g) rows side a.0 i x
-      → Allows (IsConsistent (model g) g count) slots id a (bound_word side i) (λ n. tighter side n x) (met model side (step slots (bound_word side i) x 0 none) a)
-  posts_as slots id a side i x count e may = subst (λ (z : ℕ). Allows (IsConsistent (model g) g z) slots id a (bound_word side i) (λ n. tighter side n x) (met model side (step slots (bound_word side i) x 0 none) a)) (sym e) (posts slots id a side i x may)
+  posts slots id a side i x may s r deep at _ = let n : ℕ = bound_at s.words side i in let w : View G = posting side a.0 i x n in
+      let now = posts_now (model g) g rows game_laws s r id a.0 at side i may.inside may.holder x may.key may.known may.in_range may.proved in
+      (w, keeps, tt, now, (refl, set_apart (model g) g rows s (set s.words (bound_word side i) (tighter side n x)) id a.0 w at now, told s r id a.0 at side i may.holder may.inside (λ z. posting side a.0 z x n)))

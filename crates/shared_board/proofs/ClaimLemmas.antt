@@ -1,5 +1,5 @@
--- A claim keeps the rule.
-use Rattle.std.proofs.Common.{◌≡◌, ◌≢◌, inl, inr, ⊎_elim, ℕ, zero, suc, ◌+◌, ◌%◌, ◌<◌, ◌≤◌, List, [], set, sym, refl, ap, ◌∙◌, subst, arith, Some, eqb, mod-lt, length-set, get_or-set_other, get_or-set_same}
+-- A claim keeps the rule, and what it has learnt after so many tries.
+use Rattle.std.proofs.Common.{◌≡◌, ◌≢◌, inl, inr, ⊎_elim, ℕ, zero, suc, ◌+◌, ◌%◌, ◌<◌, ◌≤◌, List, [], set, sym, refl, ap, ◌∙◌, subst, arith, Some, eqb, mod-lt, length-set, get_or-set_other, get_or-set_same, ◌⊎◌, ◌∷◌}
 use Rattle.std.proofs.lemmas.Bool.{cases_lt}
 use mathlib.Core.Logic.{dite}
 use native.Mathlib.Decide.{ℕ_discrete}
@@ -13,29 +13,26 @@ use Rattle.sim_game.specs.Model.{GameModel}
 use Rattle.bounds_board.specs.Views.{IsInnerKey}
 use Rattle.shared_board.specs.Words.{key_word, bound_word, row_after, key_at, bound_at, IsLooser}
 use Rattle.shared_board.specs.Rule.{IsConsistent, IsConsistentView, IsRow, Has}
-use Rattle.shared_board.specs.Plays.{knowing, claimed, MayClaim, IsApart}
+use Rattle.shared_board.specs.Plays.{knowing, claimed, MayClaim, IsApart, more_keys, AllNamed, IsLearnt, IsAt}
 use Rattle.shared_board.specs.declared.view.View.{View}
-use Rattle.shared_board.proofs.ChangeLemmas.{changes, fits_words, keeps_words}
+use Rattle.shared_board.proofs.RuleLemmas.{changes, fits_words, keeps_words}
 use Rattle.shared_board.proofs.ListLemmas.{at_long}
 use Rattle.shared_board.proofs.WordLemmas.{word_refl, key_not_bound}
+use Rattle.bounds_board.proofs.PlainLemmas.{row_met}
+use Rattle.atomic_table.specs.Seated.{TableId}
 
 some_suc : (n : ℕ) → n ≢ 0 → (k : ℕ) × (n ≡ suc k)
 some_suc zero h = absurd (h refl)
 some_suc (suc k) h = (k, refl)
 
+-- a row that is tried is one of the board
+pub row_inside : (rows key tried row : ℕ) → row_after rows key tried ≡ row → tried < rows → row < rows
+row_inside rows key tried row is l = subst (λ (z : ℕ). z < rows) is (mod-lt (key % rows + tried) (omega arith))
+
 pub game_is : {G : Type 0} (a b : G) → Some a ≡ Some b → a ≡ b
 game_is a b e = cc
 
 module _ {S G : Type 0} (m : GameModel S) (g : G) (rows : ℕ) where
-  abbrev St : Type 0
-  St = State (Unit {0}) (View G)
-
-  abbrev Rule : St → Type 0
-  Rule = IsConsistent m g rows
-
-  row_inside : (k t i : ℕ) → t < rows → row_after rows k t ≡ i → i < rows
-  row_inside k t i l e = subst (λ (z : ℕ). z < rows) e (mod-lt (k % rows + t) (omega arith))
-
   -- a view that learns a key of a row
   learns : (words : List ℕ) (head drawn id : ℕ) (v : View G) (i k : ℕ) → v.numbers ≢ [] → i < rows → key_at words i ≡ suc k → IsConsistentView m g rows words head drawn id v → IsConsistentView m g rows words head drawn id (knowing v i k)
   learns words head drawn id v i k holder l e f = record {
@@ -49,9 +46,9 @@ module _ {S G : Type 0} (m : GameModel S) (g : G) (rows : ℕ) where
     backed = λ j side x h. let b = f.backed j side x h in record { key = b.key; known = inr b.known; in_range = b.in_range; proved = b.proved; seen_too = b.seen_too };
   }
 
-  module _ (s : St) (r : Rule s) (v : View G) (id i k t : ℕ) (at : get_elem? s.views id ≡ some v) (may : MayClaim m rows v i k t) where
+  module _ (s : State (Unit {0}) (View G)) (r : IsConsistent m g rows s) (v : View G) (id i k t : ℕ) (at : get_elem? s.views id ≡ some v) (may : MayClaim m rows v i k t) where
     inside : i < rows
-    inside = row_inside k t i may.inside may.here
+    inside = row_inside rows k t i may.here may.inside
 
     abbrev mine : IsConsistentView m g rows s.words r.head r.drawn id v
     mine = r.each_view id v at
@@ -83,11 +80,8 @@ module _ {S G : Type 0} (m : GameModel S) (g : G) (rows : ℕ) where
       still : (j n : ℕ) → key_at s.words j ≡ suc n → key_at after j ≡ suc n
       still j n e = key_else j (λ is. let none : key_at s.words j ≡ 0 = ap (key_at s.words) is ∙ blank in omega arith) ∙ e
 
-      taken : (j : ℕ) → key_at s.words j ≢ 0 → key_at after j ≢ 0
-      taken j n e = let p = some_suc (key_at s.words j) n in let now = still j p.0 p.1 in omega arith
-
       others_fit : (j : ℕ) (u : View G) → IsConsistentView m g rows s.words r.head r.drawn j u → IsConsistentView m g rows after r.head r.drawn j u
-      others_fit j u f = fits_words m g rows s.words after r.head r.drawn j u still (λ side q _. subst (IsLooser side (bound_at s.words side q)) (sym (bound_same side q)) (word_refl side (bound_at s.words side q))) f
+      others_fit j u f = fits_words m g rows s.words after r.head r.drawn r.head r.drawn j u f.leads still (λ side q _. subst (IsLooser side (bound_at s.words side q)) (sym (bound_same side q)) (word_refl side (bound_at s.words side q))) f
 
       row_ok : (j : ℕ) → j < rows → IsRow {G = G} m g rows after j
       row_ok j l = let old = r.each_row j l in dite (ℕ_discrete j i)
@@ -104,19 +98,19 @@ module _ {S G : Type 0} (m : GameModel S) (g : G) (rows : ℕ) where
             free = λ e. absurd (omega arith);
           })
           (λ (ne : j ≢ i). let same = key_else j ne in record {
-            reached = λ n e. let o = old.reached n (sym same ∙ e) in (o.0, o.1, o.2, λ u lt. taken (row_after rows n u) (o.3 u lt));
+            reached = λ n e. let o = old.reached n (sym same ∙ e) in (o.0, o.1, o.2, λ u lt z. let p = some_suc (key_at s.words (row_after rows n u)) (o.3 u lt) in let now = still (row_after rows n u) p.0 p.1 in omega arith);
             named = λ n e. old.named n (sym same ∙ e);
             single = λ n q e lq eq. dite (ℕ_discrete q i) (λ (iq : q ≡ i). let there : key_at after q ≡ suc k = ap (key_at after) iq ∙ key_here in absurd (new_key j l (omega arith)))
                 (λ (nq : q ≢ i). old.single n q (sym same ∙ e) lq (sym (key_else q nq) ∙ eq));
             free = λ e side. bound_same side j ∙ old.free (sym same ∙ e) side;
           })
 
-      pub claims_free : Rule record { words = after; homes = s.homes; views = set s.views id (knowing v i k) }
+      pub claims_free : IsConsistent m g rows record { words = after; homes = s.homes; views = set s.views id (knowing v i k) }
       claims_free = changes m g rows s r id v (knowing v i k) after at (length-set s.words (key_word i) (suc k)) (get_or-set_other s.words (key_word i) 0 (suc k) 0 (λ e. omega arith))
           refl refl (λ x h. h) (λ p h. inr h) (learns after r.head r.drawn id v i k may.holder inside key_here (others_fit id v mine)) others_fit row_ok (λ side j l. inl (bound_same side j))
           (λ j n l e. dite (ℕ_discrete j i) (λ (is : j ≡ i). let now : key_at after j ≡ suc k = ap (key_at after) is ∙ key_here in let same : n ≡ k = omega arith in inr (inl (λ c. (is c, same c)))) (λ (ne : j ≢ i). inl (sym (key_else j ne) ∙ e)))
 
-    pub claims_found : (k' : ℕ) → key_at s.words i ≡ suc k' → Rule record { words = set s.words (key_word i) (key_at s.words i); homes = s.homes; views = set s.views id (knowing v i k') }
+    pub claims_found : (k' : ℕ) → key_at s.words i ≡ suc k' → IsConsistent m g rows record { words = set s.words (key_word i) (key_at s.words i); homes = s.homes; views = set s.views id (knowing v i k') }
     claims_found k' e = keeps_words m g rows s r id v (knowing v i k') (key_word i) at refl refl (λ x h. h) (λ p h. inr h) (learns s.words r.head r.drawn id v i k' may.holder inside e mine)
 
 module _ {S G : Type 0} (m : GameModel S) (g : G) (rows : ℕ) where
@@ -133,45 +127,76 @@ module _ {S G : Type 0} (model : G → GameModel S) (g : G) (rows : ℕ) where
   pub claims : (slots id : ℕ) (a : Me (Unit {0}) (View G)) (i k t : ℕ) → MayClaim (model g) rows a.0 i k t
       → Allows (IsConsistent (model g) g rows) slots id a (key_word i) (λ n. either (eqb n 0) (suc k) n) (claimed model (step slots (key_word i) 0 (suc k) none) a)
   claims slots id a i k t may s r deep at _ = let n : ℕ = key_at s.words i in let m = model g in let mine = r.each_view id a.0 at in
-      let same : (h : G) → a.0.game ≡ Some h → g ≡ h = λ h is. game_is g h (sym (mine.same_game may.holder) ∙ is) in
-      exchanged n 0 (suc k) (λ (x : ℕ). (w : View G) × (act : Act (Unit {0})) × Valid s.homes a.1 act × IsConsistent m g rows (stepped s (key_word i) x id a.1 w act) × claimed model (step slots (key_word i) 0 (suc k) none) a n (w, carried_after a.1 act))
-      (λ (hit : n ≡ 0). let now = claims_free m g rows s r a.0 id i k t at may hit in (
-        knowing a.0 i k,
+      let P : ℕ → Type 0 = λ x. (w : View G) × (act : Act (Unit {0})) × Valid s.homes a.1 act × IsConsistent m g rows (stepped s (key_word i) x id a.1 w act) × claimed model (step slots (key_word i) 0 (suc k) none) a n (w, carried_after a.1 act) in
+      let tells : (key x : ℕ) → IsConsistent m g rows record { words = set s.words (key_word i) x; homes = s.homes; views = set s.views id (knowing a.0 i key) } → IsInnerKey m key → (n ≡ 0 → key ≡ k) → (n ≢ 0 → n ≡ suc key) → P x = λ key x now named is_new is_old. (
+        knowing a.0 i key,
         keeps,
         tt,
         now,
         (
           refl,
-          set_apart m g rows s (set s.words (key_word i) (suc k)) id a.0 (knowing a.0 i k) at now,
-          λ j q e f. let row : i ≡ j = omega arith in let key : k ≡ q = omega arith in record {
-            key = k;
-            known = λ c. knowing a.0 (row c) k;
-            named = λ h is. subst (λ (z : G). IsInnerKey (model z) k) (same h is) may.named;
-            is_new = λ _. key;
-            is_old = λ other. absurd (other hit);
-          },
+          set_apart m g rows s (set s.words (key_word i) x) id a.0 (knowing a.0 i key) at now,
+          λ j q e f. let row : i ≡ j = omega arith in let asked : k ≡ q = omega arith in
+              record { key = key; known = λ c. knowing a.0 (row c) key; named = λ h is. subst (λ (z : G). IsInnerKey (model z) key) (game_is g h (sym (mine.same_game may.holder) ∙ is)) named; is_new = λ none. is_new none ∙ asked; is_old = is_old },
         ),
-      ))
-      (λ (miss : n ≢ 0). let p = some_suc n miss in let now = claims_found m g rows s r a.0 id i k t at may p.0 p.1 in (
-        knowing a.0 i p.0,
-        keeps,
-        tt,
-        now,
-        (
-          refl,
-          set_apart m g rows s (set s.words (key_word i) n) id a.0 (knowing a.0 i p.0) at now,
-          λ j q e f. let row : i ≡ j = omega arith in record {
-            key = p.0;
-            known = λ c. knowing a.0 (row c) p.0;
-            named = λ h is. subst (λ (z : G). IsInnerKey (model z) p.0) (same h is) ((r.each_row i (row_inside m g rows k t i may.inside may.here)).named p.0 p.1);
-            is_new = λ none. absurd (miss none);
-            is_old = λ _. p.1;
-          },
-        ),
-      ))
+      )
+      in exchanged n 0 (suc k) P (λ (hit : n ≡ 0). tells k (suc k) (claims_free m g rows s r a.0 id i k t at may hit) may.named (λ _. refl) (λ other. absurd (other hit)))
+      (λ (miss : n ≢ 0). let p = some_suc n miss in
+      tells p.0 n (claims_found m g rows s r a.0 id i k t at may p.0 p.1) ((r.each_row i (row_inside rows k t i may.here may.inside)).named p.0 p.1) (λ none. absurd (miss none)) (λ _. p.1))
 
   -- the same for a word that is the key plus 1, and as many rows
   pub claims_as : (slots id : ℕ) (a : Me (Unit {0}) (View G)) (i k t count new : ℕ) → MayClaim (model g) rows a.0 i k t → count ≡ rows → new ≡ suc k
       → Allows (IsConsistent (model g) g count) slots id a (key_word i) (λ n. either (eqb n 0) new n) (claimed model (step slots (key_word i) 0 new none) a)
   claims_as slots id a i k t count new may e f =
       subst (λ (z : ℕ × ℕ). Allows (IsConsistent (model g) g z.0) slots id a (key_word i) (λ n. either (eqb n 0) z.1 n) (claimed model (step slots (key_word i) 0 z.1 none) a)) (λ c. (sym e c, sym f c)) (claims slots id a i k t may)
+
+module _ {S G : Type 0} (model : G → GameModel S) (rows key tried : ℕ) (old new : View G) where
+  pub record SoFar : Type 0 where
+    pub more : (ks : List (ℕ × ℕ)) × (new ≡ more_keys ks old)
+    pub named : (g : G) → old.game ≡ Some g → AllNamed (model g) old.keys → AllNamed (model g) new.keys
+    pub inside : ((i k : ℕ) → Has (i, k) old.keys → i < rows) → (i k : ℕ) → Has (i, k) new.keys → i < rows
+    pub apart : 0 < tried → IsApart new.keys
+    pub passed : (u : ℕ) → u < tried → (k : ℕ) × Has (row_after rows key u, k) new.keys × (k ≢ key)
+
+module _ {S G : Type 0} (model : G → GameModel S) (rows key : ℕ) (old : View G) where
+  -- the view learnt the key of one row more
+  pub learnt : (tried n k : ℕ) (new next : View G) (i : ℕ) → SoFar model rows key tried old new → IsLearnt model new next i k n
+      → ((ks : List (ℕ × ℕ)) × (next ≡ more_keys ks old)) × ((g : G) → old.game ≡ Some g → AllNamed (model g) old.keys → AllNamed (model g) next.keys)
+  learnt tried n k new next i so l = (
+    ((i, l.key) ∷ so.more.0, l.known ∙ ap (λ (v : View G). knowing v i l.key) so.more.1),
+    λ g e all. subst (λ (v : View G). AllNamed (model g) v.keys) (sym l.known)
+        (λ j q h. ⊎_elim (λ (here : (j, q) ≡ (i, l.key)). subst (λ (y : ℕ × ℕ). IsInnerKey (model g) y.1) (sym here) (l.named g (ap (λ (v : View G). v.game) so.more.1 ∙ e)))
+        (λ (there : Has (j, q) new.keys). so.named g e all j q there) h),
+  )
+
+  pub keeps_inside : (tried n k : ℕ) (new next : View G) (i : ℕ) → SoFar model rows key tried old new → IsLearnt model new next i k n → i < rows
+      → ((j q : ℕ) → Has (j, q) old.keys → j < rows) → (j q : ℕ) → Has (j, q) next.keys → j < rows
+  keeps_inside tried n k new next i so l room all j q h = ⊎_elim (λ (here : (j, q) ≡ (i, l.key)). subst (λ (y : ℕ × ℕ). y.0 < rows) (sym here) room)
+      (λ (there : Has (j, q) new.keys). so.inside all j q there) (subst (λ (v : View G). Has (j, q) v.keys) l.known h)
+
+  pub goes_on : (tried n i : ℕ) (new next : View G) → SoFar model rows key tried old new → i ≡ row_after rows key tried → IsLearnt model new next i key n → IsApart next.keys → i < rows → n ≢ 0 → n ≢ suc key
+      → SoFar model rows key (tried + 1) old next
+  goes_on tried n i new next so at l single room full other = let t = learnt tried n key new next i so l in let is = l.is_old full in record {
+    more = t.0;
+    named = t.1;
+    inside = keeps_inside tried n key new next i so l room;
+    apart = λ _. single;
+    passed = λ u h. subst (λ (v : View G). (k : ℕ) × Has (row_after rows key u, k) v.keys × (k ≢ key)) (sym l.known)
+        (⊎_elim (λ (lt : u < tried). let p = so.passed u lt in (p.0, inr p.1, p.2))
+        (λ (ge : tried ≤ u). let same : u ≡ tried = omega arith in let here : row_after rows key u ≡ i = ap (row_after rows key) same ∙ sym at in (l.key, inl (λ c. (here c, l.key)), λ e. other (is ∙ ap suc e))) (cases_lt u tried));
+  }
+
+  -- the row that was found
+  pub found_row : (n : ℕ) (new next : View G) (i : ℕ) → IsLearnt model new next i key n → (n ≡ 0) ⊎ (n ≡ suc key) → Has (i, key) next.keys
+  found_row n new next i l hit = let is : l.key ≡ key = ⊎_elim (λ (z : n ≡ 0). l.is_new z) (λ (e : n ≡ suc key). let old = l.is_old (λ z. omega arith) in omega arith) hit in
+      subst (λ (v : View G). Has (i, key) v.keys) (sym l.known) (inl (λ c. (i, sym is c)))
+
+  pub all_met : (new : View G) → SoFar model rows key rows old new → (i : ℕ) → i < rows → (k : ℕ) × Has (i, k) new.keys × (k ≢ key)
+  all_met new so i l = let u = row_met rows key i l in subst (λ (z : ℕ). (k : ℕ) × Has (z, k) new.keys × (k ≢ key)) u.2 (so.passed u.0 u.1)
+
+  pub may_claim : (tried : ℕ) (new : View G) (g : G) → SoFar model rows key tried old new → new.numbers ≢ [] → IsInnerKey (model g) key → tried < rows → MayClaim (model g) rows new (row_after rows key tried) key tried
+  may_claim tried new g so holder named l = record { holder = holder; named = named; inside = l; here = refl; passed = so.passed }
+
+  -- the seat after a step that told what it learnt
+  pub still_at : (z t : TableId) (a b : Me (Unit {0}) (View G)) (i k n : ℕ) → IsAt z t a → b.1 ≡ a.1 → IsLearnt model a.0 b.0 i k n → (b.0.numbers ≢ []) × (b.1 ≡ [])
+  still_at z t a b i k n at slots l = ((λ e. at.1 (sym (ap (λ (v : View G). v.numbers) l.known) ∙ e)), slots ∙ at.2)

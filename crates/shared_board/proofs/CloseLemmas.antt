@@ -1,13 +1,19 @@
--- What a closed board has, from the rule and the facts of a whole pass.
-use Rattle.std.proofs.Common.{◌≡◌, ◌≢◌, inl, inr, ⊎_elim, ℕ, zero, suc, ◌<◌, ◌≤◌, ℤ, Bool, true, ◌&&◌, eqb, List, [], ◌∷◌, ◌++◌, map, length, length-append, get_or, All, sym, refl, ap, ◌∙◌, subst, arith}
-use Rattle.std.specs.List.{Contains}
+-- A view that holds each number is alone, and what a closed board has.
+use Rattle.std.proofs.Common.{◌≡◌, ◌≢◌, ⊎_elim, ℕ, zero, suc, ◌+◌, ◌<◌, ◌≤◌, cond, eqb, List, [], ◌∷◌, length, sym, refl, ap, ◌∙◌, arith, inl, inr, min, ℤ, true, ◌&&◌, ◌++◌, map, length-append, get_or, All, subst}
 use Rattle.std.proofs.lemmas.Bool.{cases_lt}
+use Rattle.std.proofs.lemmas.Bool.Decides.{nat_tests}
+use mathlib.Core.Option.{some, some-injective, some-ne-none}
+use lib.ListN.{get_elem?}
+use Rattle.sums.specs.Sums.{count_below}
+use Rattle.sums.proofs.CountLemmas.{count_mono, count_add, count_constant, count_term}
+use Rattle.shared_board.specs.Rule.{times, total, once_below, IsConsistent, IsConsistentView, Has, Somewhere, seen_at}
+use Rattle.shared_board.specs.declared.view.View.{View}
+use Rattle.shared_board.proofs.ListLemmas.{total_at, total_two, same_at, has_left, has_right, has_split}
+use Rattle.std.specs.List.{Contains}
 use Rattle.std.proofs.lemmas.List.{map-append}
 use Rattle.std.proofs.lemmas.List.Elements.{All-nil, All-cons, All-weaker, All-contains, Contains-append_right}
 use mathlib.Core.Logic.{dite}
 use native.Mathlib.Decide.{ℕ_discrete}
-use mathlib.Core.Option.{some, some-injective, some-ne-none}
-use lib.ListN.{get_elem?}
 use Rattle.atomic_table.specs.Table.{State}
 use Rattle.sim_game.specs.declared.Side.{Side}
 use Rattle.sim_game.specs.declared.Side.TheVariants.{One, Two}
@@ -20,17 +26,60 @@ use Rattle.plan_book.specs.Books.{same_side, best_posted, IsBooked, IsClosed}
 use Rattle.plan_book.proofs.BookLemmas.{best_opening, best_has, eqb_self, same_side_self}
 use Rattle.bounds_board.proofs.PlainLemmas.{entry_weaker}
 use Rattle.shared_board.specs.Words.{IsLooser, key_at, bound_at, opening_word, word_of, bound_of}
-use Rattle.shared_board.specs.Rule.{IsConsistent, IsConsistentView, Has, Somewhere, seen_at}
 use Rattle.shared_board.specs.Passes.{key_of, seen_by, IsKnown, IsEntered, IsTold}
 use Rattle.shared_board.specs.Closing.{kept_row, kept_if, kept_rows, key_if, known_keys, kept_bound, IsDistinct, HasKey, IsKeptRow, IsKept}
-use Rattle.shared_board.specs.declared.view.View.{View}
 use Rattle.shared_board.specs.declared.close.Kept.{Kept}
-use Rattle.shared_board.proofs.ListLemmas.{same_at, has_left, has_right, has_split}
 use Rattle.shared_board.proofs.WordLemmas.{word_trans}
 use Rattle.shared_board.proofs.BoundLemmas.{word_in_range, opening_back}
 use Rattle.shared_board.proofs.SeenLemmas.{looser_bound, key_of_has, key_of_none, cond_first, cond_better, seen_most, known_then}
-use Rattle.shared_board.proofs.PassStepLemmas.{entry_back, word_low}
-use Rattle.shared_board.proofs.WholeLemmas.{alone, no_more}
+use Rattle.shared_board.proofs.PassLemmas.{entry_back, word_low}
+
+abbrev one_at : ℕ → ℕ → ℕ
+one_at y x = cond (eqb x y) 1 0
+
+one_here : (y : ℕ) → one_at y y ≡ 1
+one_here y = grind (arith, nat_tests)
+
+-- no more numbers below d than they are, counted one by one
+length_sum : (xs : List ℕ) (d : ℕ) → ((x : ℕ) → d ≤ x → times x xs ≡ 0) → length xs ≤ count_below d (λ x. times x xs)
+length_sum [] d h = omega arith
+length_sum (y ∷ ys) d h =
+    let low : y < d = ⊎_elim (λ (lt : y < d). lt) (λ (ge : d ≤ y). let z : one_at y y + times y ys ≡ 0 = h y ge in let o = one_here y in absurd (omega arith)) (cases_lt y d) in
+    let rest = length_sum ys d (λ x l. (let z : one_at y x + times x ys ≡ 0 = h x l in omega arith)) in let sum = count_add d (one_at y) (λ x. times x ys) in let one = count_term d (one_at y) y low in let o = one_here y in omega arith
+
+sum_le : (f : ℕ → ℕ) (d : ℕ) → ((x : ℕ) → f x ≤ 1) → count_below d f ≤ d
+sum_le f d h = omega (arith, count_mono d f (λ _. 1) (λ x _. h x), count_constant d 1)
+
+sum_lt : (f : ℕ → ℕ) (d n : ℕ) → ((x : ℕ) → f x ≤ 1) → n < d → f n ≡ 0 → count_below d f < d
+sum_lt f zero n h l z = absurd (omega arith)
+sum_lt f (suc d) n h l z = let a = h d in ⊎_elim (λ (lt : n < d). omega (arith, sum_lt f d n h lt z))
+    (λ (ge : d ≤ n). let same : n ≡ d = omega arith in let here : f d ≡ 0 = ap f (sym same) ∙ z in omega (arith, sum_le f d h)) (cases_lt n d)
+
+once_le : (n d : ℕ) → once_below n d ≤ 1
+once_le n d = ⊎_elim (λ (l : n < d). grind (arith, nat_tests)) (λ (l : d ≤ n). grind (arith, nat_tests)) (cases_lt n d)
+
+once_high : (n d : ℕ) → d ≤ n → once_below n d ≡ 0
+once_high n d l = grind (arith, nat_tests)
+
+module _ {G : Type 0} (views : List (View G)) (drawn : ℕ) (held : (n : ℕ) → total (λ (v : View G). times n v.numbers) views ≡ once_below n drawn) (id : ℕ) (v : View G) (at : get_elem? views id ≡ some v) where
+  mine_le : (n : ℕ) → times n v.numbers ≤ once_below n drawn
+  mine_le n = let t = total_at (λ (u : View G). times n u.numbers) views id v at in let h = held n in omega arith
+
+  mine_sum : length v.numbers ≤ count_below drawn (λ x. times x v.numbers)
+  mine_sum = length_sum v.numbers drawn (λ x l. (let a = mine_le x in let b = once_high x drawn l in omega arith))
+
+  pub no_more : length v.numbers ≤ drawn
+  no_more = let s = mine_sum in let l = sum_le (λ x. times x v.numbers) drawn (λ x. (let a = mine_le x in let b = once_le x drawn in omega arith)) in omega arith
+
+  none_else : (xs : List ℕ) → ((n : ℕ) → times n v.numbers + times n xs ≤ once_below n drawn) → drawn ≤ length v.numbers → xs ≡ []
+  none_else [] two whole = refl
+  none_else (n ∷ ns) two whole = let both : times n v.numbers + (one_at n n + times n ns) ≤ once_below n drawn = two n in let o = one_here n in let top = once_le n drawn in let none : times n v.numbers ≡ 0 = omega arith in
+      let low : n < drawn = ⊎_elim (λ (l : n < drawn). l) (λ (ge : drawn ≤ n). let z = once_high n drawn ge in absurd (omega arith)) (cases_lt n drawn) in
+      let less = sum_lt (λ x. times x v.numbers) drawn n (λ x. (let a = mine_le x in let b = once_le x drawn in omega arith)) low none in let s = mine_sum in absurd (omega arith)
+
+  -- the others hold no number
+  pub alone : drawn ≤ length v.numbers → (j : ℕ) (u : View G) → j ≢ id → get_elem? views j ≡ some u → u.numbers ≡ []
+  alone whole j u n e = none_else u.numbers (λ x. (let t = total_two (λ (w : View G). times x w.numbers) views id j v u (λ h. n (sym h)) at e in let h = held x in omega arith)) whole
 
 pub at_or : (xs : List ℕ) (i x : ℕ) → get_elem? xs i ≡ some x → get_or xs i 0 ≡ x
 at_or [] i x e = absurd (some-ne-none x (sym e))
@@ -40,37 +89,30 @@ at_or (y ∷ ys) (suc i) x e = at_or ys i x e
 pub row_is : (words : List ℕ) (i k key : ℕ) (lower upper : ℤ) → key ≡ k → lower ≡ bound_of (bound_at words One i) → upper ≡ bound_of (bound_at words Two i) → mathlib.Core.Path.◌≡◌ {A = Kept} (record { key = key; lower = lower; upper = upper }) (kept_row words i k)
 row_is words i k key lower upper a b c = λ j. record { key = a j; lower = b j; upper = c j }
 
-kept_none : (words : List ℕ) (i n : ℕ) → n ≡ 0 → kept_if words i n ≡ []
-kept_none words i zero e = refl
-kept_none words i (suc n) e = absurd (omega arith)
-
-kept_some : (words : List ℕ) (i n k : ℕ) → n ≡ suc k → kept_if words i n ≡ kept_row words i k ∷ []
-kept_some words i zero k e = absurd (omega arith)
-kept_some words i (suc n) k e = let same : n ≡ k = omega arith in λ c. kept_row words i (same c) ∷ []
-
 -- one row more
 pub more_free : (words : List ℕ) (n m : ℕ) → m ≡ suc n → key_at words n ≡ 0 → kept_rows words m ≡ kept_rows words n
-more_free words n m e free = ap (kept_rows words) e ∙ (ap (λ ks. kept_rows words n ++ ks) (kept_none words n (key_at words n) free) ∙ mathlib.Core.List.append-nil (kept_rows words n))
+more_free words n m e free = ap (kept_rows words) e ∙ (ap (λ q. kept_rows words n ++ kept_if words n q) free ∙ mathlib.Core.List.append-nil (kept_rows words n))
 
 pub more_taken : (words : List ℕ) (n m k : ℕ) → m ≡ suc n → key_at words n ≡ suc k → kept_rows words m ≡ kept_rows words n ++ kept_row words n k ∷ []
-more_taken words n m k e taken = ap (kept_rows words) e ∙ ap (λ ks. kept_rows words n ++ ks) (kept_some words n (key_at words n) k taken)
+more_taken words n m k e taken = ap (kept_rows words) e ∙ ap (λ q. kept_rows words n ++ kept_if words n q) taken
 
 -- what is kept comes from a row
+last_one : (words : List ℕ) (n : ℕ) (x : Kept) (q : ℕ) → key_at words n ≡ q → Has x (kept_if words n q) → (k : ℕ) × (key_at words n ≡ suc k) × (x ≡ kept_row words n k)
+last_one words n x zero e t = absurd t
+last_one words n x (suc k) e t = ⊎_elim (λ (is : x ≡ kept_row words n k). (k, e, is)) (λ (no : ⊥). absurd no) t
+
 kept_from : (words : List ℕ) (n : ℕ) (x : Kept) → Has x (kept_rows words n) → (i : ℕ) × (k : ℕ) × (i < n) × (key_at words i ≡ suc k) × (x ≡ kept_row words i k)
 kept_from words zero x h = absurd h
 kept_from words (suc n) x h = ⊎_elim (λ (old : Has x (kept_rows words n)). let o = kept_from words n x old in (o.0, o.1, omega arith, o.3, o.4))
-    (λ (new : Has x (kept_if words n (key_at words n))). let o = last_one (key_at words n) refl new in (n, o.0, omega arith, o.1, o.2)) (has_split x (kept_rows words n) (kept_if words n (key_at words n)) h) where
-      last_one : (q : ℕ) → key_at words n ≡ q → Has x (kept_if words n q) → (k : ℕ) × (key_at words n ≡ suc k) × (x ≡ kept_row words n k)
-      last_one zero e t = absurd t
-      last_one (suc k) e t = ⊎_elim (λ (is : x ≡ kept_row words n k). (k, e, is)) (λ (no : ⊥). absurd no) t
+    (λ (new : Has x (kept_if words n (key_at words n))). let o = last_one words n x (key_at words n) refl new in (n, o.0, omega arith, o.1, o.2)) (has_split x (kept_rows words n) (kept_if words n (key_at words n)) h)
 
 kept_has : (words : List ℕ) (n i k : ℕ) → i < n → key_at words i ≡ suc k → Has (kept_row words i k) (kept_rows words n)
 kept_has words zero i k l e = absurd (omega arith)
 kept_has words (suc n) i k l e = ⊎_elim (λ (lt : i < n). has_left (kept_row words i k) (kept_rows words n) (kept_if words n (key_at words n)) (kept_has words n i k lt e))
     (λ (ge : n ≤ i). let same : n ≡ i = omega arith in has_right (kept_row words i k) (kept_rows words n) (kept_if words n (key_at words n))
-    (subst (λ (ks : List Kept). Has (kept_row words i k) ks) (sym (kept_some words n (key_at words n) k (ap (key_at words) same ∙ e))) (inl (λ c. kept_row words (sym same c) k)))) (cases_lt i n)
+    (subst (λ (ks : List Kept). Has (kept_row words i k) ks) (sym (ap (kept_if words n) (ap (key_at words) same ∙ e))) (inl (λ c. kept_row words (sym same c) k)))) (cases_lt i n)
 
-length_if : (words : List ℕ) (i n : ℕ) → length (kept_if words i n) ≤ 1
+length_if : (words : List ℕ) (i n : ℕ) → length (kept_if words i n) ≡ min n 1
 length_if words i zero = omega arith
 length_if words i (suc n) = omega arith
 
@@ -78,13 +120,10 @@ kept_few : (words : List ℕ) (n : ℕ) → length (kept_rows words n) ≤ n
 kept_few words zero = omega arith
 kept_few words (suc n) = omega (arith, kept_few words n, length-append (kept_rows words n) (kept_if words n (key_at words n)), length_if words n (key_at words n))
 
-length_taken : (words : List ℕ) (i n : ℕ) → n ≢ 0 → length (kept_if words i n) ≡ 1
-length_taken words i zero h = absurd (h refl)
-length_taken words i (suc n) h = refl
-
 kept_full : (words : List ℕ) (n : ℕ) → ((i : ℕ) → i < n → key_at words i ≢ 0) → length (kept_rows words n) ≡ n
 kept_full words zero h = refl
-kept_full words (suc n) h = omega (arith, kept_full words n (λ i l. h i (omega arith)), length-append (kept_rows words n) (kept_if words n (key_at words n)), length_taken words n (key_at words n) (h n (omega arith)))
+kept_full words (suc n) h = let some = h n (omega arith) in
+    omega (arith, kept_full words n (λ i l. h i (omega arith)), length-append (kept_rows words n) (kept_if words n (key_at words n)), length_if words n (key_at words n))
 
 distinct_append : (xs ys : List Kept) → IsDistinct xs → IsDistinct ys → ((x y : Kept) → Has x xs → Has y ys → x.key ≢ y.key) → IsDistinct (xs ++ ys)
 distinct_append [] ys a b h = b
@@ -100,11 +139,8 @@ distinct_if words i (suc n) = ((λ y h. absurd h), tt)
 kept_distinct : (words : List ℕ) (rows n : ℕ) → n ≤ rows → ((i j k : ℕ) → i < rows → j < rows → key_at words i ≡ suc k → key_at words j ≡ suc k → i ≡ j) → IsDistinct (kept_rows words n)
 kept_distinct words rows zero l single = tt
 kept_distinct words rows (suc n) l single = distinct_append (kept_rows words n) (kept_if words n (key_at words n)) (kept_distinct words rows n (omega arith) single) (distinct_if words n (key_at words n))
-    (λ x y h t. let o = kept_from words n x h in let p = last_key (key_at words n) refl y t in λ e. let ox : x.key ≡ o.1 = ap (λ (z : Kept). z.key) o.4 in
-    let same : o.0 ≡ n = single o.0 n o.1 (let a = o.2 in omega arith) (omega arith) o.3 (p ∙ ap suc (sym e ∙ ox)) in let a = o.2 in omega arith) where
-      last_key : (q : ℕ) → key_at words n ≡ q → (y : Kept) → Has y (kept_if words n q) → key_at words n ≡ suc y.key
-      last_key zero e y t = absurd t
-      last_key (suc k) e y t = ⊎_elim (λ (is : y ≡ kept_row words n k). e ∙ ap suc (sym (ap (λ (z : Kept). z.key) is))) (λ (no : ⊥). absurd no) t
+    (λ x y h t e. let o = kept_from words n x h in let p = last_one words n y (key_at words n) refl t in let same_key : o.1 ≡ p.0 = sym (ap (λ (z : Kept). z.key) o.4) ∙ (e ∙ ap (λ (z : Kept). z.key) p.2) in
+    let a = o.2 in let same : o.0 ≡ n = single o.0 n o.1 (omega arith) (omega arith) o.3 (p.1 ∙ ap suc (sym same_key)) in omega arith)
 
 kept_side : (side : Side) (words : List ℕ) (i k : ℕ) → kept_bound side (kept_row words i k) ≡ bound_of (bound_at words side i)
 kept_side One words i k = refl
@@ -121,15 +157,12 @@ all_has P [] each = All-nil P
 all_has P (x ∷ xs) each = All-cons P x xs (each x (inl refl)) (all_has P xs (λ y h. each y (inr h)))
 
 -- ---- the best bounds of a book
-both_true : (a b : Bool) → a ≡ true → b ≡ true → (a && b) ≡ true
-both_true a b p q = rw (p, q) refl
-
 -- no entry of a book is tighter than the best bound
 pub best_entry_of : {S : Type 0} (m : GameModel S) (es : List Entry) (e : Entry) → Has e es → IsNoTighter e.side e.bound (best_posted m es e.side e.key)
 best_entry_of m [] e h = absurd h
 best_entry_of m (f ∷ es) e h = ⊎_elim
     (λ (here : e ≡ f). subst (λ (z : Entry). IsNoTighter e.side e.bound (best_posted m (z ∷ es) e.side e.key)) here
-    (cond_first (same_side e.side e.side && eqb e.key e.key) e.side e.bound (best_posted m es e.side e.key) (both_true (same_side e.side e.side) (eqb e.key e.key) (same_side_self e.side) (eqb_self e.key))))
+    (cond_first (same_side e.side e.side && eqb e.key e.key) e.side e.bound (best_posted m es e.side e.key) (rw (same_side_self e.side, eqb_self e.key) refl)))
     (λ (there : Has e es). looser_trans e.side e.bound (best_posted m es e.side e.key) (best_posted m (f ∷ es) e.side e.key) (best_entry_of m es e there)
     (cond_better (same_side f.side e.side && eqb f.key e.key) e.side f.bound (best_posted m es e.side e.key))) h
 
@@ -147,17 +180,9 @@ module _ {S G : Type 0} (m : GameModel S) (game_laws : IsGame m) (g : G) (rows :
       (λ (ne : o.0 ≢ id). let none = alone s.views r.drawn r.held id v at (let b = (f.leads lead).1 in omega arith) o.0 o.1 ne o.2 in
       let empty = (r.each_view o.0 o.1 o.2).idle none in absurd (idle o.1 empty.1 empty.2 o.3))
 
-  -- a bound that is not the opening one was posted by this view
-  own_bound : (side : Side) (i : ℕ) → i < rows → bound_at s.words side i ≢ opening_word m side → Has (i, side, bound_at s.words side i) v.posted
-  own_bound side i l n = let x : ℕ × Side × ℕ = (i, side, bound_at s.words side i) in own (λ u. Has x u.posted) (λ u none _ h. subst (Has x) none h) (r.posted side i l n)
-
-  -- and it knows the key of a row
-  own_key : (i k : ℕ) → i < rows → key_at s.words i ≡ suc k → Has (i, k) v.keys
-  own_key i k l e = own (λ u. Has (i, k) u.keys) (λ u _ none h. subst (Has (i, k)) none h) (r.claimed i k l e)
-
   key_known : (i n : ℕ) → i < rows → key_at s.words i ≡ n → map (λ (x : Kept). x.key) (kept_if s.words i n) ≡ key_if (key_of v.keys i)
   key_known i zero l e = ap key_if (sym (key_of_none v.keys i (λ k h. let known = (f.knows i k h).1 in absurd (omega arith))))
-  key_known i (suc k) l e = ap key_if (sym (key_of_has v.keys i k (λ q h. let known = (f.knows i q h).1 in omega arith) (own_key i k l e)))
+  key_known i (suc k) l e = ap key_if (sym (key_of_has v.keys i k (λ q h. let known = (f.knows i q h).1 in omega arith) (own (λ u. Has (i, k) u.keys) (λ u _ none h. subst (Has (i, k)) none h) (r.claimed i k l e))))
 
   keys_known : (n : ℕ) → n ≤ rows → map (λ (x : Kept). x.key) (kept_rows s.words n) ≡ known_keys v.keys n
   keys_known zero l = refl
@@ -170,7 +195,7 @@ module _ {S G : Type 0} (m : GameModel S) (game_laws : IsGame m) (g : G) (rows :
   booked_low : (side : Side) (i k : ℕ) → i < rows → key_at s.words i ≡ suc k → IsNoTighter side (bound_of (bound_at s.words side i)) (best_posted m entries side k)
   booked_low side i k l is = dite (ℕ_discrete (bound_at s.words side i) (opening_word m side))
       (λ (e : bound_at s.words side i ≡ opening_word m side). looser_left side (opening_bound m side) (bound_of (bound_at s.words side i)) (best_posted m entries side k) (sym (ap bound_of e ∙ opening_back m game_laws side)) (best_opening m entries side k))
-      (λ (n : bound_at s.words side i ≢ opening_word m side). let b = told.booked i side (bound_at s.words side i) (own_bound side i l n) in
+      (λ (n : bound_at s.words side i ≢ opening_word m side). let b = told.booked i side (bound_at s.words side i) (own (λ u. Has (i, side, bound_at s.words side i) u.posted) (λ u none _ h. subst (Has (i, side, bound_at s.words side i)) none h) (r.posted side i l n)) in
       let there = (f.knows i b.entry.key b.known).1 in let key : b.entry.key ≡ k = omega arith in
       let bound : b.entry.bound ≡ bound_of (bound_at s.words side i) = sym (entry_back m game_laws b.entry total (IsKnown m v) (entry_of b.entry b.booked)) ∙ ap bound_of b.same_bound in
       subst (λ (y : Side × ℕ × ℤ). IsNoTighter y.0 y.2 (best_posted m entries y.0 y.1)) (λ c. (b.same_side c, key c, bound c)) (best_entry_of m entries b.entry b.booked))
@@ -182,13 +207,10 @@ module _ {S G : Type 0} (m : GameModel S) (game_laws : IsGame m) (g : G) (rows :
       let low : IsLooser e.side (word_of e.bound) (bound_at s.words e.side n.row) = word_trans e.side (word_of e.bound) (seen_at m e.side v n.row) (bound_at s.words e.side n.row) b.seen_too (f.no_tighter e.side n.row k.0) in
       subst (λ (y : ℤ × ℕ). IsNoTighter e.side y.0 (bound_of (bound_at s.words e.side y.1))) (λ c. (entry_back m game_laws e total (IsKnown m v) lawful c, row c)) (looser_bound e.side (word_of e.bound) (bound_at s.words e.side n.row) low)
 
-  both_facts : All (λ e. IsEntry m total (IsKnown m v) e × IsEntered v e) entries
-  both_facts = all_has (λ e. IsEntry m total (IsKnown m v) e × IsEntered v e) entries (λ e h. (entry_of e h, All-contains (IsEntered v) entries e told.entered (has_contains e entries h)))
-
   booked_high : (side : Side) (i k : ℕ) → i < rows → key_at s.words i ≡ suc k → IsNoTighter side (best_posted m entries side k) (bound_of (bound_at s.words side i))
   booked_high side i k l is = best_has m entries side k (λ x. IsNoTighter side x (bound_of (bound_at s.words side i))) (word_low m game_laws side (bound_at s.words side i) (word_in_range m g rows game_laws s r side i l))
-      (All-weaker (λ e. IsEntry m total (IsKnown m v) e × IsEntered v e) (λ e. e.side ≡ side → e.key ≡ k → IsNoTighter side e.bound (bound_of (bound_at s.words side i)))
-      (λ e h a b. subst (λ (y : Side). IsNoTighter y e.bound (bound_of (bound_at s.words y i))) a (posted_low e i l (is ∙ ap suc (sym b)) h.0 h.1)) entries both_facts)
+      (all_has (λ e. e.side ≡ side → e.key ≡ k → IsNoTighter side e.bound (bound_of (bound_at s.words side i))) entries
+      (λ e h a b. subst (λ (y : Side). IsNoTighter y e.bound (bound_of (bound_at s.words y i))) a (posted_low e i l (is ∙ ap suc (sym b)) (entry_of e h) (All-contains (IsEntered v) entries e told.entered (has_contains e entries h)))))
 
   booked : (side : Side) (i k : ℕ) → i < rows → key_at s.words i ≡ suc k → bound_of (bound_at s.words side i) ≡ best_posted m entries side k
   booked side i k l is = looser_both side (bound_of (bound_at s.words side i)) (best_posted m entries side k) (booked_low side i k l is) (booked_high side i k l is)

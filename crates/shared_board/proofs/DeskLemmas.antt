@@ -1,5 +1,5 @@
--- A desk as a search sees it: what stays, what grows, and what its calls tell.
-use Rattle.std.proofs.Common.{◌≡◌, ◌≢◌, ⊎_elim, ℕ, ◌+◌, ◌<◌, ◌≤◌, ℤ, Bool, true, false, cond, eqb, Option, None, Some, IsSome, List, ◌∷◌, ◌++◌, length, sym, refl, ap, ◌∙◌, subst, arith, Result, Ok, Err, IfOk, OnOk, OnErr, get_or-set_same}
+-- A desk as a search sees it: what stays, what grows, what its calls tell, and the rows that it has met.
+use Rattle.std.proofs.Common.{◌≡◌, ◌≢◌, ⊎_elim, ℕ, ◌+◌, ◌<◌, ◌≤◌, ℤ, Bool, true, false, cond, eqb, Option, None, Some, IsSome, List, ◌∷◌, ◌++◌, length, sym, refl, ap, ◌∙◌, subst, arith, Result, Ok, Err, OnOk, OnErr, get_or-set_same, ◌⊎◌, slice_set}
 use Rattle.std.proofs.lemmas.Int.{ints}
 use Rattle.sim_game.specs.declared.Side.{Side}
 use Rattle.sim_game.specs.declared.Side.TheVariants.{One, Two}
@@ -18,41 +18,25 @@ use Rattle.shared_board.specs.Values.{DeskValue, viewing, entering, desk_view}
 use Rattle.shared_board.specs.declared.view.View.{View}
 use Rattle.shared_board.proofs.ListLemmas.{has_right}
 use Rattle.shared_board.proofs.WordLemmas.{word_refl, word_trans, word_left, word_right}
-use Rattle.shared_board.proofs.BoundLemmas.{opening_back, seen_here}
+use Rattle.shared_board.proofs.BoundLemmas.{sees_more, opening_back, seen_here}
 use Rattle.shared_board.proofs.SeenLemmas.{looser_bound, key_of_has, has_key_of, seen_opening, seen_has, seen_most, seen_grows, seen_one}
-use Rattle.shared_board.proofs.PassStepLemmas.{sees_more, entry_back}
+use Rattle.shared_board.proofs.PassLemmas.{entry_back}
+use Rattle.std.proofs.lemmas.List.Elements.{All-set, All-weaker}
+use Rattle.shared_board.specs.Known.{IsRowOf, IsPlace, AreKnown}
+use Rattle.shared_board.specs.declared.known.KnownRow.{KnownRow}
+use Rattle.shared_board.specs.declared.known.KnownRows.{KnownRows}
 
 -- ---- answers
-pub if_ok : {A E : Type 0} (r : Result A E) (P Q : A → Type 0) → ((x : A) → P x → Q x) → IfOk r P → IfOk r Q
-if_ok (Ok x) P Q f h = f x h
-if_ok (Err e) P Q f h = h
-
-pub on_ok : {A E : Type 0} (r : Result A E) (P Q : Type 0) → (P → Q) → OnOk r P → OnOk r Q
-on_ok (Ok x) P Q f h = f h
-on_ok (Err e) P Q f h = h
-
 pub ok_always : {A E : Type 0} (r : Result A E) (Q : Type 0) → Q → OnOk r Q
 ok_always (Ok x) Q h = h
 ok_always (Err e) Q h = tt
-
-pub err_always : {A E : Type 0} (r : Result A E) (Q : Type 0) → Q → OnErr r Q
-err_always (Ok x) Q h = tt
-err_always (Err e) Q h = h
-
-pub on_err : {A E : Type 0} (r : Result A E) (P Q : Type 0) → (P → Q) → OnErr r P → OnErr r Q
-on_err (Ok x) P Q f h = h
-on_err (Err e) P Q f h = f h
 
 pub either_way : {A E : Type 0} (r : Result A E) (P Q X : Type 0) → (P → X) → (Q → X) → OnOk r P → OnErr r Q → X
 either_way (Ok x) P Q X f g h k = f h
 either_way (Err e) P Q X f g h k = g k
 
-some_of : (o : Option ℕ) → IsSome o → (k : ℕ) × (o ≡ Some k)
-some_of None h = cc
-some_of (Some k) h = (k, refl)
-
 pub key_known : (ks : List (ℕ × ℕ)) (row : ℕ) → IsSome (key_of ks row) → (k : ℕ) × Has (row, k) ks
-key_known ks row h = let o = some_of (key_of ks row) h in (o.0, has_key_of ks row o.0 o.1)
+key_known ks row h = elim (key_of ks row) as (λ o. key_of ks row ≡ o → IsSome o → (k : ℕ) × Has (row, k) ks) [ None ↦ λ _ h. cc | Some k ↦ λ e _. (k, has_key_of ks row k e) ] refl h
 
 pub key_stays : (ks ls : List (ℕ × ℕ)) → ((p : ℕ × ℕ) → Has p ks → Has p ls) → IsApart ls → (row key : ℕ) → key_of ks row ≡ Some key → key_of ls row ≡ Some key
 key_stays ks ls keys apart row key e = let h = keys (row, key) (has_key_of ks row key e) in key_of_has ls row key (λ l t. apart.one_key row l key t h) h
@@ -74,11 +58,8 @@ module _ {S G N : Type 0} (m : GameModel S) (game : IsGame m) (v : View G) (name
   known_of is side s x false e end r (by_opening h) = looser_left side (opening_bound m side) x (seen_by m v side (m.key s)) (sym h) (seen_opening m side v v.keys (m.key s))
   known_of is side s x false e end r (by_seen h) = looser_right side x (b.seen side (m.key s)) (seen_by m v side (m.key s)) (is side (m.key s)) h
 
-  rank_end : (s : S) (t : Bool) → eqb (m.rank s) 0 ≡ t → t ≡ true → IsEnd m s
-  rank_end s t e h = Rattle.std.proofs.lemmas.Bool.eqb-true (m.rank s) 0 (e ∙ h)
-
   pub known_entry : (e : Entry) → ((side : Side) (key : ℕ) → b.seen side key ≡ seen_by m v side key) → IsPostable m b e → IsEntry m b.total (IsKnown m v) e
-  known_entry e is h = entry_weaker m b.total (IsSeenNumber m b) (IsKnown m v) e (λ s x r k. known_of is e.side s x (eqb (m.rank s) 0) refl (rank_end s (eqb (m.rank s) 0) refl) r k) h
+  known_entry e is h = entry_weaker m b.total (IsSeenNumber m b) (IsKnown m v) e (λ s x r k. known_of is e.side s x (eqb (m.rank s) 0) refl (λ h. Rattle.std.proofs.lemmas.Bool.eqb-true (m.rank s) 0 h) r k) h
 
 -- what a read tells of the states of a key
 pub read_backed : {S G : Type 0} (m : GameModel S) (v : View G) (i : ℕ) (lower upper : ℤ) → IsAnswer m One v i lower → IsAnswer m Two v i upper → (s : S) → Reachable m s → key_of v.keys i ≡ Some (m.key s) → IsEnclosure m lower upper s
@@ -202,3 +183,17 @@ module _ {S G : Type 0} (model : G → GameModel S) where
         let known : Has (i, e.key) after.keys = has_key_of v.keys i e.key key in
         subst (λ (z : DeskValue G). IsNoTighter e.side e.bound ((desk_view model z).seen e.side e.key)) (sym did.1)
         (looser_trans e.side e.bound (bound_of (seen_at m e.side after i)) (seen_by m after e.side e.key) low (seen_has m e.side after after.keys i e.key known))
+
+-- no less is known
+pub known_more : (ks old new : List (ℕ × ℕ)) (places : List (Option KnownRow)) → new ≡ ks ++ old → IsApart new → AreKnown old places → AreKnown new places
+known_more ks old new places is apart = All-weaker (IsPlace old) (IsPlace new) more places where
+  more : (place : Option KnownRow) → IsPlace old place → IsPlace new place
+  more None h = tt
+  more (Some x) h = record { has = subst (Has (x.row, x.key)) (sym is) (has_right (x.row, x.key) ks old h.has); apart = apart }
+
+-- a row is kept
+pub known_kept : (keys : List (ℕ × ℕ)) (old new : KnownRows) (x : KnownRow) → (new ≡ old) ⊎ ((place : ℕ) × (new.places.items ≡ slice_set old.places.items place (Some x))) → IsRowOf keys x → AreKnown keys old.places.items → AreKnown keys new.places.items
+known_kept keys old new x set row known = ⊎_elim
+    (λ (same : new ≡ old). subst (λ (k : KnownRows). AreKnown keys k.places.items) (sym same) known)
+    (λ (at : (place : ℕ) × (new.places.items ≡ slice_set old.places.items place (Some x))). subst (AreKnown keys) (sym at.1) (All-set (IsPlace keys) old.places.items at.0 (Some x) row known))
+    set

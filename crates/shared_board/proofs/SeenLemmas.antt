@@ -1,5 +1,5 @@
 -- What a view has seen at a key.
-use Rattle.std.proofs.Common.{◌≡◌, ◌⊎◌, inl, inr, ⊎_elim, ℕ, ℤ, Bool, true, false, cond, eqb, Option, None, Some, List, [], ◌∷◌, All, refl, sym, ap, ◌∙◌, subst, arith}
+use Rattle.std.proofs.Common.{◌≡◌, inl, inr, ⊎_elim, ℕ, ℤ, Bool, true, false, cond, eqb, None, Some, List, [], ◌∷◌, All, refl, sym, ap, ◌∙◌, subst, arith}
 use Rattle.std.proofs.lemmas.Int.{ints}
 use Rattle.std.proofs.lemmas.Bool.{eqb-true}
 use Rattle.std.proofs.lemmas.List.Elements.{All-weaker}
@@ -23,32 +23,23 @@ looser_bound One a b h = omega (arith, ints)
 looser_bound Two a b h = omega (arith, ints)
 
 -- ---- the key of a row
-key_found : (b : Bool) (p : ℕ × ℕ) (rest : Option ℕ) (key : ℕ) → (b ≡ true → p.1 ≡ key) → (b ≡ false → rest ≡ Some key) → cond b (Some p.1) rest ≡ Some key
-key_found true p rest key here there = ap Some (here refl)
-key_found false p rest key here there = there refl
-
 pub key_of_has : (ks : List (ℕ × ℕ)) (row key : ℕ) → ((l : ℕ) → Has (row, l) ks → l ≡ key) → Has (row, key) ks → key_of ks row ≡ Some key
 key_of_has [] row key one h = absurd h
-key_of_has (p ∷ ps) row key one h = key_found (eqb p.0 row) p (key_of ps row) key
-    (λ e. one p.1 (inl (λ c. (sym (eqb-true p.0 row e) c, p.1))))
-    (λ e. key_of_has ps row key (λ l t. one l (inr t)) (⊎_elim
-    (λ (here : (row, key) ≡ p). let same : eqb p.0 row ≡ true = ap (λ (q : ℕ × ℕ). eqb q.0 row) (sym here) ∙ eqb_self row in let no : false ≡ true = sym e ∙ same in cc)
-    (λ (there : Has (row, key) ps). there) h))
-
-has_found : (b : Bool) (p : ℕ × ℕ) (rest : Option ℕ) (row key : ℕ) (Rest : Type 0) → (b ≡ true → p.0 ≡ row) → (rest ≡ Some key → Rest) → cond b (Some p.1) rest ≡ Some key → ((row, key) ≡ p) ⊎ Rest
-has_found true p rest row key Rest here there e = let same : p.1 ≡ key = cc in inl (λ c. (sym (here refl) c, sym same c))
-has_found false p rest row key Rest here there e = inr (there e)
+key_of_has (p ∷ ps) row key one h = elim (eqb p.0 row) as (λ b. eqb p.0 row ≡ b → cond b (Some p.1) (key_of ps row) ≡ Some key) [
+  | true ↦ λ e. ap Some (one p.1 (inl (λ c. (sym (eqb-true p.0 row e) c, p.1))))
+  | false ↦ λ e. key_of_has ps row key (λ l t. one l (inr t)) (⊎_elim
+      (λ (here : (row, key) ≡ p). let same : eqb p.0 row ≡ true = ap (λ (q : ℕ × ℕ). eqb q.0 row) (sym here) ∙ eqb_self row in let no : false ≡ true = sym e ∙ same in cc) (λ (there : Has (row, key) ps). there) h)
+] refl
 
 pub has_key_of : (ks : List (ℕ × ℕ)) (row key : ℕ) → key_of ks row ≡ Some key → Has (row, key) ks
 has_key_of [] row key e = cc
-has_key_of (p ∷ ps) row key e = has_found (eqb p.0 row) p (key_of ps row) row key (Has (row, key) ps) (λ t. eqb-true p.0 row t) (λ t. has_key_of ps row key t) e
-
-none_of : (o : Option ℕ) → ((key : ℕ) → o ≡ Some key → ⊥) → o ≡ None
-none_of None h = refl
-none_of (Some key) h = absurd (h key refl)
+has_key_of (p ∷ ps) row key e = elim (eqb p.0 row) as (λ b. eqb p.0 row ≡ b → cond b (Some p.1) (key_of ps row) ≡ Some key → Has (row, key) (p ∷ ps)) [
+  | true ↦ λ t e. let same : p.1 ≡ key = cc in inl (λ c. (sym (eqb-true p.0 row t) c, sym same c))
+  | false ↦ λ _ e. inr (has_key_of ps row key e)
+] refl e
 
 pub key_of_none : (ks : List (ℕ × ℕ)) (row : ℕ) → ((key : ℕ) → Has (row, key) ks → ⊥) → key_of ks row ≡ None
-key_of_none ks row none = none_of (key_of ks row) (λ key e. none key (has_key_of ks row key e))
+key_of_none ks row none = elim (key_of ks row) as (λ o. key_of ks row ≡ o → o ≡ None) [ None ↦ λ _. refl | Some key ↦ λ e. absurd (none key (has_key_of ks row key e)) ] refl
 
 -- ---- the bounds at a key
 pub cond_better : (b : Bool) (side : Side) (x z : ℤ) → IsNoTighter side z (cond b (better side x z) z)
@@ -96,11 +87,8 @@ module _ {S G : Type 0} (m : GameModel S) where
       (seen_most side v v.keys key (bound_of (seen_at m side v i)) low
       (λ j t. subst (λ (z : ℕ). IsNoTighter side (bound_of (seen_at m side v z)) (bound_of (seen_at m side v i))) (apart.one_row i j key h t) (looser_refl side (bound_of (seen_at m side v i)))))
 
-  pub known_grows : (v w : View G) (side : Side) (s : S) (x : ℤ) → ((p : ℕ × ℕ) → Has p v.keys → Has p w.keys) → ((i : ℕ) → IsLooser side (seen_at m side v i) (seen_at m side w i)) → IsKnown m v side s x → IsKnown m w side s x
-  known_grows v w side s x keys sees h = known_then (eqb (m.rank s) 0) side x (end_bound m s) (seen_by m v side (m.key s)) (seen_by m w side (m.key s)) (seen_grows v w side (m.key s) keys sees) h
-
   pub lawful_grows : (v w : View G) (total : ℕ) (e : Entry) → ((p : ℕ × ℕ) → Has p v.keys → Has p w.keys) → ((side : Side) (i : ℕ) → IsLooser side (seen_at m side v i) (seen_at m side w i)) → IsEntry m total (IsKnown m v) e → IsEntry m total (IsKnown m w) e
-  lawful_grows v w total e keys sees h = entry_weaker m total (IsKnown m v) (IsKnown m w) e (λ s x r k. known_grows v w e.side s x keys (sees e.side) k) h
+  lawful_grows v w total e keys sees h = entry_weaker m total (IsKnown m v) (IsKnown m w) e (λ s x r k. known_then (eqb (m.rank s) 0) e.side x (end_bound m s) (seen_by m v e.side (m.key s)) (seen_by m w e.side (m.key s)) (seen_grows v w e.side (m.key s) keys (sees e.side)) k) h
 
   pub each_grows : (v w : View G) (total : ℕ) (es : List Entry) → ((p : ℕ × ℕ) → Has p v.keys → Has p w.keys) → ((side : Side) (i : ℕ) → IsLooser side (seen_at m side v i) (seen_at m side w i)) → All (IsEntry m total (IsKnown m v)) es → All (IsEntry m total (IsKnown m w)) es
   each_grows v w total es keys sees all = All-weaker (IsEntry m total (IsKnown m v)) (IsEntry m total (IsKnown m w)) (λ e h. lawful_grows v w total e keys sees h) es all

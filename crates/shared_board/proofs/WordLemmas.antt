@@ -1,5 +1,5 @@
 -- Words of a board: which is which, how bounds stand in them, and a board of free rows.
-use Rattle.std.proofs.Common.{◌≡◌, ◌≢◌, ◌⊎◌, inl, inr, ⊎_elim, ℕ, zero, suc, ◌+◌, ◌*◌, ◌<◌, ◌≤◌, ℤ, pos, negsuc, ◌+ℤ◌, ◌≤ℤ◌, neg_ℤ, List, [], ◌∷◌, ◌++◌, length, get_or, sym, refl, ◌∙◌, subst, arith}
+use Rattle.std.proofs.Common.{◌≡◌, ◌≢◌, ◌⊎◌, inl, inr, ⊎_elim, ℕ, zero, suc, ◌+◌, ◌*◌, ◌<◌, ◌≤◌, ℤ, pos, negsuc, ◌+ℤ◌, ◌≤ℤ◌, neg_ℤ, List, [], ◌∷◌, ◌++◌, length, get_or, refl, ap, ◌∙◌, arith}
 use Rattle.std.proofs.lemmas.Int.{ints}
 use Rattle.std.proofs.lemmas.Bool.{cases_lt}
 use Rattle.sim_game.specs.declared.Side.{Side}
@@ -62,20 +62,10 @@ pub bound_not_first : (side : Side) (i : ℕ) → bound_word side i ≢ 0
 bound_not_first One i e = omega arith
 bound_not_first Two i e = omega arith
 
-blank_first : (words : List ℕ) (a b c i : ℕ) → i ≡ length words → get_or (((words ++ a ∷ []) ++ b ∷ []) ++ c ∷ []) i 0 ≡ a
-blank_first [] a b c i e = subst (λ (z : ℕ). get_or (a ∷ b ∷ c ∷ []) z 0 ≡ a) (sym e) refl
-blank_first (x ∷ xs) a b c zero e = absurd (omega arith)
-blank_first (x ∷ xs) a b c (suc i) e = blank_first xs a b c i (omega arith)
-
-blank_second : (words : List ℕ) (a b c i : ℕ) → i ≡ length words + 1 → get_or (((words ++ a ∷ []) ++ b ∷ []) ++ c ∷ []) i 0 ≡ b
-blank_second [] a b c i e = subst (λ (z : ℕ). get_or (a ∷ b ∷ c ∷ []) z 0 ≡ b) (sym e) refl
-blank_second (x ∷ xs) a b c zero e = absurd (omega arith)
-blank_second (x ∷ xs) a b c (suc i) e = blank_second xs a b c i (omega arith)
-
-blank_third : (words : List ℕ) (a b c i : ℕ) → i ≡ length words + 2 → get_or (((words ++ a ∷ []) ++ b ∷ []) ++ c ∷ []) i 0 ≡ c
-blank_third [] a b c i e = subst (λ (z : ℕ). get_or (a ∷ b ∷ c ∷ []) z 0 ≡ c) (sym e) refl
-blank_third (x ∷ xs) a b c zero e = absurd (omega arith)
-blank_third (x ∷ xs) a b c (suc i) e = blank_third xs a b c i (omega arith)
+blank_at : (words : List ℕ) (a b c i n : ℕ) → i ≡ length words + n → get_or (((words ++ a ∷ []) ++ b ∷ []) ++ c ∷ []) i 0 ≡ get_or (a ∷ b ∷ c ∷ []) n 0
+blank_at [] a b c i n e = ap (λ (z : ℕ). get_or (a ∷ b ∷ c ∷ []) z 0) (omega arith)
+blank_at (x ∷ xs) a b c zero n e = absurd (omega arith)
+blank_at (x ∷ xs) a b c (suc i) n e = blank_at xs a b c i n (omega arith)
 
 blank_there : (words : List ℕ) (a b c i : ℕ) → i < length words → get_or (((words ++ a ∷ []) ++ b ∷ []) ++ c ∷ []) i 0 ≡ get_or words i 0
 blank_there [] a b c i h = absurd (omega arith)
@@ -91,7 +81,7 @@ pub blank_more : (words : List ℕ) (n low high : ℕ) → IsBlank words n low h
 blank_more words n low high b = let wide = b.wide in record {
   wide = omega (arith, blank_long words 0 low high);
   zero_first = blank_there words 0 low high 0 (omega arith) ∙ b.zero_first;
-  free = λ i l. ⊎_elim (λ (h : i < n). blank_there words 0 low high (key_word i) (omega arith) ∙ b.free i h) (λ (h : n ≤ i). blank_first words 0 low high (key_word i) (omega arith)) (cases_lt i n);
-  lower = λ i l. ⊎_elim (λ (h : i < n). blank_there words 0 low high (bound_word One i) (omega arith) ∙ b.lower i h) (λ (h : n ≤ i). blank_second words 0 low high (bound_word One i) (omega arith)) (cases_lt i n);
-  upper = λ i l. ⊎_elim (λ (h : i < n). blank_there words 0 low high (bound_word Two i) (omega arith) ∙ b.upper i h) (λ (h : n ≤ i). blank_third words 0 low high (bound_word Two i) (omega arith)) (cases_lt i n);
+  free = λ i l. ⊎_elim (λ (h : i < n). blank_there words 0 low high (key_word i) (omega arith) ∙ b.free i h) (λ (h : n ≤ i). blank_at words 0 low high (key_word i) 0 (omega arith)) (cases_lt i n);
+  lower = λ i l. ⊎_elim (λ (h : i < n). blank_there words 0 low high (bound_word One i) (omega arith) ∙ b.lower i h) (λ (h : n ≤ i). blank_at words 0 low high (bound_word One i) 1 (omega arith)) (cases_lt i n);
+  upper = λ i l. ⊎_elim (λ (h : i < n). blank_there words 0 low high (bound_word Two i) (omega arith) ∙ b.upper i h) (λ (h : n ≤ i). blank_at words 0 low high (bound_word Two i) 2 (omega arith)) (cases_lt i n);
 }

@@ -1,18 +1,17 @@
 -- The cells that a position names.
 use Rattle.std.proofs.Common.{◌≡◌, ℕ, ◌+◌, ◌*◌, ◌^◌, ◌<◌, ◌≤◌, ◌≢◌, false, eqb, leb, List, [], ◌∷◌, ◌++◌, length, get_or, None, position, refl, sym, subst, ◌∙◌, inl, inr, arith}
 use Rattle.std.proofs.Math.Seq.{get_or-append_seam}
-use Rattle.std.proofs.lemmas.Bool.{cases_lt, lt-ltb, leb-false, eqb-false, ne_eqb}
+use Rattle.std.proofs.lemmas.Bool.{cases_lt, lt-ltb, leb-false, ne_eqb}
 use Rattle.std.proofs.lemmas.Bool.Decides.{nat_tests}
 use Rattle.std.proofs.lemmas.List.{append_assoc, length-append, get_or_append_left, get_or-append-add}
 use Rattle.std.proofs.lemmas.List.Elements.{All-from_get_or, All-append, All-cons, All-nil}
 use Rattle.std.proofs.lemmas.List.Folds.{list_any_none}
 use Rattle.std.proofs.lemmas.List.Sums.{fails_before_first}
-use Rattle.std.proofs.lemmas.Nat.Bits.{bit_at-lt}
-use Rattle.std.specs.Int.{bit_at}
 use Rattle.std.specs.List.{All, list_any, position_or_len}
 use Rattle.tron.specs.declared.Setting.{Setting}
 use Rattle.tron.specs.Cells.{is_listed, with_cell, IsSetOf}
-use Rattle.tron.specs.CellLaws.{set_more, same_set, below_bits}
+use Rattle.state_key.proofs.SetLemmas.{below_bits, bit_clear, same_set}
+use Rattle.tron.specs.CellLaws.{set_more}
 use Rattle.tron.specs.Position.{is_outside, named_cells, first_fault, IsGrid, IsSettingOf, IsPosition}
 
 pub none_past : (bound : ℕ) (cells : List ℕ) → position (λ cell. leb bound cell) cells ≡ None → All (λ cell. cell < bound) cells
@@ -47,11 +46,7 @@ unlisted : (bound : ℕ) (cells : List ℕ) (cell : ℕ) → All (λ other. othe
 unlisted bound cells cell all l = list_any_none (λ other. eqb other cell) cells (λ k d p. ne_eqb _ cell (λ e. absurd (let b = all k d p in omega arith)))
 
 pub set_small : (bound : ℕ) (cells : List ℕ) (taken : ℕ) → All (λ cell. cell < bound) cells → IsSetOf cells taken → taken < 2 ^ bound
-set_small bound cells taken all s = below_bits bound taken (λ i l.
-    let test : eqb (bit_at taken i) 1 ≡ false = s.same i ∙ unlisted bound cells i all l in
-    let clear = eqb-false (bit_at taken i) 1 test in
-    let bit = bit_at-lt taken i in
-    omega arith)
+set_small bound cells taken all s = below_bits bound taken (λ i l. bit_clear taken i (s.same i ∙ unlisted bound cells i all l))
 
 -- ---- the position
 pub no_fault : (height width : ℕ) (walls : List ℕ) (one two : ℕ) → IsGrid height width → position (λ cell. leb (height * width) cell) (named_cells walls one two) ≡ None
@@ -75,8 +70,5 @@ position_of g walls grid below one two s =
 
 pub one_setting : (height width : ℕ) (walls : List ℕ) (one two : ℕ) (g h : Setting) → IsSettingOf height width walls one two g → IsSettingOf height width walls one two h → g ≡ h
 one_setting height width walls one two g h p q =
-    let made : ℕ → ℕ → ℕ → ℕ → ℕ → Setting = λ height width taken one two. record { height = height; width = width; taken = taken; one = one; two = two } in
-    let taken : g.taken ≡ h.taken = same_set g.taken h.taken (λ cell. p.taken_is.same cell ∙ sym (q.taken_is.same cell)) in
-    let e : made g.height g.width g.taken g.one g.two ≡ made h.height h.width h.taken h.one h.two =
-    rw (p.height_is ∙ sym q.height_is, p.width_is ∙ sym q.width_is, taken, p.one_is ∙ sym q.one_is, p.two_is ∙ sym q.two_is) refl in
-    e
+    let taken = same_set g.taken h.taken (λ cell. p.taken_is.same cell ∙ sym (q.taken_is.same cell)) in
+    λ i. record { height = (p.height_is ∙ sym q.height_is) i; width = (p.width_is ∙ sym q.width_is) i; taken = taken i; one = (p.one_is ∙ sym q.one_is) i; two = (p.two_is ∙ sym q.two_is) i }

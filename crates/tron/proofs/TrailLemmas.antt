@@ -1,13 +1,15 @@
 -- A state and the trails that it stands for.
 use Rattle.std.proofs.Common.{◌≡◌, ◌≢◌, ℕ, ◌<◌, Bool, true, false, ◌||◌, eqb, List, [], ◌∷◌, fold, refl, sym, ap, subst, ◌∙◌, inl, inr, arith}
+use Rattle.std.proofs.Math.Bool.{or_assoc}
 use Rattle.std.proofs.lemmas.Bool.{both_ways, cases_eq, cases_Bool, eq-eqb, ne_eqb}
 use Rattle.std.proofs.lemmas.List.Folds.{list_any_at}
 use Rattle.std.proofs.lemmas.List.Quantifiers.{all_pairs_push}
 use Rattle.sim_game.specs.declared.Side.TheVariants.{One, Two}
 use Rattle.tron.specs.declared.Setting.{Setting}
 use Rattle.tron.specs.declared.State.{State}
-use Rattle.tron.specs.Cells.{is_taken, with_cell, is_listed, add_cell, AreDistinct, IsSetOf}
-use Rattle.tron.specs.CellLaws.{or_last, taken_with, listed_push}
+use Rattle.tron.specs.Cells.{with_cell, is_listed, add_cell, AreDistinct, IsSetOf}
+use Rattle.state_key.proofs.SetLemmas.{in_with, or_last}
+use Rattle.tron.specs.CellLaws.{listed_push}
 use Rattle.tron.specs.Position.{named_cells, IsSettingOf}
 use Rattle.tron.specs.Rules.{Arena, Trails, arena_of, arena_of_trails, entered, first_state, first_trails, with_heads, after_moves, moved, StandsFor}
 
@@ -28,13 +30,9 @@ distinct_add cells cell d = elim (cases_Bool (is_listed cells cell)) [
 ]
 
 set_add : (cells : List ℕ) (taken cell : ℕ) → IsSetOf cells taken → IsSetOf (add_cell cells cell) (with_cell taken cell)
-set_add cells taken cell s = record { same = λ other. taken_with taken cell other ∙ ap (λ (b : Bool). b || eqb cell other) (s.same other) ∙ sym (listed_add cells cell other) }
+set_add cells taken cell s = record { same = λ other. in_with taken cell other ∙ ap (λ (b : Bool). b || eqb cell other) (s.same other) ∙ sym (listed_add cells cell other) }
 
 -- ---- each cell once
-or_assoc : (a b c : Bool) → ((a || b) || c) ≡ (a || (b || c))
-or_assoc true b c = refl
-or_assoc false b c = refl
-
 listed_each : (start cells : List ℕ) (other : ℕ) → is_listed (fold add_cell start cells) other ≡ (is_listed start other || is_listed cells other)
 listed_each start [] other = sym (or_last (is_listed start other) false refl)
 listed_each start (cell ∷ cells) other =
@@ -54,16 +52,8 @@ stands_first g walls one two is = record {
 }
 
 -- ---- the rules look at the same arena
-same_tests : (f h : ℕ → Bool) → ((cell : ℕ) → f cell ≡ h cell) → f ≡ h
-same_tests f h agree = λ i cell. agree cell i
-
 pub same_arena : (g : Setting) (s : State) (t : Trails) → StandsFor s t → arena_of g s ≡ arena_of_trails g t
-same_arena g s t stands =
-    let made : (ℕ → Bool) → ℕ → ℕ → Arena = λ taken one two. record { height = g.height; width = g.width; taken = taken; one = one; two = two } in
-    let e : made (is_taken s.taken) s.one s.two ≡ made (is_listed t.taken) t.one t.two =
-    ap (λ (taken : ℕ → Bool). made taken s.one s.two) (same_tests (is_taken s.taken) (is_listed t.taken) stands.taken.same)
-    ∙ ap (λ (one : ℕ). made (is_listed t.taken) one s.two) stands.one ∙ ap (made (is_listed t.taken) t.one) stands.two in
-    e
+same_arena g s t stands = λ i. record { height = g.height; width = g.width; taken = λ cell. stands.taken.same cell i; one = stands.one i; two = stands.two i }
 
 stands_moved : (s : State) (t : Trails) (one two : ℕ) → StandsFor s t → StandsFor (moved s one two) (with_heads t one two)
 stands_moved s t one two stands = record {

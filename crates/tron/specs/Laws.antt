@@ -17,9 +17,10 @@ use Rattle.tron.specs.declared.Direction.{Direction}
 use Rattle.tron.specs.declared.Direction.TheVariants.{North, East, South, West}
 use Rattle.tron.specs.declared.Setting.{Setting}
 use Rattle.tron.specs.declared.State.{State}
+use Rattle.state_key.proofs.SetLemmas.{bit_clear, bit_other, ones_with, with_below}
 use Rattle.tron.specs.Cells.{with_cell}
-use Rattle.tron.specs.CellLaws.{set_other, set_below, ones_with, free_and_taken, bits_sum, bit_clear, same_set}
-use Rattle.tron.specs.Position.{IsGrid, IsPosition, IsSettingOf}
+use Rattle.tron.specs.CellLaws.{free_and_taken, bits_sum}
+use Rattle.tron.specs.Position.{IsGrid, IsPosition}
 use Rattle.tron.specs.Rules.{Arena, head_of, goes_on, neighbour, is_open, open_directions, directions_of, is_shut, is_over, ways, entered, free_cells, rank_of, key_of, arena_of, tron_game}
 
 -- ---- the grid
@@ -107,10 +108,7 @@ pub record IsSound (g : Setting) (s : State) : Type 0 where
   pub taken_on_grid : s.taken < 2 ^ (g.height * g.width)
 
 pub same_state : (s t : State) → s.taken ≡ t.taken → s.one ≡ t.one → s.two ≡ t.two → s ≡ t
-same_state s t p q r =
-    let made : ℕ → ℕ → ℕ → State = λ taken one two. record { taken = taken; one = one; two = two } in
-    let e : made s.taken s.one s.two ≡ made t.taken t.one t.two = rw (p, q, r) refl in
-    e
+same_state s t p q r = λ i. record { taken = p i; one = q i; two = r i }
 
 -- what holds of the cell that a side enters
 pub record IsEntered (g : Setting) (s : State) (cell : ℕ) : Type 0 where
@@ -120,7 +118,7 @@ pub record IsEntered (g : Setting) (s : State) (cell : ℕ) : Type 0 where
 -- two cells are taken
 two_more : (taken one two : ℕ) → one ≢ two → bit_at taken one ≡ 0 → bit_at taken two ≡ 0 → ones (with_cell (with_cell taken one) two) ≡ ones taken + 2
 two_more taken one two differ free_one free_two =
-    let still : bit_at (with_cell taken one) two ≡ 0 = set_other taken one two (λ e. differ (sym e)) ∙ free_two in
+    let still : bit_at (with_cell taken one) two ≡ 0 = bit_other taken one two (λ e. differ (sym e)) ∙ free_two in
     omega (arith, ones_with taken one free_one, ones_with (with_cell taken one) two still)
 
 turn_open : (g : Setting) (side : Side) (s : State) (i : ℕ) → i < length (ways (arena_of g s) side) → is_over (arena_of g s) ≡ false
@@ -170,15 +168,13 @@ module _ (g : Setting) (p : IsPosition g) where
   -- a move enters a free cell of the grid
   pub cell_entered : (side : Side) (s : State) (i : ℕ) → IsSound g s → i < length (ways (arena_of g s) side) → IsEntered g s (entered (arena_of g s) side i)
   cell_entered side s i here h =
-      let e = open_ways g side s (turn_open g side s i h) in
-      rw e (direction_entered side s i here (open_place g side s i h))
+      rw (open_ways g side s (turn_open g side s i h)) (direction_entered side s i here (open_place g side s i h))
 
   rank_open : (s : State) → IsSound g s → is_over (arena_of g s) ≡ false → 1 ≤ (free_cells (arena_of g s) + 1) / 2
   rank_open s here now =
       let enters = direction_entered One s 0 here ((not_over (arena_of g s) now).some One) in
       let cell = neighbour g.width s.one (get_or (open_directions (arena_of g s) s.one) 0 North) in
-      let most = ones-le cells (with_cell s.taken cell) (set_below cells s.taken cell enters.on_grid here.taken_on_grid) in
-      omega (arith, free_is s here, most, ones_with s.taken cell enters.free)
+      omega (arith, free_is s here, ones-le cells (with_cell s.taken cell) (with_below cells s.taken cell enters.on_grid here.taken_on_grid), ones_with s.taken cell enters.free)
 
   sound_root : IsSound g (tron_game g).root
   sound_root = record {
@@ -194,22 +190,24 @@ module _ (g : Setting) (p : IsPosition g) where
       record {
         one_on_grid = one.on_grid;
         two_on_grid = two.on_grid;
-        taken_on_grid = set_below cells _ _ two.on_grid (set_below cells s.taken _ one.on_grid here.taken_on_grid);
+        taken_on_grid = with_below cells _ _ two.on_grid (with_below cells s.taken _ one.on_grid here.taken_on_grid);
       }
 
   pub sound : (s : State) → Reachable (tron_game g) s → IsSound g s
   sound = reachable_induction (tron_game g) (IsSound g) sound_root (λ s t _ here turn. sound_turn s t here turn)
 
+  -- the fields of the key
+  pub in_bits : (s : State) → Reachable (tron_game g) s → (s.taken < 2 ^ 36) × (s.one < 36) × (s.two < 36)
+  in_bits s r = let here = sound s r in (taken_small s here, omega (arith, here.one_on_grid, cells_high), omega (arith, here.two_on_grid, cells_high))
+
   rank_falls : (s : State) (t : Turn) → IsSound g s → IsTurn (tron_game g) s t → rank_of (arena_of g (after_turn (tron_game g) s t)) < rank_of (arena_of g s)
   rank_falls s t here turn =
       let now = turn_open g One s t.one turn.one_below in
-      let one = cell_entered One s t.one here turn.one_below in
-      let two = cell_entered Two s t.two here turn.two_below in
       let next : State = after_turn (tron_game g) s t in
       let top = (free_cells (arena_of g s) + 1) / 2 in
       let rank : rank_of (arena_of g s) ≡ top = ap (λ (b : Bool). cond b 0 top) now in
       let lower : is_over (arena_of g next) ≡ false → (free_cells (arena_of g next) + 1) / 2 < top = λ then.
-      let more = two_more s.taken next.one next.two (not_over (arena_of g next) then).apart one.free two.free in
+      let more = two_more s.taken next.one next.two (not_over (arena_of g next) then).apart (cell_entered One s t.one here turn.one_below).free (cell_entered Two s t.two here turn.two_below).free in
       omega (arith, free_is s here, free_is next (sound_turn s t here turn), more) in
       rw rank (cond_below (is_over (arena_of g next)) ((free_cells (arena_of g next) + 1) / 2) top (rank_open s here now) lower)
 
@@ -248,19 +246,10 @@ module _ (g : Setting) (p : IsPosition g) where
     payoff_low = λ s r h. (payoff_small (eqb s.one s.two) (is_shut (arena_of g s) One && is_shut (arena_of g s) Two) (is_shut (arena_of g s) One)).0;
     payoff_high = λ s r h. (payoff_small (eqb s.one s.two) (is_shut (arena_of g s) One && is_shut (arena_of g s) Two) (is_shut (arena_of g s) One)).1;
     same_key = λ s t r r' e. equal_keys s t (sound s r) (sound t r') e;
-    key_high = λ s r. let here = sound s r in omega (arith, key_is s here, taken_small s here, cells_high, here.one_on_grid, here.two_on_grid);
+    key_high = λ s r. omega (arith, key_is s (sound s r), in_bits s r);
     draws_low = λ s a b r h h'. omega arith;
     draws_high = λ s a b r h h'. omega arith;
     chance_low = λ s t r h. omega arith;
     chance_sum = λ s a b r h h'. refl;
     one_draw = λ s a b h r h' h''. refl;
   }
-
--- lists stand for one setting only
-pub same_setting : (height width : ℕ) (walls : List ℕ) (one two : ℕ) (g h : Setting) → IsSettingOf height width walls one two g → IsSettingOf height width walls one two h → g ≡ h
-same_setting height width walls one two g h a b =
-    let made : ℕ → ℕ → ℕ → ℕ → ℕ → Setting = λ height width taken one two. record { height = height; width = width; taken = taken; one = one; two = two } in
-    let taken = same_set g.taken h.taken (λ cell. a.taken_is.same cell ∙ sym (b.taken_is.same cell)) in
-    let e : made g.height g.width g.taken g.one g.two ≡ made h.height h.width h.taken h.one h.two =
-    rw (taken, a.height_is ∙ sym b.height_is, a.width_is ∙ sym b.width_is, a.one_is ∙ sym b.one_is, a.two_is ∙ sym b.two_is) refl in
-    e

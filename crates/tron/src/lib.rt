@@ -3,7 +3,8 @@
 
 ghost use Rattle.std.specs.Prelude.{◌≡◌, ◌*◌, ◌<◌, ◌^◌, true, length, slice_index_or, MatchResult, None, Some};
 ghost use Rattle.tron.specs.declared.Direction.TheVariants.{North};
-ghost use Rattle.tron.specs.Laws.{tron_is_game, IsSound};
+ghost use Rattle.sim_game.specs.Model.{Reachable};
+ghost use Rattle.tron.specs.Laws.{tron_is_game};
 ghost use Rattle.tron.specs.Position.{first_fault, IsPosition, IsSettingOf};
 ghost use Rattle.tron.specs.Rules.{arena_of, directions_of, entered, goes_on, head_of, is_open, is_over, neighbour, number_of, tron_game, ways, KeepsRules};
 
@@ -117,7 +118,7 @@ impl Tron {
     /// The head of a side.
     #[inline]
     fn head(&self, side: Side, s: State) -> u8
-        requires { IsSound self.now.setting s }
+        requires { Reachable (tron_game self.now.setting) s }
         ensures is { result ≡ head_of side (arena_of self.now.setting s) }
         ensures on_grid { result < self.now.setting.height * self.now.setting.width }
     {
@@ -170,7 +171,7 @@ impl Tron {
     /// How many free neighbours the head of a side has.
     #[inline]
     fn open_count(&self, side: Side, s: State) -> u32
-        requires { IsSound self.now.setting s }
+        requires { Reachable (tron_game self.now.setting) s }
         ensures { result ≡ length (directions_of (arena_of self.now.setting s) side) }
     {
         let head = self.head(side, s);
@@ -183,7 +184,7 @@ impl Tron {
     /// Whether the heads are on one cell or one of them has no free neighbour.
     #[inline]
     fn is_over(&self, s: State) -> bool
-        requires { IsSound self.now.setting s }
+        requires { Reachable (tron_game self.now.setting) s }
         ensures { result ≡ is_over (arena_of self.now.setting s) }
     {
         s.one == s.two || self.open_count(Side::One, s) == 0 || self.open_count(Side::Two, s) == 0
@@ -192,7 +193,7 @@ impl Tron {
     /// The direction of the free neighbour of this number.
     #[inline]
     fn open_direction(&self, side: Side, s: State, i: u32) -> Direction
-        requires sound { IsSound self.now.setting s }
+        requires sound { Reachable (tron_game self.now.setting) s }
         requires place { i < length (directions_of (arena_of self.now.setting s) side) }
         ensures { result ≡ slice_index_or (directions_of (arena_of self.now.setting s) side) i North }
     {
@@ -214,7 +215,7 @@ impl Tron {
     /// The cell that a side enters by its move of this number.
     #[inline]
     fn entered(&self, side: Side, s: State, i: u32) -> u8
-        requires sound { IsSound self.now.setting s }
+        requires sound { Reachable (tron_game self.now.setting) s }
         requires place { i < length (ways (arena_of self.now.setting s) side) }
         ensures is { result ≡ entered (arena_of self.now.setting s) side i }
         ensures small { result < 36 }

@@ -1,9 +1,9 @@
 use crate::chance::OneInThree;
 use crate::steps::{bound_state, search_root, step_root};
 use bounds_board::PlainBoard;
-use matrix_game::Turns;
+use matrix_game::{StageMemory, Turns};
 use oracle_search::SearchEnd;
-use restricted_game::{Restricted, StepEnd};
+use restricted_game::{ChildRows, Restricted, StepEnd};
 use serial_ab::SerialEnd;
 use sim_game::{Game, Side, opening_bound, resolution};
 use std::test::Fail;
@@ -24,7 +24,15 @@ fn a_step_rounds_for_each_side(rt: HostRuntime) -> Result<(), Fail> {
     let g = OneInThree;
     let mut board = PlainBoard::new(rt.alloc(), g, 1, 8192)?;
     let mut held = Restricted::new(rt.alloc(), 1, 1, (0, 0))?;
-    let end = step_root(g, &mut held, &mut board, &mut Turns::new(1));
+    let mut children = ChildRows::new(rt.alloc(), g, g.root())?;
+    let end = step_root(
+        g,
+        &mut held,
+        &mut children,
+        &mut board,
+        &mut Turns::new(1),
+        &mut StageMemory::new(1),
+    );
     let want = StepEnd::Done {
         lower: 333333,
         upper: 333334,

@@ -20,6 +20,14 @@ pub(crate) fn four_cards(rt: &impl Abort) -> Goofspiel {
     }
 }
 
+// Goofspiel with the cards and prizes 1 to 4.
+pub(crate) fn cards_to_four(rt: &impl Abort) -> Goofspiel {
+    match Goofspiel::new(&[1, 2, 3, 4], &[1, 2, 3, 4], &[1, 2, 3, 4], 0, Pay::Margin) {
+        Ok(g) => g,
+        Err(_) => panic!(rt; "the position is valid"),
+    }
+}
+
 // Oshi-Zumo that ends after one push, by One's only coin. The key of its root is 16416.
 pub(crate) fn one_push(rt: &impl Abort) -> OshiZumo {
     match OshiZumo::new(0, 1, 0, 1, 0) {

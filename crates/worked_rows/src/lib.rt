@@ -20,6 +20,8 @@ mod reports;
 #[cfg(test)]
 mod steps;
 #[cfg(test)]
+mod tables;
+#[cfg(test)]
 mod workers;
 #[cfg(test)]
 mod worst_cases;

@@ -3,12 +3,13 @@ ghost use Rattle.sim_game.specs.declared.Side.{Side};
 ghost use Rattle.sim_game.specs.Sides.{opening_bound};
 ghost use Rattle.bounds_board.specs.Views.{IsLater};
 ghost use Rattle.sim_game.specs.Model.{Reachable};
+ghost use Rattle.restricted_game.specs.Children.{AreChildRows};
 
 use crate::games::{four_cards, two_cards};
 use bounds_board::{BoardFault, Bounds, PlainBoard};
-use matrix_game::Turns;
-use oracle_search::{OpenGate, SearchEnd, Setup, Worker, search};
-use restricted_game::{Restricted, StepEnd, StepFault};
+use matrix_game::{StageMemory, Turns};
+use oracle_search::{MemoryLimits, OpenGate, SearchEnd, Setup, Worker, search};
+use restricted_game::{ChildRows, Restricted, StepEnd, StepFault};
 use serial_ab::{SerialEnd, Visits, serial};
 use sim_game::{Game, NoMemory, Side, opening_bound};
 use std::alloc::Global;
@@ -77,20 +78,24 @@ pub(crate) fn bound_pairs<G: Game, B: Bounds<G>>(
 pub(crate) fn step_root<G: Game, B: Bounds<G>>(
     g: G,
     held: &mut Restricted,
+    children: &mut ChildRows,
     board: &mut B,
     turns: &mut Turns,
+    memory: &mut StageMemory,
 ) -> Result<StepEnd, StepFault>
     requires game { (B.view board.old).game ≡ g }
+    requires children { AreChildRows (G.model g) (B.view board.old) (G.model g).root children.old }
     requires goes_on { 1 ≤ (G.model g).rank (G.model g).root }
     requires rows { held.old.most_rows ≡ (G.model g).moves Side.One (G.model g).root }
     requires cols { held.old.most_cols ≡ (G.model g).moves Side.Two (G.model g).root }
     ensures later { IsLater (B.view board.old) (B.view board.new) }
+    ensures children { AreChildRows (G.model g) (B.view board.new) (G.model g).root children.new }
     ensures rows { held.new.most_rows ≡ held.old.most_rows }
     ensures cols { held.new.most_cols ≡ held.old.most_cols }
 {
     let root = g.root();
     match board.claim(g.key(root)) {
-        Ok(row) => held.step(g, root, row, board, turns),
+        Ok(row) => held.step(g, root, row, children, board, turns, memory),
         Err(_) => Err(StepFault::Full),
     }
 }
@@ -112,7 +117,11 @@ pub(crate) fn search_root<G: Game, B: Bounds<G>>(
         worker: 0,
         gate: &OpenGate,
     };
-    let mut worker = Worker::new(alloc, Turns::new(turns), Visits::new(visits));
+    let limits = MemoryLimits {
+        searches: 1000,
+        stages: 1000,
+    };
+    let mut worker = Worker::new(alloc, Turns::new(turns), Visits::new(visits), limits);
     match search(&setup, g.root(), 0, &mut worker, board) {
         Ok(end) => Ok((end, worker.turns().spent())),
         Err(_) => Err(NoMemory),
@@ -155,19 +164,42 @@ fn third_step(
     bound_pairs(rt, alloc, false, &mut board);
     let mut turns = Turns::new(limit);
     let mut held = Restricted::new(alloc, 2, 2, (0, 0))?;
-    let first = step_root(g, &mut held, &mut board, &mut turns);
+    let mut children = ChildRows::new(alloc, g, root)?;
+    let mut memory = StageMemory::new(10);
+    let first = step_root(
+        g,
+        &mut held,
+        &mut children,
+        &mut board,
+        &mut turns,
+        &mut memory,
+    );
     let a_row = StepEnd::Grown {
         row: Some(1),
         col: None,
     };
     assert_eq!(rt; first, Ok(a_row));
-    let second = step_root(g, &mut held, &mut board, &mut turns);
+    let second = step_root(
+        g,
+        &mut held,
+        &mut children,
+        &mut board,
+        &mut turns,
+        &mut memory,
+    );
     let a_column = StepEnd::Grown {
         row: None,
         col: Some(1),
     };
     assert_eq!(rt; second, Ok(a_column));
-    let third = step_root(g, &mut held, &mut board, &mut turns);
+    let third = step_root(
+        g,
+        &mut held,
+        &mut children,
+        &mut board,
+        &mut turns,
+        &mut memory,
+    );
     let found = root_bounds(rt, g, &mut board);
     Ok((third, found, held))
 }

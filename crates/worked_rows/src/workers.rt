@@ -1,6 +1,6 @@
 ghost use Rattle.std.specs.Prelude.{◌≡◌, ◌≤◌};
 
-use crate::games::two_cards;
+use crate::games::{cards_to_four, two_cards};
 use crate::reports::CARDS;
 use crate::steps::search_root;
 use certificate::{Ask, read, write};
@@ -16,6 +16,10 @@ use std::test::Fail;
 use std::thread::Threads;
 
 const MOST_LOOKS: u32 = 268435456;
+
+// Goofspiel with the cards and prizes 1 to 4 on both sides; nothing is found yet.
+const FOUR_CARDS: &str =
+    "dosolve report 1\ngame goofspiel 1,2,3,4 1,2,3,4 1,2,3,4 0 margin\nweight 8192\nturns 1000\nasked 0\nresolution 0\noutcome full\nlower -10000000\nupper 10000000\nspent 0\none 0\ntwo 0\nend\n";
 
 /// Holds a turn of one worker until another one comes to a turn of its own, for so many looks at most. A turn is told by
 /// the worker and the turns that it has spent.
@@ -95,6 +99,30 @@ fn solve_cards<R: Threads + Abort + Sync, T: Gate + Sync>(
     Ok(report.spent)
 }
 
+// The turns that each of several workers spends on Goofspiel with the cards and prizes 1 to 4.
+fn turns_of_four<R: Threads + Abort + Sync, T: Gate + Sync>(
+    rt: &R,
+    alloc: Global,
+    workers: u32,
+    gate: &T,
+) -> Result<Seq<u64>, Fail>
+    requires some { 1 ≤ workers }
+    requires few { workers ≤ 16 }
+{
+    let g = cards_to_four(rt);
+    let asked = read(alloc, FOUR_CARDS.as_bytes())?;
+    let ask = Ask {
+        gap: asked.asked,
+        weight: asked.weight,
+        turns: asked.turns,
+        visits: 100000,
+        rows: 4096,
+        workers,
+    };
+    let report = solve(rt, alloc, g, asked.position, &ask, gate)?.report;
+    Ok(report.spent)
+}
+
 #[test]
 fn a_search_through_a_desk(rt: HostRuntime) -> Result<(), Fail> {
     let g = two_cards(&rt);
@@ -149,6 +177,24 @@ fn workers_share_a_board(rt: HostRuntime) -> Result<(), Fail> {
     // On a board of its own the second would spend as many.
     assert_eq!(rt; *first, 6);
     assert!(rt; *second <= 4, "{second}");
+    assert!(rt; !gate.was_missed.load(Ordering::SeqCst));
+    Ok(())
+}
+
+#[test]
+fn a_worker_leaves_states_to_others(rt: HostRuntime) -> Result<(), Fail> {
+    let alone = turns_of_four(&rt, rt.alloc(), 1, &OpenGate)?;
+    let [all] = alone.as_slice() else {
+        panic!(rt; "there is one worker");
+    };
+    // The second comes to its first turn, and waits until the first has one turn to go.
+    let gate = Meeting::new((1, 0), (0, all.saturating_sub(1)));
+    let spent = turns_of_four(&rt, rt.alloc(), 2, &gate)?;
+    let [first, second] = spent.as_slice() else {
+        panic!(rt; "there are two workers");
+    };
+    assert_eq!(rt; first, all);
+    assert!(rt; *second < *all / 4, "{second} of {all}");
     assert!(rt; !gate.was_missed.load(Ordering::SeqCst));
     Ok(())
 }

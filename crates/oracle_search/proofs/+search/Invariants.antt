@@ -1,4 +1,5 @@
-use Rattle.std.proofs.Common.{ℕ, ◌+◌, ◌-◌, ◌*◌, ◌<◌, Contains, slice_index}
+use Rattle.std.proofs.Common.{ℕ, ◌+◌, ◌-◌, ◌*◌, ◌/◌, ◌%◌, ◌<◌, length, slice_index}
+use Rattle.restricted_game.specs.Children.{AreChildRows}
 use Rattle.restricted_game.specs.Held.{count_held}
 use Rattle.oracle_search.specs.Workers.{at_work}
 use Rattle.oracle_search.specs.Searches.{IsDone, AreDone}
@@ -14,39 +15,34 @@ decreases-children::search_children g l = 8 * (g.G.Game.model l.setup.now.game).
 abbrev pub decreases-children::search_draws : goal.decreases-children::search_draws
 decreases-children::search_draws g l = 8 * (g.G.Game.model l.setup.now.game).rank l.s + 2
 
-abbrev pub decreases-children::search_row_children : goal.decreases-children::search_row_children
-decreases-children::search_row_children g l = 8 * (g.G.Game.model l.setup.now.game).rank l.s + 3
-
 abbrev pub decreases-growth::grow : goal.decreases-growth::grow
 decreases-growth::grow g l = 8 * (g.G.Game.model l.setup.now.game).rank l.s + 5
-
-abbrev pub decreases-state::search_state : goal.decreases-state::search_state
-decreases-state::search_state g l = 8 * (g.G.Game.model l.setup.now.game).rank l.s + 7
 
 abbrev pub decreases-state::search_row : goal.decreases-state::search_row
 decreases-state::search_row g l = 8 * (g.G.Game.model l.setup.now.game).rank l.s + 6
 
-abbrev pub invariant-children::search_children-loop-one : goal.invariant-children::search_children-loop-one
-invariant-children::search_children-loop-one g l =
+abbrev pub invariant-children::search_children-loop-turn : goal.invariant-children::search_children-loop-turn
+invariant-children::search_children-loop-turn g l =
     let m = g.G.Game.model l.setup.game in
+    let rows = l.rows in
+    let cols = l.cols in
+    let pair : ℕ → ℕ = λ turn. (l.setup.worker + turn) % (length rows * length cols) in
     IsPassed m l.s (m.rank l.s) (at_work (g.B.Bounds.view l.initial.board) l.initial.worker) (at_work (g.B.Bounds.view l.board) l.worker)
-    ((i two : ℕ) → i < l.one-index → Contains l.cols two → AreDone m (g.B.Bounds.view l.board) l.s (slice_index l.rows i) two)
+    ((turn : ℕ) → turn < l.turn → AreDone m (g.B.Bounds.view l.board) l.s (slice_index rows (pair turn / length cols)) (slice_index cols (pair turn % length cols)))
+    × AreChildRows m (g.B.Bounds.view l.board) l.s l.children
 
 abbrev pub invariant-children::search_draws-loop-draw : goal.invariant-children::search_draws-loop-draw
 invariant-children::search_draws-loop-draw g l =
     let m = g.G.Game.model l.setup.game in
     IsPassed m l.s (m.rank l.s) (at_work (g.B.Bounds.view l.initial.board) l.initial.worker) (at_work (g.B.Bounds.view l.board) l.worker)
-    ((d : ℕ) → d < l.draw → IsDone m (g.B.Bounds.view l.board) (m.drawn l.s l.one l.two d))
-
-abbrev pub invariant-children::search_row_children-loop-two : goal.invariant-children::search_row_children-loop-two
-invariant-children::search_row_children-loop-two g l =
-    let m = g.G.Game.model l.setup.game in
-    IsPassed m l.s (m.rank l.s) (at_work (g.B.Bounds.view l.initial.board) l.initial.worker) (at_work (g.B.Bounds.view l.board) l.worker)
-    ((j : ℕ) → j < l.two-index → AreDone m (g.B.Bounds.view l.board) l.s l.one (slice_index l.cols j))
+    ((d : ℕ) → d < l.draw → IsDone m (g.B.Bounds.view l.board) (m.drawn l.s l.moves.0 l.moves.1 d))
+    × AreChildRows m (g.B.Bounds.view l.board) l.s l.children
 
 abbrev pub invariant-growth::grow-growth : goal.invariant-growth::grow-growth
 invariant-growth::grow-growth g l =
-    IsGrowing (g.G.Game.model l.setup.game) l.s (at_work (g.B.Bounds.view l.initial.board) l.initial.worker) (at_work (g.B.Bounds.view l.board) l.worker) l.held
+    let m = g.G.Game.model l.setup.game in
+    IsGrowing m l.s (at_work (g.B.Bounds.view l.initial.board) l.initial.worker) (at_work (g.B.Bounds.view l.board) l.worker) l.growth.held
+    × AreChildRows m (g.B.Bounds.view l.board) l.s l.growth.children
 
 abbrev pub decreases-growth::grow-growth : goal.decreases-growth::grow-growth
-decreases-growth::grow-growth g l = 64 - count_held l.held
+decreases-growth::grow-growth g l = 64 - count_held l.growth.held

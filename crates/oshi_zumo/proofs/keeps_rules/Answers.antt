@@ -31,18 +31,17 @@ end_rank g s (inr poor) = cond_both (is_off g s) 0 (max (s.one / g.least) (s.two
 pub returns : goal.returns
 returns c =
     let g = c.args._game.now.setting in
-    let p = c.args._game.now.valid in
     record {
       root = refl;
       moves = λ side s. refl;
       label = λ side s i. refl;
       paid = paid g;
       follows = λ s t. refl;
-      ends = λ s. (ended g s p, end_rank g s);
+      ends = λ s. (ended g s c.args._game.now.valid, end_rank g s);
       payoff = λ s. refl;
       rank = λ s. refl;
       low = refl;
       high = refl;
       width = refl;
-      same_state = (oshi_zumo_is_game g p).same_key;
+      same_state = (oshi_zumo_is_game g c.args._game.now.valid).same_key;
     }

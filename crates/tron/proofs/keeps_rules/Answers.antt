@@ -10,14 +10,13 @@ use Rattle.tron.proofs.keeps_rules.Goals as goal
 pub returns : goal.returns
 returns c =
     let g = c.args._game.now.setting in
-    let p = c.args._game.now.valid in
     record {
       root = stands_first g;
       follows = λ s turn t stands. stands_after g s t turn.one turn.two stands;
       moves = λ side s t stands. ap (λ (r : Arena). length (ways r side)) (same_arena g s t stands);
       label = λ side s t i stands. ap (λ (r : Arena). number_of (get_or (ways r side) i North)) (same_arena g s t stands);
       ends = λ s t r stands. (
-        λ h. subst (λ (arena : Arena). is_over arena ≡ true) (same_arena g s t stands) (rank_over g p s (sound g p s r) h),
+        λ h. subst (λ (arena : Arena). is_over arena ≡ true) (same_arena g s t stands) (rank_over g c.args._game.now.valid s (sound g c.args._game.now.valid s r) h),
         λ over. ap rank_of (same_arena g s t stands) ∙ ap (λ (b : Bool). cond b 0 ((free_cells (arena_of_trails g t) + 1) / 2)) over,
       );
       payoff = λ s t stands. ap payoff_of (same_arena g s t stands);
@@ -27,5 +26,5 @@ returns c =
       width = refl;
       stands = λ walls one two is. reachable_induction (tron_game g) (λ (s : State). (t : Trails) × StandsFor s t) (first_trails walls one two, stands_first g walls one two is)
           (λ s turn r here legal. (after_moves g here.0 turn.one turn.two, stands_after g s here.0 turn.one turn.two here.1));
-      same_trails = λ s other t r r' e stands. subst (λ (u : State). StandsFor u t) ((tron_is_game g p).same_key s other r r' e) stands;
+      same_trails = λ s other t r r' e stands. subst (λ (u : State). StandsFor u t) ((tron_is_game g c.args._game.now.valid).same_key s other r r' e) stands;
     }

@@ -8,4 +8,4 @@ pub parts-preserved : goal.parts-preserved
 parts-preserved c = rw c.in_ok-push.ensures.items (number_more 0 255 c.parts.numbers.items _ _ _ _ _ c.in-Some.ensures c.in-Some-natural.ensures.exact c.parts.invariant)
 
 pub returns : goal.returns
-returns c = numbers_done 0 255 c.parts.numbers.items _ _ c.in_default.ensures.0 c.parts.invariant
+returns c = rw c.from_vec.ensures (numbers_done 0 255 c.parts.numbers.items _ _ c.in_default.ensures.0 c.parts.invariant)

@@ -1,17 +1,21 @@
-use Rattle.checker.proofs.RowLemmas.{stands_in, rows_more, rows_all, first_here}
+use Rattle.checker.proofs.FoundLemmas.{state_of}
+use Rattle.checker.proofs.RowLemmas.{rows_more, rows_all, first_here}
 use Rattle.checker.proofs.rows.first_fault.Goals as goal
 
-pub row_fault-requires-clause-stands : goal.row_fault-requires-clause-stands
-row_fault-requires-clause-stands g c = rw (← c.as_slice-row-items.ensures) (stands_in c.as_slice-row-items.result.now c.loop-row.row-index c.row-item.result c.loop-row-test.true c.row-item.is)
+pub row_fault-requires-clause-reached : goal.row_fault-requires-clause-reached
+row_fault-requires-clause-reached g c =
+    state_of (g.G.Game.model c.args.g) c.args.sheet.now c.in_ok-found.found.items c.loop-place.place c.index-rows-place.result c.index.result.now c.in_ok-found.ensures
+    (rw c.as_slice-rows.ensures at c.loop-place-test.true) (rw c.as_slice-rows.ensures at c.index-rows-place.is) c.index.ensures
 
 pub returns-in-Some : goal.returns-in-Some
 returns-in-Some g c =
-    first_here (g.G.Game.model c.args.g) c.args.sheet.now c.as_slice-row-items.result.now c.loop-row.row-index c.row-item.result c.in-Some.why c.as_slice-row-items.ensures c.loop-row-test.true c.row-item.is c.loop-row.invariant
-    c.in-Some.ensures
+    first_here (g.G.Game.model c.args.g) c.args.sheet.now c.loop-place.place c.index-rows-place.result c.in-Some.why (rw c.as_slice-rows.ensures at c.loop-place-test.true) (rw c.as_slice-rows.ensures at c.index-rows-place.is)
+    c.loop-place.invariant c.in-Some.ensures
 
-pub loop-row-preserved : goal.loop-row-preserved
-loop-row-preserved g c =
-    rows_more (g.G.Game.model c.args.g) c.args.sheet.now c.as_slice-row-items.result.now c.loop-row.row-index c.row-item.result c.loop-row-test.true c.row-item.is c.loop-row.invariant c.in_default.ensures
+pub loop-place-preserved : goal.loop-place-preserved
+loop-place-preserved g c =
+    rows_more (g.G.Game.model c.args.g) c.args.sheet.now c.loop-place.place c.index-rows-place.result (rw c.as_slice-rows.ensures at c.loop-place-test.true) (rw c.as_slice-rows.ensures at c.index-rows-place.is) c.loop-place.invariant
+    c.in_default.ensures
 
 pub returns : goal.returns
-returns g c = rows_all (g.G.Game.model c.args.g) c.args.sheet.now c.as_slice-row-items.result.now c.loop-row.row-index c.requires c.as_slice-row-items.ensures c.loop-row-test.false c.loop-row.invariant
+returns g c = rows_all (g.G.Game.model c.args.g) c.args.sheet.now c.loop-place.place c.requires (rw c.as_slice-rows.ensures at c.loop-place-test.false) c.loop-place.invariant

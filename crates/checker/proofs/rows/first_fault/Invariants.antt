@@ -3,5 +3,5 @@ use Rattle.std.specs.List.{All}
 use Rattle.plan_book.specs.Sheets.{IsLawfulRow}
 use Rattle.checker.proofs.rows.first_fault.Given as goal
 
-abbrev pub invariant-loop-row : goal.invariant-loop-row
-invariant-loop-row g l = All (IsLawfulRow (g.G.Game.model l.fn.g) l.fn.sheet.side l.fn.sheet.total l.fn.sheet.rows) (take l.row-index l.row-items)
+abbrev pub invariant-loop-place : goal.invariant-loop-place
+invariant-loop-place g l = All (IsLawfulRow (g.G.Game.model l.fn.g) l.fn.sheet.side l.fn.sheet.total l.fn.sheet.rows) (take l.place l.fn.sheet.rows)

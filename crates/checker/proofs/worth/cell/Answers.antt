@@ -4,8 +4,8 @@ use Rattle.sim_game.specs.Sides.{draws_of, chance_of, child_of}
 use Rattle.checker.proofs.BoundLemmas.{bound_small, child_reachable, chance_light, cell_small, cell_is, part_of, one_more}
 use Rattle.checker.proofs.worth.cell.Goals as goal
 
-pub bound_of-bound-requires-clause-reachable : goal.bound_of-bound-requires-clause-reachable
-bound_of-bound-requires-clause-reachable g c =
+pub bound_near-bound-requires-clause-reachable : goal.bound_near-bound-requires-clause-reachable
+bound_near-bound-requires-clause-reachable g c =
     let m = g.G.Game.model c.args.g in
     let side = c.args.sheet.now.side in
     let u : c.loop-d.d < draws_of m side c.args.s c.args.own c.args.reply = rw (c.draws-d-end.ensures, c.move_of_one-a.ensures, c.move_of_two-b.ensures) at c.loop-d-test.true in
@@ -27,8 +27,8 @@ weighted-sum-requires-clause-small g c =
     let u : c.loop-d.d < draws_of m side c.args.s c.args.own c.args.reply = rw (c.draws-d-end.ensures, c.move_of_one-a.ensures, c.move_of_two-b.ensures) at c.loop-d-test.true in
     let child : c.drawn.result ≡ child_of m side c.args.s c.args.own c.args.reply c.loop-d.d = rw (c.move_of_one-a.ensures, c.move_of_two-b.ensures) at c.drawn.ensures in
     let reachable = child_reachable m side c.args.s c.args.own c.args.reply c.requires.reachable c.requires.own c.requires.reply c.loop-d.d u in
-    let fits : SFits w64 c.bound_of-bound.result = search rules in
-    rw (to_z-of_z w64 c.bound_of-bound.result fits, c.bound_of-bound.ensures, child)
+    let fits : SFits w64 c.bound_near-bound.result = search rules in
+    rw (to_z-of_z w64 c.bound_near-bound.result fits, c.bound_near-bound.ensures, child)
     (bound_small m (g.met.G.Game.lawful c.args.g) c.args.sheet.now (child_of m side c.args.s c.args.own c.args.reply c.loop-d.d) c.requires.readable reachable)
 
 pub loop-d-preserved : goal.loop-d-preserved
@@ -37,8 +37,8 @@ loop-d-preserved g c =
     let side = c.args.sheet.now.side in
     let child : c.drawn.result ≡ child_of m side c.args.s c.args.own c.args.reply c.loop-d.d = rw (c.move_of_one-a.ensures, c.move_of_two-b.ensures) at c.drawn.ensures in
     let chance : c.chance.result ≡ chance_of m side c.args.s c.args.own c.args.reply c.loop-d.d = rw (c.move_of_one-a.ensures, c.move_of_two-b.ensures) at c.chance.ensures in
-    let fits : SFits w64 c.bound_of-bound.result = search rules in
-    let part = rw (to_z-of_z w64 c.bound_of-bound.result fits, c.bound_of-bound.ensures, child, chance) at c.weighted-sum.ensures.value in
+    let fits : SFits w64 c.bound_near-bound.result = search rules in
+    let part = rw (to_z-of_z w64 c.bound_near-bound.result fits, c.bound_near-bound.ensures, child, chance) at c.weighted-sum.ensures.value in
     record {
       so_far = one_more c.loop-d.d (part_of m c.args.sheet.now c.args.s c.args.own c.args.reply) _ _ _ c.loop-d.invariant.so_far part (omega (arith, ints));
       small = omega (arith, ints);

@@ -10,6 +10,4 @@ returns-in-Ok-accept c =
     (IsBounded.searched (record { text = task.text; ask = task.ask }) end c.in-Ok.ensures.exact (task.game, c.in-Ok.ensures.game, c.in-Ok-accept.ensures)) c.told.ensures
 
 pub returns : goal.returns
-returns c =
-    let bytes = c.args.bytes.now in let e = c.in-Err.error in
-    answers_where (IsBounded bytes) _ 2 (input_text e) c.refused.result (λ memory. IsBounded.refused e (fails_unless bytes e c.in-Err.ensures.exact memory)) c.refused.ensures
+returns c = answers_where (IsBounded c.args.bytes.now) _ 2 (input_text c.in-Err.error) c.refused.result (λ memory. IsBounded.refused c.in-Err.error (fails_unless _ c.in-Err.error c.in-Err.ensures.exact memory)) c.refused.ensures

@@ -1,4 +1,3 @@
-use Rattle.std.proofs.Common.{subst, sym}
 use Rattle.commands.specs.Reports.{fault_text}
 use Rattle.commands.specs.Matches.{IsPlayedMatch}
 use Rattle.commands.proofs.RunLemmas.{answers_where}
@@ -6,10 +5,7 @@ use Rattle.commands.proofs.play.played.Goals as goal
 
 pub returns-in-Ok-accept : goal.returns-in-Ok-accept
 returns-in-Ok-accept c =
-    let match = IsPlayedMatch c.args.games c.args.seed c.args.bytes.now 0 in
-    subst match (sym c.from_vec.ensures) (IsPlayedMatch.played c.in-Ok.field-0.report c.in-Ok-accept.text.items c.in-Ok.ensures.0 (c.in-Ok.field-0.game, c.in-Ok.ensures.2, c.in-Ok-accept.ensures))
+    rw (c.written.ensures.status, c.written.ensures.text) (IsPlayedMatch.played c.in-Ok.field-0.report c.in-Ok-accept.text c.in-Ok.ensures.0 (c.in-Ok.field-0.game, c.in-Ok.ensures.2, c.in-Ok-accept.ensures))
 
 pub returns : goal.returns
-returns c =
-    let fault = c.in-Err.fault in
-    answers_where (IsPlayedMatch c.args.games c.args.seed c.args.bytes.now) _ 9 (fault_text fault) c.faulty.result (λ memory. IsPlayedMatch.unread fault (c.in-Err.ensures memory)) c.faulty.ensures
+returns c = answers_where (IsPlayedMatch c.args.games c.args.seed c.args.bytes.now) _ 9 (fault_text c.in-Err.fault) c.faulty.result (λ memory. IsPlayedMatch.unread c.in-Err.fault (c.in-Err.ensures memory)) c.faulty.ensures

@@ -1,54 +1,42 @@
 use Rattle.std.proofs.Common.{◌≡◌, ℕ, ◌+◌, List, length, [], None, Some, Err, IfOk, inl, inr, refl, sym, ap, subst, ◌∙◌, arith}
-use Rattle.position.specs.declared.source.ReadError.TheVariants as read_errors
 use Rattle.commands.specs.declared.words.Command.TheVariants.{Reading, Sample}
 use Rattle.commands.specs.Runs.{IsAnswer, IsRun, limit_of}
-use Rattle.commands.proofs.RunLemmas.{run_of, in_part, not_long}
+use Rattle.commands.proofs.RunLemmas.{run_of}
 use Rattle.commands.proofs.run.run.Goals as goal
 
 pub returns-in-None : goal.returns-in-None
-returns-in-None g c =
-    let none = sym c.command_of.ensures.is ∙ c.in-None.is in
-    rw none
+returns-in-None g c = rw (sym c.command_of.ensures.is ∙ c.in-None.is)
     (run_of None _ _ _ _ [] c.usage.result c.respond.result refl refl (λ a e. subst (λ f. IfOk f (λ a. IsAnswer None [] a.status a.text)) e c.usage.ensures) c.respond.ensures)
 
 pub returns-in-Some-Sample : goal.returns-in-Some-Sample
 returns-in-Some-Sample g c =
     let number = c.in-Some-Sample.number in
-    let some = sym c.command_of.ensures.is ∙ c.in-Some-Sample.is ∙ ap Some c.in-Some-Sample.field-0-is in
-    rw some
+    rw (sym c.command_of.ensures.is ∙ c.in-Some-Sample.is ∙ ap Some c.in-Some-Sample.field-0-is)
     (run_of (Some (Sample number)) _ _ _ _ [] c.sampled.result c.respond-in-Some-Sample.result refl refl (λ a e. subst (λ f. IfOk f (λ a. IsAnswer (Some (Sample number)) [] a.status a.text)) e c.sampled.ensures) c.respond-in-Some-Sample.ensures)
 
 pub returns-in-Ok : goal.returns-in-Ok
 returns-in-Ok g c =
     let command = c.in-Some-Reading.command in
-    let some = sym c.command_of.ensures.is ∙ c.in-Some-Reading.is ∙ ap Some c.in-Some-Reading.field-0-is in
     let bytes = c.in-Ok.bytes.items in
-    let input = c.in-Ok.ensures.ok in
     let within = rw c.limit_of.ensures at c.in-Ok.ensures.within in
-    let answered = rw c.deref.ensures.value at c.answer_to.ensures in
-    rw some
-    (run_of (Some (Reading command)) _ _ _ _ bytes c.answer_to.result c.respond-in-Ok.result (record { taken = input.0; whole = inl (within, input.1) }) (bytes, input.0, omega (arith, within))
-    (λ a e. subst (λ f. IfOk f (λ a. IsAnswer (Some (Reading command)) bytes a.status a.text)) e answered) c.respond-in-Ok.ensures)
+    rw (sym c.command_of.ensures.is ∙ c.in-Some-Reading.is ∙ ap Some c.in-Some-Reading.field-0-is)
+    (run_of (Some (Reading command)) _ _ _ _ bytes c.answer_to.result c.respond-in-Ok.result (record { taken = c.in-Ok.ensures.ok.0; whole = inl (within, c.in-Ok.ensures.ok.1) }) (bytes, c.in-Ok.ensures.ok.0, omega (arith, within))
+    (λ a e. subst (λ f. IfOk f (λ a. IsAnswer (Some (Reading command)) bytes a.status a.text)) e (rw c.deref.ensures.value at c.answer_to.ensures)) c.respond-in-Ok.ensures)
 
 pub returns-in-Err-TooLong : goal.returns-in-Err-TooLong
 returns-in-Err-TooLong g c =
     let command = c.in-Some-Reading.command in
-    let some = sym c.command_of.ensures.is ∙ c.in-Some-Reading.is ∙ ap Some c.in-Some-Reading.field-0-is in
     let long = rw c.limit_of.ensures at (c.in-Err-TooLong.ensures.too_long (ap Err c.in-Err-TooLong.field-0-is)) in
     let bytes = long.0 in
-    rw some
+    rw (sym c.command_of.ensures.is ∙ c.in-Some-Reading.is ∙ ap Some c.in-Some-Reading.field-0-is)
     (run_of (Some (Reading command)) _ _ _ _ bytes c.too_long.result c.respond-in-Err-TooLong.result (record { taken = long.1; whole = inr long.2 }) (bytes, long.1, omega (arith, long.2))
     (λ a e. subst (λ f. IfOk f (λ a. (bytes : List ℕ) → length bytes ≡ limit_of command + 1 → IsAnswer (Some (Reading command)) bytes a.status a.text)) e c.too_long.ensures bytes long.2) c.respond-in-Err-TooLong.ensures)
 
 pub returns-in-Err-Failed : goal.returns-in-Err-Failed
 returns-in-Err-Failed g c =
-    let some = sym c.command_of.ensures.is ∙ c.in-Some-Reading.is ∙ ap Some c.in-Some-Reading.field-0-is in
-    let taken = c.in-Err-Failed.ensures.others (not_long (Err c.in-Err-Failed.field-0) c.in-Err-Failed.field-0 read_errors.Failed refl c.in-Err-Failed.field-0-is (λ e. absurd (cc))) in
-    IsRun.unread c.in-Some-Reading.command some (rw c.limit_of.ensures at taken) (c.in-Err-Failed.ensures.failed (ap Err c.in-Err-Failed.field-0-is)) refl
+    IsRun.unread c.in-Some-Reading.command (sym c.command_of.ensures.is ∙ c.in-Some-Reading.is ∙ ap Some c.in-Some-Reading.field-0-is) (rw c.limit_of.ensures at (c.in-Err-Failed.ensures.others (λ e. cc (e, c.in-Err-Failed.field-0-is)))) (c.in-Err-Failed.ensures.failed (ap Err c.in-Err-Failed.field-0-is)) refl
 
 pub returns-in-Err-NoMemory : goal.returns-in-Err-NoMemory
 returns-in-Err-NoMemory g c =
-    let some = sym c.command_of.ensures.is ∙ c.in-Some-Reading.is ∙ ap Some c.in-Some-Reading.field-0-is in
-    let taken = c.in-Err-NoMemory.ensures.others (not_long (Err c.in-Err-NoMemory.field-0) c.in-Err-NoMemory.field-0 read_errors.NoMemory refl c.in-Err-NoMemory.field-0-is (λ e. absurd (cc))) in
-    let part = rw c.limit_of.ensures at taken in
-    rw some (IsRun.no_memory (in_part _ _ (limit_of c.in-Some-Reading.command) part) refl)
+    let part = rw c.limit_of.ensures at (c.in-Err-NoMemory.ensures.others (λ e. cc (e, c.in-Err-NoMemory.field-0-is))) in
+    rw (sym c.command_of.ensures.is ∙ c.in-Some-Reading.is ∙ ap Some c.in-Some-Reading.field-0-is) (IsRun.no_memory (part.0, part.1, omega (arith, part.2)) refl)

@@ -7,12 +7,11 @@ use Rattle.goofspiel.proofs.Goofspiel.new.Goals as goal
 
 pub invariant_of-result : goal.invariant_of-result
 invariant_of-result c =
-    let prizes = c.args.prizes.now in
-    let total = c.prize_sum-total.ensures.is ∙ ap sum (sym (array_prizes prizes c.prize_array.result c.prize_array.ensures)) in
+    let total = c.prize_sum-total.ensures.is ∙ ap sum (sym (array_prizes c.args.prizes.now c.prize_array.result c.prize_array.ensures)) in
     let least : SFits w32 c.least_payoff.result = record { sfits = c.least_payoff.type_inv } in
     let greatest : SFits w32 c.greatest_payoff.result = record { sfits = c.greatest_payoff.type_inv } in
     record {
-      valid = position_of _ prizes c.in_ok-one_hand.ensures.small c.in_ok-two_hand.ensures.small
+      valid = position_of _ c.args.prizes.now c.in_ok-one_hand.ensures.small c.in_ok-two_hand.ensures.small
           (omega (arith, c.in_ok-one_hand.ensures.count, c.in_ok-check_lengths.ensures.0, c.in_ok-check_lengths.ensures.1))
           (omega (arith, c.in_ok-two_hand.ensures.count, c.in_ok-check_lengths.ensures.1))
           refl c.prize_array.ensures c.in_ok-check_prizes.ensures

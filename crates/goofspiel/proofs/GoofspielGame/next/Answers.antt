@@ -5,14 +5,11 @@ use Rattle.goofspiel.specs.DealLaws.{few_prizes}
 use Rattle.goofspiel.specs.Laws.{sound, small, prize_is}
 use Rattle.goofspiel.proofs.GoofspielGame.next.Goals as goal
 
-pub size-requires : goal.size-requires
-size-requires c = (sound c.args.self.now.setting c.args.self.now.valid c.args.s c.requires.reachable).one_small
-
 pub overflow_sub-gone : goal.overflow_sub-gone
-overflow_sub-gone c = omega (arith, c.size.ensures 1, (sound c.args.self.now.setting c.args.self.now.valid c.args.s c.requires.reachable).few)
+overflow_sub-gone c = omega (arith, c.rank.ensures, (sound c.args.self.now.setting c.args.self.now.valid c.args.s c.requires.reachable).few)
 
 pub bounds-self-gone : goal.bounds-self-gone
-bounds-self-gone c = omega (arith, c.size.ensures 1, c.requires.one, few_prizes c.args.self.now.setting c.args.self.now.valid)
+bounds-self-gone c = omega (arith, c.rank.ensures, c.requires.one, few_prizes c.args.self.now.setting c.args.self.now.valid)
 
 pub played-requires-clause-small : goal.played-requires-clause-small
 played-requires-clause-small c = small c.args.self.now.setting c.args.self.now.valid c.args.s c.requires.reachable
@@ -22,5 +19,5 @@ returns c =
     let g = c.args.self.now.setting in
     let s = c.args.s in
     let here = sound g c.args.self.now.valid s c.requires.reachable in
-    let prize : get_or g.prizes (g.count - c.size.result) 0 ≡ next_prize (prizes_of g) (deal_of s) = ap (λ (n : ℕ). get_or g.prizes (g.count - n) 0) (c.size.ensures 1) ∙ prize_is g c.args.self.now.valid s here (omega (arith, c.requires.one)) in
+    let prize : get_or g.prizes (g.count - c.rank.result) 0 ≡ next_prize (prizes_of g) (deal_of s) = ap (λ (n : ℕ). get_or g.prizes (g.count - n) 0) (c.rank.ensures) ∙ prize_is g c.args.self.now.valid s here (omega (arith, c.requires.one)) in
     c.played.ensures ∙ ap (λ (n : ℕ). state_of (after_bids n (deal_of s) c.args.a c.args.b)) prize

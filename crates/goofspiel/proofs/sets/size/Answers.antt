@@ -1,5 +1,5 @@
 use Rattle.std.proofs.Common.{sym}
-use Rattle.goofspiel.specs.CardLaws.{members_count}
+use Rattle.state_key.proofs.SetLemmas.{members_count}
 use Rattle.goofspiel.proofs.sets.size.Goals as goal
 
 pub returns : goal.returns

@@ -1,8 +1,6 @@
-use Rattle.std.proofs.Common.{◌≡◌, ◌++◌, ◌∷◌, [], inl, inr, true, false, List, length, sym, ap, subst, ◌∙◌}
+use Rattle.std.proofs.Common.{◌++◌, ◌∷◌, [], inl, inr, true, false, List, length, sym, ap, subst, ◌∙◌}
 use Rattle.matrix_game.specs.Budget.{Budget}
-use Rattle.shared_board.specs.Plays.{joined}
-use Rattle.shared_board.specs.Passes.{KnowsNoLess}
-use Rattle.shared_board.specs.Values.{PassValue, IsPassOf}
+use Rattle.shared_board.specs.Values.{IsPassOf}
 use Rattle.lazy_workers.proofs.JoinLemmas.{IsJoining, joining_none, joining_next, joining_more}
 use Rattle.lazy_workers.proofs.jobs.join_all.Goals as goal
 
@@ -17,9 +15,6 @@ from_bare-requires g c =
     let is = c.in-Some.ensures.items ∙ ap (λ r. c.pop.new.self.items ++ r ∷ []) c.in-Ok.is in
     (joining_next g.G.Game.model c.args.g c.args.board.now c.args.ask.now c.args.lead.now c.loop-done.lead (length c.args.found.items) c.loop-done.found.items c.pop.new.self.items c.in-Ok.done c.loop-done.turns.items c.loop-done.was_full is c.loop-done.invariant).1.pass.sound
 
-pub join-requires-clause-ours : goal.join-requires-clause-ours
-join-requires-clause-ours g c = c.loop-done.invariant.ours
-
 pub join-requires-clause-theirs : goal.join-requires-clause-theirs
 join-requires-clause-theirs g c =
     let is = c.in-Some.ensures.items ∙ ap (λ r. c.pop.new.self.items ++ r ∷ []) c.in-Ok.is in
@@ -29,21 +24,11 @@ join-requires-clause-theirs g c =
 pub loop-done-preserved-then-is_full : goal.loop-done-preserved-then-is_full
 loop-done-preserved-then-is_full g c =
     let is = c.in-Some.ensures.items ∙ ap (λ r. c.pop.new.self.items ++ r ∷ []) c.in-Ok.is in
-    let view = subst (λ (p : PassValue g.row.G.Denot). c.join.new.pass.view ≡ joined c.loop-done.lead.view p.view) c.from_bare.ensures c.in-Ok-join.ensures.view in
-    let theirs = subst (λ (p : PassValue g.row.G.Denot). KnowsNoLess (g.G.Game.model c.args.board.now.game) p.view c.join.new.pass.view) c.from_bare.ensures c.in-Ok-join.ensures.theirs in
-    joining_more g.G.Game.model c.args.g c.args.board.now c.args.ask.now c.args.lead.now c.loop-done.lead c.join.new.pass (length c.args.found.items) c.loop-done.found.items c.pop.new.self.items c.in-Ok.done c.loop-done.turns.items c.push.new.self.items c.loop-done.was_full true
-    c.requires.board.game is c.in_ok-push.ensures.items c.join.ensures.name c.join.ensures.total view c.in-Ok-join.ensures.mine theirs (λ _. inr c.if-is_full.ensures) (λ e. absurd (cc)) c.loop-done.invariant
+    joining_more g.G.Game.model c.args.g c.args.board.now c.args.ask.now c.args.lead.now c.loop-done.lead c.join.new.pass (length c.args.found.items) c.loop-done.found.items c.pop.new.self.items c.in-Ok.done c.from_bare.result c.loop-done.turns.items c.push.new.self.items c.loop-done.was_full true
+    c.requires.board.game is c.in_ok-push.ensures.items c.from_bare.ensures c.join.ensures.name c.join.ensures.total c.in-Ok-join.ensures.view c.in-Ok-join.ensures.mine c.in-Ok-join.ensures.theirs (λ _. inr c.if-is_full.ensures) (λ e. absurd (cc)) c.loop-done.invariant
 
 pub loop-done-preserved : goal.loop-done-preserved
 loop-done-preserved g c =
     let is = c.in-Some.ensures.items ∙ ap (λ r. c.pop.new.self.items ++ r ∷ []) c.in-Ok.is in
-    let view = subst (λ (p : PassValue g.row.G.Denot). c.join.new.pass.view ≡ joined c.loop-done.lead.view p.view) c.from_bare.ensures c.in-Ok-join.ensures.view in
-    let theirs = subst (λ (p : PassValue g.row.G.Denot). KnowsNoLess (g.G.Game.model c.args.board.now.game) p.view c.join.new.pass.view) c.from_bare.ensures c.in-Ok-join.ensures.theirs in
-    joining_more g.G.Game.model c.args.g c.args.board.now c.args.ask.now c.args.lead.now c.loop-done.lead c.join.new.pass (length c.args.found.items) c.loop-done.found.items c.pop.new.self.items c.in-Ok.done c.loop-done.turns.items c.push.new.self.items c.loop-done.was_full c.loop-done.was_full
-    c.requires.board.game is c.in_ok-push.ensures.items c.join.ensures.name c.join.ensures.total view c.in-Ok-join.ensures.mine theirs (λ e. inl e) (λ e. (e, c.if-is_full.ensures)) c.loop-done.invariant
-
-pub returns-clause-ours : goal.returns-clause-ours
-returns-clause-ours g c = c.loop-done.invariant.ours
-
-pub returns-clause-joined : goal.returns-clause-joined
-returns-clause-joined g c = c.loop-done.invariant.joined
+    joining_more g.G.Game.model c.args.g c.args.board.now c.args.ask.now c.args.lead.now c.loop-done.lead c.join.new.pass (length c.args.found.items) c.loop-done.found.items c.pop.new.self.items c.in-Ok.done c.from_bare.result c.loop-done.turns.items c.push.new.self.items c.loop-done.was_full c.loop-done.was_full
+    c.requires.board.game is c.in_ok-push.ensures.items c.from_bare.ensures c.join.ensures.name c.join.ensures.total c.in-Ok-join.ensures.view c.in-Ok-join.ensures.mine c.in-Ok-join.ensures.theirs (λ e. inl e) (λ e. (e, c.if-is_full.ensures)) c.loop-done.invariant

@@ -1,4 +1,4 @@
-use Rattle.std.proofs.Common.{rules, ◌≡◌, ◌≤◌, List, length, sym, subst, ◌∙◌, arith}
+use Rattle.std.proofs.Common.{rules, ◌≡◌, List, sym, subst, ◌∙◌, arith}
 use Rattle.plan_book.specs.Books.{IsClosed}
 use Rattle.matrix_game.specs.Budget.{Budget}
 use Rattle.shared_board.specs.Closing.{IsKept}
@@ -9,7 +9,6 @@ use Rattle.lazy_workers.proofs.workers.gather.Goals as goal
 pub returns-in-Ok-clause-searched : goal.returns-in-Ok-clause-searched
 returns-in-Ok-clause-searched g c =
     let m = g.G.Game.model c.args.g in
-    let game = g.met.G.Game.lawful c.args.g in
     let ask = c.args.ask.now in
     let lead = c.join_all.new.lead in
     let entries = c.in-Ok.closed.book.entries in
@@ -17,7 +16,5 @@ returns-in-Ok-clause-searched g c =
     let total : lead.total ≡ ask.weight = c.in_ok-was_full.ensures.ours.total ∙ c.requires.board.total in
     let closed : IsClosed m ask.weight entries = rw (c.in-Ok.ensures.entries) (rw (c.requires.board.game, total) at c.in-Ok.ensures.closed) in
     let kept : IsKept m ask.rows lead.view entries c.in-Ok.closed.kept = rw (c.in-Ok.ensures.entries) (rw (c.requires.board.game, c.requires.board.rows) at c.in-Ok.ensures.kept) in
-    let count : length turns ≡ ask.workers = search rules in
-    let some : 1 ≤ ask.workers = omega (arith, c.requires.board.asked.workers.0) in
     subst (λ (l : List Budget). IsSearched m ask entries c.in-Ok.closed.kept l c.in_ok-was_full.was_full) (sym c.from_vec.ensures)
-    (joined_searched m game ask lead.view entries c.in-Ok.closed.kept kept closed turns c.in_ok-was_full.was_full c.in_ok-was_full.ensures.joined count some c.requires.board.goes_on)
+    (joined_searched m (g.met.G.Game.lawful c.args.g) ask lead.view entries c.in-Ok.closed.kept kept closed turns c.in_ok-was_full.was_full c.in_ok-was_full.ensures.joined (search rules) (omega (arith, c.requires.board.asked.workers.0)) c.requires.board.goes_on)

@@ -11,5 +11,4 @@ returns c =
     let over : is_over g c.args.s ≡ false = moves_open _ _ _ c.requires.one in
     let one : c.bid-one.result ≡ slice_index (bids g One c.args.s) c.args.a = rw (open_bids g One c.args.s over) c.bid-one.ensures.is in
     let two : c.bid-two.result ≡ slice_index (bids g Two c.args.s) c.args.b = rw (open_bids g Two c.args.s over) c.bid-two.ensures.is in
-    let here = sound g c.args.self.now.valid c.args.s c.requires.reachable in
-    rw (← one, ← two, ← c.push.ensures.is) (same_state _ _ (omega (arith, ints, here.near, c.push.ensures.small, c.args.self.now.valid.size_high)) refl refl)
+    rw (← one, ← two, ← c.push.ensures.is) (same_state _ _ (omega (arith, ints, (sound g c.args.self.now.valid c.args.s c.requires.reachable).near, c.push.ensures.small, c.args.self.now.valid.size_high)) refl refl)

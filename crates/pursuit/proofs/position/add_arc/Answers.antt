@@ -5,5 +5,4 @@ use Rattle.pursuit.proofs.position.add_arc.Goals as goal
 
 pub returns-clause-added : goal.returns-clause-added
 returns-clause-added c = λ a b.
-    let sets = c.args.sets.now in
-    ap (λ (v : ℕ). is_joined_in (set sets c.args.from v) a b) c.with_node.ensures ∙ arc_added sets c.args.from c.args.to a b (omega (arith, c.told-sets, c.requires.from))
+    ap (λ (v : ℕ). is_joined_in (set c.args.sets.now c.args.from v) a b) c.with_node.ensures ∙ arc_added c.args.sets.now c.args.from c.args.to a b (omega (arith, c.told-sets, c.requires.from))

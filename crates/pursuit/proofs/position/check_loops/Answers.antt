@@ -14,5 +14,4 @@ returns-then-edges-place c =
 
 pub returns : goal.returns
 returns c =
-    let edges = c.args.edges.now in
-    none_passing (λ edge. first_node edges edge == second_node edges edge) (length edges / 2) (λ k l. c.loop-edge.invariant k (omega arith))
+    none_passing (λ edge. first_node c.args.edges.now edge == second_node c.args.edges.now edge) (length c.args.edges.now / 2) (λ k l. c.loop-edge.invariant k (omega arith))

@@ -6,11 +6,8 @@ use Rattle.pursuit.proofs.position.width_of.Goals as goal
 
 pub loop-node-preserved : goal.loop-node-preserved
 loop-node-preserved c =
-    let n = c.args.nodes in
-    let sets = c.args.sets.now in
     let node = c.loop-node.node in
     let within = c.requires.within node in
-    let few = ones-le n (get_or sets node 0) within in
-    let is = degree_is n sets node within in
-    let more = greatest_more node (degree (graph_from n sets)) in
-    (omega (arith, more, is, c.loop-node.invariant.0, c.max-most.ensures), omega (arith, few, c.loop-node.invariant.1, c.max-most.ensures, c.requires.nodes))
+    let is = degree_is c.args.nodes c.args.sets.now node within in
+    let more = greatest_more node (degree (graph_from c.args.nodes c.args.sets.now)) in
+    (omega (arith, more, is, c.loop-node.invariant.0, c.max-most.ensures), omega (arith, ones-le c.args.nodes (get_or c.args.sets.now node 0) within, c.loop-node.invariant.1, c.max-most.ensures, c.requires.nodes))

@@ -17,8 +17,6 @@ returns-clause-plans g c =
       col_weights = c.in_ok-stage.stage.v;
       stage = c.in_ok-stage.ensures.stage;
       is_grid = held_grid_is m c.args.s c.args.table.now c.deref.result.now c.args.rows.now c.args.cols.now c.requires.shape c.requires.rows c.requires.cols (c.deref.ensures.value ∙ c.in_ok-lows.ensures.cells);
-      one = subst (λ (l : List ℕ). IsPlan m One c.args.s c.args.total c.args.rows.now c.args.cols.now l (numbers_in One c.args.table.now) c.in_ok-one.one.weights.items c.in_ok-one.one.bound c.in_ok-one.one.fresh) c.as_slice-p.ensures c.in_ok-one.ensures.plan;
-      two = subst (λ (l : List ℕ). IsPlan m Two c.args.s c.args.total c.args.cols.now c.args.rows.now l (numbers_in Two c.args.table.now) c.in_ok-two.two.weights.items c.in_ok-two.two.bound c.in_ok-two.two.fresh) c.as_slice-v.ensures c.in_ok-two.ensures.plan;
-      one_reads = c.in_ok-one.ensures.reads;
-      two_reads = c.in_ok-two.ensures.reads;
+      one = subst (λ (l : List ℕ). IsPlan m One c.args.s c.args.total c.args.rows.now c.args.cols.now l (numbers_in One c.args.table.now) c.in_ok-one.one.weights.items c.in_ok-one.one.bound c.in_ok-one.one.fresh) c.as_slice-p.ensures c.in_ok-one.ensures;
+      two = subst (λ (l : List ℕ). IsPlan m Two c.args.s c.args.total c.args.cols.now c.args.rows.now l (numbers_in Two c.args.table.now) c.in_ok-two.two.weights.items c.in_ok-two.two.bound c.in_ok-two.two.fresh) c.as_slice-v.ensures c.in_ok-two.ensures;
     }

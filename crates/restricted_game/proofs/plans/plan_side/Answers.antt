@@ -19,8 +19,8 @@ quotient-requires-clause-negatable g c =
     let low = worth_low c.args.side c.args.cells.now c.args.table.now.width c.args.total c.deref.result.now c.reply_to-reply.result.place c.requires.small read in
     rw (to_z-of_z w64 c.reply_to-reply.result.sum f) (omega (arith, ints, low, c.reply_to-reply.ensures.worth, c.requires.light))
 
-pub returns-clause-plan : goal.returns-clause-plan
-returns-clause-plan g c =
+pub returns : goal.returns
+returns g c =
     let m = g.G.Game.model c.args.g in
     let reply = c.reply_to-reply.result in
     let f : SFits w64 c.reply_to-reply.result.sum = search rules in

@@ -1,20 +1,34 @@
-use Rattle.std.proofs.Common.{◌≡◌, List, subst, sym, arith}
-use Rattle.std.specs.Vec.{with_items}
-use Rattle.std.proofs.lemmas.List.{with_items_is}
-use Rattle.std.proofs.lemmas.Nat.{mul-add-lt}
-use Rattle.sim_game.specs.declared.Side.TheVariants.{One, Two}
-use Rattle.bounds_board.specs.declared.bounds.Enclosure.{Enclosure}
-use Rattle.restricted_game.specs.Numbers.{AreRead}
-use Rattle.restricted_game.specs.Tables.{enclosure_at, place_of}
+use Rattle.std.proofs.Common.{rules, ◌≡◌, ◌*◌, ◌<◌, length, ◌∙◌, arith}
+use Rattle.std.proofs.lemmas.List.Elements.{All-set}
+use Rattle.sim_game.specs.declared.Side.TheVariants.{Two}
+use Rattle.bounds_board.proofs.ViewLemmas.{later_trans}
+use Rattle.restricted_game.specs.Sizes.{IsSmallEnclosure}
+use Rattle.restricted_game.proofs.PlaceLemmas.{place_within}
+use Rattle.restricted_game.proofs.TableLemmas.{filled_more}
 use Rattle.restricted_game.proofs.reading.read_table.Goals as goal
 
-pub returns-in-Ok-read_pairs-clause-filled : goal.returns-in-Ok-read_pairs-clause-filled
-returns-in-Ok-read_pairs-clause-filled g c =
-    let m = g.G.Game.model c.args.g in
-    let kept : (with_items c.in-Ok.enclosures c.read_pairs.new.enclosures).items ≡ c.read_pairs.new.enclosures = with_items_is c.in-Ok.enclosures c.read_pairs.new.enclosures (omega (arith, c.read_pairs.auto.enclosures, c.deref_mut.ensures.len)) in
+pub returns-in-Err-clause-later : goal.returns-in-Err-clause-later
+returns-in-Err-clause-later g c = later_trans _ _ _ c.loop-place.invariant.later c.in-Err.ensures.later
+
+pub loop-place-preserved : goal.loop-place-preserved
+loop-place-preserved g c =
+    let found = c.in-Ok-read_child.ensures in
+    let some : 0 < c.moves-width.result = omega (arith, (g.met.G.Game.lawful c.args.g).other_moves Two c.args.s c.requires.reachable c.requires.goes_on, c.moves-width.ensures) in
+    let inside : c.loop-place.place < length c.loop-place.enclosures.items = search rules in
+    record {
+      later = later_trans _ _ _ c.loop-place.invariant.later found.later;
+      entries = found.entries ∙ c.loop-place.invariant.entries;
+      children = found.children;
+      filled = filled_more (g.G.Game.model c.args.g) c.args.s c.requires.reachable _ _ _ c.loop-place.invariant.later found.later c.args.rows.now c.args.cols.now c.moves-width.result c.stride_of-stride.result c.moves-width.ensures some
+          c.stride_of-stride.ensures c.loop-place.place c.in-Ok-read_child.found found.read c.loop-place.enclosures.items inside c.loop-place.invariant.filled;
+      small = All-set IsSmallEnclosure c.loop-place.enclosures.items _ _ found.small c.loop-place.invariant.small;
+    }
+
+pub returns-clause-filled : goal.returns-clause-filled
+returns-clause-filled g c =
+    let all : c.loop-place.place ≡ c.moves-height.result * c.moves-width.result * c.stride_of-stride.result = search rules in
     record {
       read = λ one two draw p q w r.
-          rw c.moves-width.ensures
-          (subst (λ (l : List Enclosure). AreRead m (g.B.Bounds.view c.args.board.now) (g.B.Bounds.view c.read_pairs.new.board) (m.drawn c.args.s one two draw) (enclosure_at l (place_of (m.moves Two c.args.s) c.stride_of-stride.result one two draw))) (sym kept)
-          (c.in-Ok-read_pairs.ensures.filled.read one two draw p q (omega (arith, mul-add-lt one (m.moves Two c.args.s) two (m.moves One c.args.s) p q)) w r));
+          let inside = place_within c.moves-height.result c.moves-width.result c.stride_of-stride.result one two draw (rw c.moves-height.ensures p) (rw c.moves-width.ensures q) (omega (arith, c.stride_of-stride.ensures.draws c.args.s one two c.requires.reachable p q)) in
+          c.loop-place.invariant.filled.read one two draw p q (omega (arith, inside, all)) w r;
     }

@@ -6,16 +6,16 @@ use Rattle.restricted_game.specs.Runs.{IsHeldStage}
 use Rattle.restricted_game.specs.Tables.{held_grid}
 use Rattle.restricted_game.proofs.stage.solve_held.Goals as goal
 
-pub returns-in-Ok-solve-clause-stage : goal.returns-in-Ok-solve-clause-stage
-returns-in-Ok-solve-clause-stage c =
-    let plans = c.in-Ok-solve.plans in
+pub returns-in-Ok-solve_with_memory-clause-stage : goal.returns-in-Ok-solve_with_memory-clause-stage
+returns-in-Ok-solve_with_memory-clause-stage c =
+    let plans = c.in-Ok-solve_with_memory.plans in
     let is : c.in-Ok.matrix ≡ held_grid c.args.cells.now c.args.width c.args.rows.now c.args.cols.now =
     c.in-Ok.ensures.matrix ∙ ap (λ (cells : List ℤ). record { rows = length c.args.rows.now; cols = length c.args.cols.now; cells = cells }) c.in_ok-held.ensures.cells in
-    subst (λ (grid : Grid). IsHeldStage c.args.total grid c.in-Ok-solve.plans.p c.in-Ok-solve.plans.v) is (record {
-      stage = c.in-Ok-solve.ensures.plans;
-      resolution = rw (← c.in-Ok-solve.ensures.low, ← c.in-Ok-solve.ensures.high) c.in-Ok-solve.ensures.resolution;
-      rows = c.in-Ok-solve.ensures.p;
-      cols = c.in-Ok-solve.ensures.v;
+    subst (λ (grid : Grid). IsHeldStage c.args.total grid c.in-Ok-solve_with_memory.plans.p c.in-Ok-solve_with_memory.plans.v) is (record {
+      stage = c.in-Ok-solve_with_memory.ensures.plans;
+      resolution = rw (← c.in-Ok-solve_with_memory.ensures.low, ← c.in-Ok-solve_with_memory.ensures.high) c.in-Ok-solve_with_memory.ensures.resolution;
+      rows = c.in-Ok-solve_with_memory.ensures.p;
+      cols = c.in-Ok-solve_with_memory.ensures.v;
     })
 
 pub unreachable-requires-in-Err : goal.unreachable-requires-in-Err

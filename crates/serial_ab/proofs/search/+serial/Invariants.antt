@@ -6,44 +6,51 @@ use Rattle.plan_book.specs.Entries.{concat_below}
 use Rattle.serial_ab.specs.Counts.{spent_on}
 use Rattle.serial_ab.specs.Values.{pair_nodes, move_nodes}
 use Rattle.serial_ab.specs.Searches.{IsKept, IsGoodNumber}
+use Rattle.serial_ab.specs.Transpositions.{AreRemembered}
 use Rattle.serial_ab.proofs.SearchLemmas.{MovesSoFar, RepliesSoFar}
 use Rattle.serial_ab.proofs.search.+serial.Given as goal
 
 abbrev pub decreases-search_draws : goal.decreases-search_draws
-decreases-search_draws g l = 5 * (g.G.Game.model l.g.now).rank l.s
+decreases-search_draws g l = 6 * (g.G.Game.model l.task.now.game).rank l.s
 
 abbrev pub decreases-search_pair : goal.decreases-search_pair
-decreases-search_pair g l = 5 * (g.G.Game.model l.g.now).rank l.s + 1
+decreases-search_pair g l = 6 * (g.G.Game.model l.task.now.game).rank l.s + 1
 
 abbrev pub decreases-search_move : goal.decreases-search_move
-decreases-search_move g l = 5 * (g.G.Game.model l.g.now).rank l.s + 2
+decreases-search_move g l = 6 * (g.G.Game.model l.task.now.game).rank l.s + 2
 
 abbrev pub decreases-search_moves : goal.decreases-search_moves
-decreases-search_moves g l = 5 * (g.G.Game.model l.g.now).rank l.s + 3
+decreases-search_moves g l = 6 * (g.G.Game.model l.task.now.game).rank l.s + 3
+
+abbrev pub decreases-search_inner : goal.decreases-search_inner
+decreases-search_inner g l = 6 * (g.G.Game.model l.task.now.game).rank l.s + 4
 
 abbrev pub decreases-search_state : goal.decreases-search_state
-decreases-search_state g l = 5 * (g.G.Game.model l.g.now).rank l.s + 4
+decreases-search_state g l = 6 * (g.G.Game.model l.task.now.game).rank l.s + 5
 
 abbrev pub invariant-search_draws-loop-d : goal.invariant-search_draws-loop-d
 invariant-search_draws-loop-d g l = record {
-  kept : IsKept (g.G.Game.model l.g) l.side (count_below l.d (λ d. tree_size (g.G.Game.model l.g) (child_of (g.G.Game.model l.g) l.side l.s l.own l.reply d))) (g.B.Bounds.view l.initial.board) (g.B.Bounds.view l.board) l.initial.visits l.visits;
-  summed : l.sum ≡ sum_below l.d (λ d. pos (chance_of (g.G.Game.model l.g) l.side l.s l.own l.reply d) *ℤ serial_bound (g.G.Game.model l.g) l.side (child_of (g.G.Game.model l.g) l.side l.s l.own l.reply d));
-  listed : l.reads.items ≡ l.initial.reads.items ++ concat_below l.d (λ d. serial_bound (g.G.Game.model l.g) l.side (child_of (g.G.Game.model l.g) l.side l.s l.own l.reply d) ∷ []);
-  good : (d : ℕ) → d < l.d → IsGoodNumber (g.G.Game.model l.g) l.side (g.B.Bounds.view l.board) (child_of (g.G.Game.model l.g) l.side l.s l.own l.reply d) (serial_bound (g.G.Game.model l.g) l.side (child_of (g.G.Game.model l.g) l.side l.s l.own l.reply d));
-  below : 1 ≤ l.d → spent_on l.side l.initial.visits + 1 ≤ spent_on l.side l.visits;
+  kept : IsKept (g.G.Game.model l.task.game) l.task.side (count_below l.d (λ d. tree_size (g.G.Game.model l.task.game) (child_of (g.G.Game.model l.task.game) l.task.side l.s l.own l.reply d))) (g.B.Bounds.view l.initial.board) (g.B.Bounds.view l.board) l.initial.visits l.visits;
+  remembered : AreRemembered (g.G.Game.model l.task.game) (g.B.Bounds.view l.board) l.table;
+  summed : l.sum ≡ sum_below l.d (λ d. pos (chance_of (g.G.Game.model l.task.game) l.task.side l.s l.own l.reply d) *ℤ serial_bound (g.G.Game.model l.task.game) l.task.side (child_of (g.G.Game.model l.task.game) l.task.side l.s l.own l.reply d));
+  listed : l.reads.items ≡ l.initial.reads.items ++ concat_below l.d (λ d. serial_bound (g.G.Game.model l.task.game) l.task.side (child_of (g.G.Game.model l.task.game) l.task.side l.s l.own l.reply d) ∷ []);
+  good : (d : ℕ) → d < l.d → IsGoodNumber (g.G.Game.model l.task.game) l.task.side (g.B.Bounds.view l.board) (child_of (g.G.Game.model l.task.game) l.task.side l.s l.own l.reply d) (serial_bound (g.G.Game.model l.task.game) l.task.side (child_of (g.G.Game.model l.task.game) l.task.side l.s l.own l.reply d));
+  below : 1 ≤ l.d → spent_on l.task.side l.initial.visits + 1 ≤ spent_on l.task.side l.visits;
 }
 
 abbrev pub invariant-search_move-loop-reply : goal.invariant-search_move-loop-reply
 invariant-search_move-loop-reply g l = record {
-  kept : IsKept (g.G.Game.model l.g) l.side (count_below l.reply (pair_nodes (g.G.Game.model l.g) l.side l.s l.own)) (g.B.Bounds.view l.initial.board) (g.B.Bounds.view l.board) l.initial.visits l.visits;
-  so_far : RepliesSoFar (g.G.Game.model l.g) l.side l.s l.own l.floor l.better l.reply l.least (g.B.Bounds.view l.board) l.initial.reads.items l.reads.items;
-  below : 1 ≤ l.reply → spent_on l.side l.initial.visits + 1 ≤ spent_on l.side l.visits;
+  kept : IsKept (g.G.Game.model l.task.game) l.task.side (count_below l.reply (pair_nodes (g.G.Game.model l.task.game) l.task.side l.s l.own)) (g.B.Bounds.view l.initial.board) (g.B.Bounds.view l.board) l.initial.visits l.visits;
+  remembered : AreRemembered (g.G.Game.model l.task.game) (g.B.Bounds.view l.board) l.table;
+  so_far : RepliesSoFar (g.G.Game.model l.task.game) l.task.side l.s l.own l.floor l.better l.reply l.least (g.B.Bounds.view l.board) l.initial.reads.items l.reads.items;
+  below : 1 ≤ l.reply → spent_on l.task.side l.initial.visits + 1 ≤ spent_on l.task.side l.visits;
 }
 
 abbrev pub invariant-search_moves-loop-own : goal.invariant-search_moves-loop-own
 invariant-search_moves-loop-own g l = record {
-  kept : IsKept (g.G.Game.model l.g) l.side (count_below l.own (move_nodes (g.G.Game.model l.g) l.side l.s)) (g.B.Bounds.view l.initial.board) (g.B.Bounds.view l.board) l.initial.visits l.visits;
-  so_far : MovesSoFar (g.G.Game.model l.g) l.side l.s l.worse l.better l.own l.value (g.B.Bounds.view l.board);
+  kept : IsKept (g.G.Game.model l.task.game) l.task.side (count_below l.own (move_nodes (g.G.Game.model l.task.game) l.task.side l.s)) (g.B.Bounds.view l.initial.board) (g.B.Bounds.view l.board) l.initial.visits l.visits;
+  remembered : AreRemembered (g.G.Game.model l.task.game) (g.B.Bounds.view l.board) l.table;
+  so_far : MovesSoFar (g.G.Game.model l.task.game) l.task.side l.s l.worse l.better l.own l.value (g.B.Bounds.view l.board);
   same_reads : l.reads.items ≡ l.initial.reads.items;
-  below : 1 ≤ l.own → spent_on l.side l.initial.visits + 1 ≤ spent_on l.side l.visits;
+  below : 1 ≤ l.own → spent_on l.task.side l.initial.visits + 1 ≤ spent_on l.task.side l.visits;
 }

@@ -1,4 +1,4 @@
-use Rattle.shared_board.proofs.StepLemmas.{keeps}
+use Rattle.shared_board.proofs.SeatLemmas.{keeps}
 use Rattle.shared_board.proofs.laws.each_step_keeps.Goals as goal
 
 pub returns : goal.returns

@@ -1,7 +1,7 @@
 use Rattle.std.proofs.Common.{◌≡◌}
 use Rattle.shared_board.specs.Words.{row_after}
 use Rattle.shared_board.specs.Plays.{IsAt}
-use Rattle.shared_board.proofs.LoopLemmas.{SoFar}
+use Rattle.shared_board.proofs.ClaimLemmas.{SoFar}
 use Rattle.shared_board.proofs.steps.claim_row.Given as goal
 
 abbrev pub invariant-loop-tried : goal.invariant-loop-tried

@@ -32,11 +32,9 @@ south_test height width cell p =
 
 pub returns-in-East : goal.returns-in-East
 returns-in-East c =
-    let g = c.args.self.now.setting in
-    let column = c.is_taken.ensures ∙ c.western_column.ensures (c.args.cell + 1) (omega (arith, few_cells g.height g.width c.args.self.now.valid.grid)) in
-    rw c.in-East.is (ap not column ∙ east_test g.width c.args.cell c.args.self.now.valid.grid.width_low)
+    let column = c.is_taken.ensures ∙ c.western_column.ensures (c.args.cell + 1) (omega (arith, few_cells c.args.self.now.setting.height c.args.self.now.setting.width c.args.self.now.valid.grid)) in
+    rw c.in-East.is (ap not column ∙ east_test c.args.self.now.setting.width c.args.cell c.args.self.now.valid.grid.width_low)
 
 pub returns-in-South : goal.returns-in-South
 returns-in-South c =
-    let g = c.args.self.now.setting in
-    rw (c.in-South.is, c.cell_count.ensures.is) (south_test g.height g.width c.args.cell c.args.self.now.valid.grid.width_low)
+    rw (c.in-South.is, c.cell_count.ensures.is) (south_test c.args.self.now.setting.height c.args.self.now.setting.width c.args.cell c.args.self.now.valid.grid.width_low)

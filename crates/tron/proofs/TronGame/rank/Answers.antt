@@ -4,14 +4,9 @@ use Rattle.tron.specs.Rules.{arena_of, free_cells, is_over}
 use Rattle.tron.specs.Laws.{sound, free_is}
 use Rattle.tron.proofs.TronGame.rank.Goals as goal
 
-pub is_over-requires : goal.is_over-requires
-is_over-requires c = sound c.args.self.now.setting c.args.self.now.valid c.args.s c.requires
-
 pub overflow_sub-result : goal.overflow_sub-result
 overflow_sub-result c =
-    let g = c.args.self.now.setting in
-    let p = c.args.self.now.valid in
-    omega (arith, free_is g p c.args.s (sound g p c.args.s c.requires), c.cell_count-cells.ensures.is)
+    omega (arith, free_is c.args.self.now.setting c.args.self.now.valid c.args.s (sound c.args.self.now.setting c.args.self.now.valid c.args.s c.requires), c.cell_count-cells.ensures.is)
 
 pub returns-else-is_over : goal.returns-else-is_over
 returns-else-is_over c =

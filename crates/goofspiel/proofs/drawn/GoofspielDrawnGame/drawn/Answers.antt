@@ -23,26 +23,21 @@ hands_are g p s a b hands here some is = is ∙ ap (λ (prize : ℕ). state_of (
 
 pub returns-then-s-eq0 : goal.returns-then-s-eq0
 returns-then-s-eq0 c =
-    let g = c.args.self.now.setting in
     let s = c.args.s in
-    let here = drawn_sound g c.args.self.now.valid s c.requires.reachable in
+    let here = drawn_sound c.args.self.now.setting c.args.self.now.valid s c.requires.reachable in
     let none : length (places s.undrawn) ≡ 0 = ap (λ (set : ℕ). length (places set)) c.if-s-eq0.true ∙ ap length (members_empty 13 0) in
-    let left = nothing_left s.undrawn c.args.d none (omega (arith, c.requires.draw)) in
-    same_drawn_state _ _ (hands_are g c.args.self.now.valid s c.args.a c.args.b c.played-hands.result here c.requires.one c.played-hands.ensures)
-    (sym (ap (packed_from 0) left)) (sym (get_or_past (places s.undrawn) c.args.d 0 (omega arith)))
+    same_drawn_state _ _ (hands_are c.args.self.now.setting c.args.self.now.valid s c.args.a c.args.b c.played-hands.result here c.requires.one c.played-hands.ensures)
+    (sym (ap (packed_from 0) (nothing_left s.undrawn c.args.d none (omega (arith, c.requires.draw))))) (sym (get_or_past (places s.undrawn) c.args.d 0 (omega arith)))
 
 pub take_out-place-requires-clause-small : goal.take_out-place-requires-clause-small
 take_out-place-requires-clause-small c = (drawn_sound c.args.self.now.setting c.args.self.now.valid c.args.s c.requires.reachable).undrawn_small
 
 pub take_out-place-requires-clause-place : goal.take_out-place-requires-clause-place
 take_out-place-requires-clause-place c =
-    let left = some_left c.args.s.undrawn (drawn_sound c.args.self.now.setting c.args.self.now.valid c.args.s c.requires.reachable).undrawn_small c.if-s-eq0.false in
-    omega (arith, left, c.requires.draw)
+    omega (arith, some_left c.args.s.undrawn (drawn_sound c.args.self.now.setting c.args.self.now.valid c.args.s c.requires.reachable).undrawn_small c.if-s-eq0.false, c.requires.draw)
 
 pub returns : goal.returns
 returns c =
-    let g = c.args.self.now.setting in
-    let s = c.args.s in
-    let here = drawn_sound g c.args.self.now.valid s c.requires.reachable in
-    same_drawn_state _ _ (hands_are g c.args.self.now.valid s c.args.a c.args.b c.played-hands.result here c.requires.one c.played-hands.ensures)
+    let here = drawn_sound c.args.self.now.setting c.args.self.now.valid c.args.s c.requires.reachable in
+    same_drawn_state _ _ (hands_are c.args.self.now.setting c.args.self.now.valid c.args.s c.args.a c.args.b c.played-hands.result here c.requires.one c.played-hands.ensures)
     c.take_out-place.ensures.rest c.take_out-place.ensures.number

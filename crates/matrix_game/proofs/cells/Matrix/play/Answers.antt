@@ -3,7 +3,7 @@ use Rattle.std.proofs.lemmas.Int.{ints, to_z-of_z}
 use Rattle.std.proofs.Math.ListN.{set}
 use Rattle.matrix_game.specs.Grid.{IsMatrix, first_greatest}
 use Rattle.matrix_game.specs.Rounds.{raised_regrets}
-use Rattle.matrix_game.proofs.Loop.{IsRound, round_is, before_first, regrets-room, mixture-light, counts-room, round_takes, round_keeps, same_before, floor_before, best_mixture_is, reply_counts_are}
+use Rattle.matrix_game.proofs.Loop.{IsRound, round_is, before_first, regrets-room, mixture-light, mixture-sum, counts-room, round_takes, round_keeps, same_before, floor_before, best_mixture_is, reply_counts_are}
 use Rattle.matrix_game.proofs.Gap.{count_of}
 use Rattle.matrix_game.proofs.Law.{length-regrets_before, mixture_before, reply_before}
 use Rattle.matrix_game.proofs.cells.Matrix.play.Goals as goal
@@ -19,17 +19,25 @@ mix-requires-clause-room g c =
     let room = regrets-room c.args.self.now c.args.weight c.loop-round.round g.R.Regret.limit matrix.shaped c.requires.room (omega arith) in
     omega (arith, room, c.loop-round.invariant.all_is, ap sum c.loop-round.invariant.regrets_are)
 
-pub best_reply-reply-requires-clause-light : goal.best_reply-reply-requires-clause-light
-best_reply-reply-requires-clause-light g c =
+pub reply-reply-requires-clause-light : goal.reply-reply-requires-clause-light
+reply-reply-requires-clause-light g c =
     let matrix : IsMatrix c.args.self.now = subst IsMatrix c.self.view_is c.self.invariant in
     let m = c.args.self.now in
     let q : List ℕ = map g.R.Regret.number c.loop-round.regrets in
     let each : length q ≡ m.rows = ap length c.loop-round.invariant.regrets_are ∙ length-regrets_before m c.args.weight c.loop-round.round in
     subst (λ p. All (λ x. x ≤ 1048576) p) (sym c.mix.ensures) (mixture-light m.rows c.args.weight q each (omega (arith, matrix.shaped.some_row)) c.requires.light)
 
+pub reply-reply-requires-clause-weight : goal.reply-reply-requires-clause-weight
+reply-reply-requires-clause-weight g c =
+    let matrix : IsMatrix c.args.self.now = subst IsMatrix c.self.view_is c.self.invariant in
+    let m = c.args.self.now in
+    let q : List ℕ = map g.R.Regret.number c.loop-round.regrets in
+    let each : length q ≡ m.rows = ap length c.loop-round.invariant.regrets_are ∙ length-regrets_before m c.args.weight c.loop-round.round in
+    ap sum c.mix.ensures ∙ mixture-sum m.rows c.args.weight q each (omega (arith, matrix.shaped.some_row))
+
 pub overflow_add-counts : goal.overflow_add-counts
 overflow_add-counts g c =
-    let room = counts-room c.args.self.now c.args.weight c.loop-round.round c.best_reply-reply.result.col (map g.R.Regret.number c.loop-round.regrets) (g.R.Regret.number c.loop-round.all) c.loop-round.counts c.loop-round.best (to_z w64 c.loop-round.low-bits) c.loop-round.invariant c.best_reply-reply.ensures.col_in in
+    let room = counts-room c.args.self.now c.args.weight c.loop-round.round c.reply-reply.result.col (map g.R.Regret.number c.loop-round.regrets) (g.R.Regret.number c.loop-round.all) c.loop-round.counts c.loop-round.best (to_z w64 c.loop-round.low-bits) c.loop-round.invariant c.reply-reply.ensures.col_in in
     omega (arith, room)
 
 pub raise-all-requires-clause-held : goal.raise-all-requires-clause-held
@@ -45,9 +53,9 @@ raise-all-requires-clause-room g c =
     let t = c.loop-round.round in
     let q : List ℕ = map g.R.Regret.number c.loop-round.regrets in
     let matrix : IsMatrix m = subst IsMatrix c.self.view_is c.self.invariant in
-    let next = raised_regrets m w q c.best_reply-reply.result.col c.best_reply-reply.result.paid in
-    let round : IsRound m w t q next c.mix.new.p c.best_reply-reply.result.col c.best_reply-reply.result.paid =
-    round_is m w t q next c.mix.new.p c.best_reply-reply.result.col c.best_reply-reply.result.paid c.loop-round.invariant.regrets_are c.mix.ensures c.best_reply-reply.ensures.col c.best_reply-reply.ensures.paid refl in
+    let next = raised_regrets m w q c.reply-reply.result.col c.reply-reply.result.paid in
+    let round : IsRound m w t q next c.mix.new.p c.reply-reply.result.col c.reply-reply.result.paid =
+    round_is m w t q next c.mix.new.p c.reply-reply.result.col c.reply-reply.result.paid c.loop-round.invariant.regrets_are c.mix.ensures c.reply-reply.ensures.col c.reply-reply.ensures.paid refl in
     omega (arith, ap sum round.regrets_are, regrets-room m w (t + 1) g.R.Regret.limit matrix.shaped c.requires.room (omega arith))
 
 pub loop-round-preserved : goal.loop-round-preserved
@@ -60,14 +68,14 @@ loop-round-preserved g c =
     let next : List ℕ = map g.R.Regret.number c.raise-all.new.regrets in
     let next_all = g.R.Regret.number c.raise-all.result in
     let matrix : IsMatrix m = subst IsMatrix c.self.view_is c.self.invariant in
-    let reply = c.best_reply-reply.result.col in
-    let paid = c.best_reply-reply.result.paid in
+    let reply = c.reply-reply.result.col in
+    let paid = c.reply-reply.result.paid in
     let low = to_z w64 c.loop-round.low-bits in
     let fits : FitsSigned w64 paid = omega (arith, ints) in
     let paid_read = to_z-of_z w64 paid fits in
     let counts = set c.loop-round.counts reply (get_or c.loop-round.counts reply 0 + 1) in
     let round : IsRound m w t q next c.mix.new.p reply paid =
-    round_is m w t q next c.mix.new.p reply paid c.loop-round.invariant.regrets_are c.mix.ensures c.best_reply-reply.ensures.col c.best_reply-reply.ensures.paid c.raise-all.ensures.regrets in
+    round_is m w t q next c.mix.new.p reply paid c.loop-round.invariant.regrets_are c.mix.ensures c.reply-reply.ensures.col c.reply-reply.ensures.paid c.raise-all.ensures.regrets in
     elim c.if-round-eq0.branch [
       | then-round-eq0 v ↦
           let better : (t ≡ 0) ⊎ (low <ℤ paid) =

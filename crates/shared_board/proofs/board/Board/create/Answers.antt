@@ -2,7 +2,7 @@ use Rattle.std.proofs.Common.{◌≡◌, ℕ, ◌+◌, ◌*◌, length, List, ap
 use Rattle.sim_game.specs.declared.Side.TheVariants.{One, Two}
 use Rattle.bounds_board.proofs.PlainLemmas.{opening_returned}
 use Rattle.shared_board.specs.Words.{IsBlank, opening_word, word_of}
-use Rattle.shared_board.proofs.StartLemmas.{starts}
+use Rattle.shared_board.proofs.RuleLemmas.{starts}
 use Rattle.shared_board.proofs.PassLemmas.{pass_first}
 use Rattle.shared_board.proofs.board.Board.create.Goals as goal
 

@@ -1,18 +1,19 @@
 use Rattle.std.proofs.Common.{rules, ◌≡◌, ℕ, ◌+◌, ◌*◌, ◌<◌, [], refl, sym, ap, ◌∙◌, subst, arith, Some}
+use Rattle.std.proofs.lemmas.List.Elements.{All-contains}
 use Rattle.shared_board.specs.Rule.{Has}
 use Rattle.shared_board.specs.Passes.{IsUnseen}
-use Rattle.shared_board.specs.Known.{IsRowOf, AreKnown}
+use Rattle.shared_board.specs.Known.{IsRowOf, IsPlace, AreKnown}
 use Rattle.shared_board.specs.declared.known.KnownRow.{KnownRow}
 use Rattle.shared_board.specs.declared.view.View.{View}
-use Rattle.shared_board.proofs.PassStepLemmas.{pass_claimed}
-use Rattle.shared_board.proofs.KnownLemmas.{known_more, known_found, known_kept}
+use Rattle.shared_board.proofs.PassLemmas.{pass_claimed}
+use Rattle.shared_board.proofs.DeskLemmas.{known_more, known_kept}
 use Rattle.shared_board.proofs.desk.Desk.claim_key.Goals as goal
 
 pub returns-in-Some : goal.returns-in-Some
 returns-in-Some g c =
     let keys : c.self.inside.pass.view.keys ≡ c.args.self.now.pass.view.keys = ap (λ d. d.pass.view.keys) c.self.view_is in
     let x : KnownRow = record { key = c.args.key; row = c.in-Some.row } in
-    let row = subst (λ ks. IsRowOf ks x) keys (known_found c.self.inside.pass.view.keys c.self.inside.known.places.items x c.self.invariant.1 c.in-Some.ensures) in
+    let row = subst (λ ks. IsRowOf ks x) keys (All-contains (IsPlace c.self.inside.pass.view.keys) c.self.inside.known.places.items (Some x) c.self.invariant.1 c.in-Some.ensures) in
     record { view = ([], refl); ok = rw c.new.ensures row.has; apart = row.apart; err = tt }
 
 pub invariant_of-self : goal.invariant_of-self

@@ -1,7 +1,8 @@
+use Rattle.std.proofs.lemmas.Result.{on_ok_weaker}
 use Rattle.bounds_board.proofs.ViewLemmas.{later_same}
 use Rattle.shared_board.specs.Values.{desk_view}
 use Rattle.shared_board.proofs.SeenLemmas.{has_key_of}
-use Rattle.shared_board.proofs.DeskLemmas.{on_ok, either_way, post_later, post_seen}
+use Rattle.shared_board.proofs.DeskLemmas.{either_way, post_later, post_seen}
 use Rattle.shared_board.proofs.desk.DeskBounds.post.Goals as goal
 
 pub post_entry-requires-clause-known : goal.post_entry-requires-clause-known
@@ -14,4 +15,4 @@ returns-clause-later g c = let did = c.post_entry.ensures in
 
 pub returns-clause-seen : goal.returns-clause-seen
 returns-clause-seen g c = let did = c.post_entry.ensures in
-    on_ok c.post_entry.result _ _ (λ n. post_seen g.G.Game.model c.args.self.now c.post_entry.new.self c.args.row c.args.e n (g.met.G.Game.lawful c.args.self.now.board.game) _ _ c.requires.entry c.requires.row) did.ok
+    on_ok_weaker c.post_entry.result (λ n. post_seen g.G.Game.model c.args.self.now c.post_entry.new.self c.args.row c.args.e n (g.met.G.Game.lawful c.args.self.now.board.game) _ _ c.requires.entry c.requires.row) did.ok

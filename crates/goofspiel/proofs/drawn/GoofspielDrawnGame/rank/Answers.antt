@@ -1,5 +1,0 @@
-use Rattle.goofspiel.specs.DrawnLaws.{drawn_sound}
-use Rattle.goofspiel.proofs.drawn.GoofspielDrawnGame.rank.Goals as goal
-
-pub size-requires : goal.size-requires
-size-requires c = (drawn_sound c.args.self.now.setting c.args.self.now.valid c.args.s c.requires).hands.one_small

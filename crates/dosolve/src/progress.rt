@@ -1,6 +1,6 @@
 //! What a long search tells on standard error while it goes on.
 
-ghost use Rattle.std.specs.Prelude.{◌+◌, ◌≤◌, ◌↔◌, IsTrue, Some, ◌++◌, codes, decimal};
+ghost use Rattle.std.specs.Prelude.{◌≡◌, ◌+◌, ◌/◌, ◌≤◌, ◌↔◌, IsTrue, Some, ◌++◌, codes, decimal};
 
 use oracle_search::Gate;
 use std::env::{Env, FillError};
@@ -47,13 +47,8 @@ impl<'a, R: Clock + Env + Eprint> Progress<'a, R> {
         let now = u64::try_from(elapsed.as_millis()).unwrap_or(u64::MAX);
         if is_due(told.load(Ordering::SeqCst), now) {
             told.store(now, Ordering::SeqCst);
-            let line = Line {
-                worker,
-                turns,
-                seconds: now / 1000,
-            };
             // A search goes on whether its progress can be written or not.
-            let _ = self.rt.eprintln(line);
+            let _ = self.rt.eprintln(Line::at(worker, turns, now));
         }
     }
 }
@@ -72,6 +67,19 @@ struct Line {
     worker: u32,
     turns: u64,
     seconds: u64,
+}
+
+impl Line {
+    /// What is told at a time, in milliseconds since the start.
+    fn at(worker: u32, turns: u64, now: u64) -> Line
+        ensures { result ≡ record { worker = worker; turns = turns; seconds = now / 1000 } }
+    {
+        Line {
+            worker,
+            turns,
+            seconds: now / 1000,
+        }
+    }
 }
 
 impl fmt::Display for Line {

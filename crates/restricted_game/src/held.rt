@@ -111,7 +111,8 @@ impl Restricted {
     /// side prove against all replies, and holds the best replies that were not held.
     ///
     /// The state is one that is no end, and has as many moves of each side as this game was made for; the row is its own,
-    /// and `children` keeps the rows of the states that it reads. `Spent` comes where no turn is left, before all else; `Full` where the claim of a child found the board full.
+    /// and `children` keeps the rows of the states that it reads. `Spent` comes where no turn is left, before all else;
+    /// `Full` where the claim of a child found the board full.
     pub fn step<G: Game, B: Bounds<G>>(
         &mut self,
         g: G,

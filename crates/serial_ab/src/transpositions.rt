@@ -1,5 +1,5 @@
 //! A transposition table: what finished searches found, by state, side and window.
-ghost use Rattle.std.specs.Prelude.{◌≡◌, ◌⊎◌, [], length};
+ghost use Rattle.std.specs.Prelude.{◌≡◌, ◌⊎◌, ◌<◌, ◌≤◌, [], length};
 ghost use Rattle.serial_ab.specs.Tables.{Tells, told};
 ghost use Rattle.serial_ab.specs.declared.transpositions.Query.{Query};
 ghost use Rattle.serial_ab.specs.declared.transpositions.Memo.{Memo};
@@ -29,40 +29,46 @@ pub struct Memo {
     pub visits: u64,
 }
 
-/// How many searches a table may hold where its maker has no reason for another number. They take up to 30 megabytes.
+/// The most searches that a table holds. They take up to 30 megabytes.
 pub const TABLE_LIMIT: usize = 262_144;
+
+type Memos = HashMap<Query, Memo, BuildHasherDefault<FoldHasher>, Global>;
 
 /// What finished searches found. It holds no more searches than its limit: full, it forgets all before it takes one.
 #[derive(Drop)]
 pub struct TranspositionTable {
-    memos: HashMap<Query, Memo, BuildHasherDefault<FoldHasher>, Global>,
+    memos: Memos,
     limit: usize,
 }
 
 impl Model for TranspositionTable {
-    ghost use Rattle.std.specs.Prelude.{List};
+    ghost use Rattle.std.specs.Prelude.{◌≤◌, List, length};
     ghost use Rattle.serial_ab.specs.declared.transpositions.Query.{Query};
     ghost use Rattle.serial_ab.specs.declared.transpositions.Memo.{Memo};
 
     ghost Value = { List (Query × Memo) };
 
     ghost view = { λ t. t.memos.entries };
+
+    ghost invariant = { λ t. (length t.memos.entries ≤ t.limit) × (t.limit ≤ 262144) };
 }
 
 impl TranspositionTable {
-    /// An empty table that may hold so many searches. It takes memory only when searches are stored.
+    /// An empty table that may hold so many searches, but not more than `TABLE_LIMIT`. It takes memory only when searches
+    /// are stored.
     pub fn new(alloc: Global, limit: usize) -> TranspositionTable
         ensures { result ≡ [] }
     {
         TranspositionTable {
             memos: HashMap::new(alloc),
-            limit,
+            limit: limit.min(TABLE_LIMIT),
         }
     }
 
     /// How many searches it holds.
     pub fn len(&self) -> usize
-        ensures { result ≡ length self.now }
+        ensures len { result ≡ length self.now }
+        ensures few { result ≤ 262144 }
     {
         self.memos.len()
     }
@@ -79,7 +85,7 @@ impl TranspositionTable {
         ensures { (q : Query) (e : Memo) → Tells self.new q e
             → (Tells self.old q e) ⊎ ((q ≡ query.now) × (e ≡ memo.now)) }
     {
-        self.make_room();
+        make_room(&mut self.memos, self.limit);
         if self.limit == 0 {
             return;
         }
@@ -88,13 +94,15 @@ impl TranspositionTable {
             Err(_) => self.memos.clear(),
         }
     }
+}
 
-    /// Forgets all where the table is full.
-    fn make_room(&mut self)
-        ensures { (q : Query) (e : Memo) → Tells self.new q e → Tells self.old q e }
-    {
-        if self.memos.len() >= self.limit {
-            self.memos.clear();
-        }
+/// Forgets all where so many searches are held.
+fn make_room(memos: &mut Memos, limit: usize)
+    requires { length memos.old.entries ≤ limit }
+    ensures room { length memos.new.entries < limit ⊎ (limit ≡ 0) × (memos.new.entries ≡ []) }
+    ensures less { (q : Query) (e : Memo) → Tells memos.new.entries q e → Tells memos.old.entries q e }
+{
+    if memos.len() >= limit {
+        memos.clear();
     }
 }

@@ -13,7 +13,7 @@ use Rattle.sim_game.specs.Model.{GameModel}
 use Rattle.bounds_board.specs.Views.{IsInnerKey}
 use Rattle.shared_board.specs.Words.{key_word, bound_word, row_after, key_at, bound_at, IsLooser}
 use Rattle.shared_board.specs.Rule.{IsConsistent, IsConsistentView, IsRow, Has}
-use Rattle.shared_board.specs.Plays.{knowing, claimed, MayClaim, IsApart, more_keys, AllNamed, IsLearnt, IsAt}
+use Rattle.shared_board.specs.Plays.{knowing, claimed, looked, MayClaim, IsApart, more_keys, AllNamed, IsLearnt, IsAt}
 use Rattle.shared_board.specs.declared.view.View.{View}
 use Rattle.shared_board.proofs.RuleLemmas.{changes, fits_words, keeps_words}
 use Rattle.shared_board.proofs.ListLemmas.{at_long}
@@ -113,6 +113,9 @@ module _ {S G : Type 0} (m : GameModel S) (g : G) (rows : ℕ) where
     pub claims_found : (k' : ℕ) → key_at s.words i ≡ suc k' → IsConsistent m g rows record { words = set s.words (key_word i) (key_at s.words i); homes = s.homes; views = set s.views id (knowing v i k') }
     claims_found k' e = keeps_words m g rows s r id v (knowing v i k') (key_word i) at refl refl (λ x h. h) (λ p h. inr h) (learns s.words r.head r.drawn id v i k' may.holder inside e mine)
 
+    pub looks_free : IsConsistent m g rows record { words = set s.words (key_word i) (key_at s.words i); homes = s.homes; views = set s.views id v }
+    looks_free = keeps_words m g rows s r id v v (key_word i) at refl refl (λ x h. h) (λ p h. h) mine
+
 module _ {S G : Type 0} (m : GameModel S) (g : G) (rows : ℕ) where
   pub apart : (s : State (Unit {0}) (View G)) (r : IsConsistent m g rows s) (id : ℕ) (v : View G) → get_elem? s.views id ≡ some v → IsApart v.keys
   apart s r id v at = let f = r.each_view id v at in record {
@@ -143,6 +146,30 @@ module _ {S G : Type 0} (model : G → GameModel S) (g : G) (rows : ℕ) where
       in exchanged n 0 (suc k) P (λ (hit : n ≡ 0). tells k (suc k) (claims_free m g rows s r a.0 id i k t at may hit) may.named (λ _. refl) (λ other. absurd (other hit)))
       (λ (miss : n ≢ 0). let p = some_suc n miss in
       tells p.0 n (claims_found m g rows s r a.0 id i k t at may p.0 p.1) ((r.each_row i (row_inside rows k t i may.here may.inside)).named p.0 p.1) (λ none. absurd (miss none)) (λ _. p.1))
+
+  pub looks : (slots id : ℕ) (a : Me (Unit {0}) (View G)) (i k t : ℕ) → MayClaim (model g) rows a.0 i k t
+      → Allows (IsConsistent (model g) g rows) slots id a (key_word i) (λ n. n) (looked model (step slots (key_word i) 0 0 none) a)
+  looks slots id a i k t may s r deep at _ = let n : ℕ = key_at s.words i in let m = model g in let mine = r.each_view id a.0 at in
+      let tells : (w : View G) → IsConsistent m g rows record { words = set s.words (key_word i) n; homes = s.homes; views = set s.views id w } → (n ≡ 0 → w ≡ a.0) → (n ≢ 0 → (q : ℕ) → IsLearnt model a.0 w i q n)
+      → (w : View G) × (act : Act (Unit {0})) × Valid s.homes a.1 act × IsConsistent m g rows (stepped s (key_word i) n id a.1 w act) × looked model (step slots (key_word i) 0 0 none) a n (w, carried_after a.1 act) = λ w now same more. (
+        w,
+        keeps,
+        tt,
+        now,
+        (refl, set_apart m g rows s (set s.words (key_word i) n) id a.0 w at now, λ j e. let row : i ≡ j = omega arith in (same, λ held q. subst (λ (z : ℕ). IsLearnt model a.0 w z q n) row (more held q))),
+      )
+      in dite (ℕ_discrete n 0) (λ (free : n ≡ 0). tells a.0 (looks_free m g rows s r a.0 id i k t at may) (λ _. refl) (λ held. absurd (held free)))
+      (λ (held : n ≢ 0). let p = some_suc n held in tells (knowing a.0 i p.0) (claims_found m g rows s r a.0 id i k t at may p.0 p.1) (λ none. absurd (held none)) (λ _ q. record {
+        key = p.0;
+        known = refl;
+        named = λ h is. subst (λ (z : G). IsInnerKey (model z) p.0) (game_is g h (sym (mine.same_game may.holder) ∙ is)) ((r.each_row i (row_inside rows k t i may.here may.inside)).named p.0 p.1);
+        is_new = λ none. absurd (held none);
+        is_old = λ _. p.1;
+      }))
+
+  pub looks_as : (slots id : ℕ) (a : Me (Unit {0}) (View G)) (i k t count : ℕ) → MayClaim (model g) rows a.0 i k t → count ≡ rows
+      → Allows (IsConsistent (model g) g count) slots id a (key_word i) (λ n. n) (looked model (step slots (key_word i) 0 0 none) a)
+  looks_as slots id a i k t count may e = subst (λ (z : ℕ). Allows (IsConsistent (model g) g z) slots id a (key_word i) (λ n. n) (looked model (step slots (key_word i) 0 0 none) a)) (sym e) (looks slots id a i k t may)
 
   -- the same for a word that is the key plus 1, and as many rows
   pub claims_as : (slots id : ℕ) (a : Me (Unit {0}) (View G)) (i k t count new : ℕ) → MayClaim (model g) rows a.0 i k t → count ≡ rows → new ≡ suc k

@@ -19,8 +19,8 @@ use Rattle.shared_board.proofs.RuleLemmas.{fits_words, backed_more}
 use Rattle.shared_board.proofs.ListLemmas.{all_set, at_long, same_at, somewhere_set, somewhere_longer, somewhere_join, total_set, total_append, times_append, has_left, has_right, has_split}
 use Rattle.shared_board.proofs.WordLemmas.{word_refl, word_left, word_right, word_both, tighter_same}
 use Rattle.std.proofs.lemmas.List.{set-get_or}
-use Rattle.shared_board.specs.Laws.{IsStep, claims, finds, posts, reads, splits, joins}
-use Rattle.shared_board.proofs.ClaimLemmas.{claims_free, claims_found}
+use Rattle.shared_board.specs.Laws.{IsStep, claims, looks, finds, posts, reads, splits, joins}
+use Rattle.shared_board.proofs.ClaimLemmas.{claims_free, claims_found, looks_free}
 use Rattle.shared_board.proofs.BoundLemmas.{posts_now, reads_now}
 
 pub in_range_word : {S : Type 0} (m : GameModel S) (side : Side) (x : ℕ) → IsInRange m x → IsLooser side (opening_word m side) x
@@ -209,6 +209,7 @@ module _ {S G : Type 0} (m : GameModel S) (g : G) (rows : ℕ) where
 module _ {S G : Type 0} (m : GameModel S) (game_laws : IsGame m) (g : G) (rows : ℕ) where
   pub keeps : (s t : State (Unit {0}) (View G)) → IsConsistent m g rows s → IsStep m rows s t → IsConsistent m g rows t
   keeps _ _ r (claims s id i k t v at may free) = claims_free m g rows s r v id i k t at may free
+  keeps _ _ r (looks s id i k t v at may free) = subst (λ (ws : List ℕ). IsConsistent m g rows record { words = ws; homes = s.homes; views = set s.views id v }) (set-get_or s.words (key_word i) 0) (looks_free m g rows s r v id i k t at may)
   keeps _ _ r (finds s id i k t found v at may is) = subst (λ (ws : List ℕ). IsConsistent m g rows record { words = ws; homes = s.homes; views = set s.views id (knowing v i found) }) (set-get_or s.words (key_word i) 0)
       (claims_found m g rows s r v id i k t at may found is)
   keeps _ _ r (posts s id i x side v at may) = posts_now m g rows game_laws s r id v at side i may.inside may.holder x may.key may.known may.in_range may.proved

@@ -18,6 +18,9 @@ module _ {S G : Type 0} (m : GameModel S) (rows : ℕ) where
   pub data IsStep : State (Unit {0}) (View G) → State (Unit {0}) (View G) → Type 0 where
     claims : (s : State (Unit {0}) (View G)) (id i k t : ℕ) (v : View G) → At s id v → MayClaim m rows v i k t → key_at s.words i ≡ 0
         → IsStep s (record { words = slice_set s.words (key_word i) (suc k); homes = s.homes; views = slice_set s.views id (knowing v i k) })
+    -- a load of a free row, which tells nothing
+    looks : (s : State (Unit {0}) (View G)) (id i k t : ℕ) (v : View G) → At s id v → MayClaim m rows v i k t → key_at s.words i ≡ 0
+        → IsStep s (record { words = s.words; homes = s.homes; views = slice_set s.views id v })
     finds : (s : State (Unit {0}) (View G)) (id i k t found : ℕ) (v : View G) → At s id v → MayClaim m rows v i k t → key_at s.words i ≡ suc found
         → IsStep s (record { words = s.words; homes = s.homes; views = slice_set s.views id (knowing v i found) })
     -- a raise where the side is One, a cut where it is Two

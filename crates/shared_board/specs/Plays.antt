@@ -78,6 +78,10 @@ module _ {S G : Type 0} (model : G → GameModel S) where
   abbrev pub claimed : At → Sat → ℕ → Sat → Type 0
   claimed st a n b = (b.1 ≡ a.1) × IsApart b.0.keys × ((i k : ℕ) → st.word ≡ key_word i → st.second ≡ suc k → IsLearnt a.0 b.0 i k n)
 
+  -- the row's key was loaded: the view knows it, and nothing more where the row is free
+  abbrev pub looked : At → Sat → ℕ → Sat → Type 0
+  looked st a n b = (b.1 ≡ a.1) × IsApart b.0.keys × ((i : ℕ) → st.word ≡ key_word i → (n ≡ 0 → b.0 ≡ a.0) × (n ≢ 0 → (k : ℕ) → IsLearnt a.0 b.0 i k n))
+
   -- what a bound is that a step found or left
   pub record IsBound (side : Side) (v : View G) (i x : ℕ) (g : G) : Type 0 where
     pub no_looser : IsLooser side (seen_at (model g) side v i) x

@@ -27,6 +27,16 @@ impl<G: Game> Play<(), View<G>> for Claim<G> {
     ghost then = { claimed G.model };
 }
 
+pub struct Look<G> {
+    game: PhantomData<G>,
+}
+
+impl<G: Game> Play<(), View<G>> for Look<G> {
+    ghost use Rattle.shared_board.specs.Plays.{looked};
+
+    ghost then = { looked G.model };
+}
+
 pub struct ReadLower<G> {
     game: PhantomData<G>,
 }

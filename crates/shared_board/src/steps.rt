@@ -2,9 +2,9 @@
 ghost use Rattle.std.specs.Prelude.{◌≡◌, ◌≢◌, ℕ, ◌+◌, ◌*◌, ◌<◌, ◌≤◌, List, [], Some, IfSome, IfNone};
 ghost use Rattle.bounds_board.specs.Views.{IsInnerKey};
 ghost use Rattle.shared_board.specs.Rule.{Has};
-ghost use Rattle.shared_board.specs.Plays.{more_keys, reading, posting, IsBound, IsApart, AllNamed, IsAt, IsSized, MayPost};
+ghost use Rattle.shared_board.specs.Plays.{more_keys, reading, posting, IsBound, IsLearnt, IsApart, AllNamed, IsAt, IsSized, MayClaim, MayPost};
 
-use crate::rule::{Claim, Cut, Raise, ReadLower, ReadUpper, Rules};
+use crate::rule::{Claim, Cut, Look, Raise, ReadLower, ReadUpper, Rules};
 use crate::view::View;
 use atomic_table::{Seat, Shared};
 use bounds_board::row_behind;
@@ -13,6 +13,32 @@ use sim_game::{Game, Side};
 pub(crate) type SharedWords<G> = Shared<(), View<G>, (G, u32), Rules>;
 
 pub(crate) type BoardSeat<G> = Seat<(), View<G>>;
+
+/// Tries a row for a key. The word that was found tells the row's key; it is 0 where the row was free and has the key
+/// now.
+#[inline]
+fn try_row<G: Game>(
+    words: &SharedWords<G>,
+    seat: &mut BoardSeat<G>,
+    rows: u32,
+    key: u64,
+    row: u32,
+) -> u64
+    requires board { IsSized words.now.table_id words.now.key.1 rows }
+    requires seat { IsAt words.now.table_id seat.old.table_id seat.old.me }
+    requires row { (tried : ℕ) × MayClaim (G.model words.now.key.0) rows seat.old.me.0 row key tried }
+    ensures seat { IsAt words.now.table_id seat.new.table_id seat.new.me × (seat.new.id ≡ seat.old.id) }
+    ensures learnt { IsLearnt G.model seat.old.me.0 seat.new.me.0 row key result }
+    ensures apart { IsApart seat.new.me.0.keys }
+{
+    let word = 3 * row as usize + 1;
+    // A row keeps its key, so where there is one a load tells as much as an exchange, and is far cheaper.
+    let held = words.load::<Look<G>>(seat, word);
+    if held != 0 {
+        return held;
+    }
+    words.compare_exchange::<Claim<G>>(seat, word, 0, key + 1)
+}
 
 /// Finds the row of a key, or claims one for it.
 pub(crate) fn claim_row<G: Game>(
@@ -34,8 +60,7 @@ pub(crate) fn claim_row<G: Game>(
 {
     let mut row = (key % rows as u64) as u32;
     for tried in 0..rows {
-        let word = 3 * row as usize + 1;
-        let found = words.compare_exchange::<Claim<G>>(seat, word, 0, key + 1);
+        let found = try_row(words, seat, rows, key, row);
         if found == 0 || found == key + 1 {
             return Some(row);
         }

@@ -82,7 +82,8 @@ impl TranspositionTable {
 
     /// Stores what a search found. Without memory for it the table forgets all.
     pub(crate) fn store(&mut self, query: &Query, memo: &Memo)
-        ensures { (q : Query) (e : Memo) → Tells self.new q e
+        ensures stored { Tells self.new query.now memo.now ⊎ (self.new ≡ []) }
+        ensures others { (q : Query) (e : Memo) → Tells self.new q e
             → (Tells self.old q e) ⊎ ((q ≡ query.now) × (e ≡ memo.now)) }
     {
         make_room(&mut self.memos, self.limit);

@@ -462,7 +462,7 @@ search_inner-returns-in_ok-number-in-None-clause-remembered g t c =
     let fx : SFits w64 c.in_ok-number-in-None.number = search rules in
     let found : IsFound m c.args.task.now.side c.args.s c.args.worse c.args.better v c.in_ok-number-in-None.number =
     rw (to_z-of_z w64 c.args.worse c.ranges.worse, to_z-of_z w64 c.args.better c.ranges.better) at c.in_ok-number-in-None.ensures.ends in
-    let stored = rw (to_z-of_z w64 c.args.worse c.ranges.worse, to_z-of_z w64 c.args.better c.ranges.better, to_z-of_z w64 c.in_ok-number-in-None.number fx) at c.store.ensures in
+    let stored = rw (to_z-of_z w64 c.args.worse c.ranges.worse, to_z-of_z w64 c.args.better c.ranges.better, to_z-of_z w64 c.in_ok-number-in-None.number fx) at c.store.ensures.others in
     let some : 1 ≤ c.spent.result - c.spent-before.result = omega (arith, c.spent.ensures, c.spent-before.ensures, c.in_ok-number-in-None.ensures.below) in
     let few : c.spent.result - c.spent-before.result ≤ inner_nodes m c.args.task.now.side c.args.s = omega (arith, c.spent.ensures, c.spent-before.ensures, c.search_moves-in-None.ensures.kept.visits.few) in
     remembered_more (g.met.G.Game.lawful c.args.task.now.game) c.args.s c.requires.reachable (sym c.key.ensures) found some few c.search_moves-in-None.ensures.remembered stored

@@ -1,4 +1,5 @@
-"""Builds the wheel of the package with the standard library alone, as `pip install ./python` asks for it."""
+"""Builds the wheel of the package with the standard library alone, as `pip install ./python` asks
+for it, and the one of `pip install -e ./python`, which names this folder."""
 import base64
 import hashlib
 import tarfile
@@ -14,29 +15,52 @@ def _project():
 
 
 def _metadata(project):
-    lines = ["Metadata-Version: 2.1", f"Name: {project['name']}", f"Version: {project['version']}", f"Summary: {project['description']}",
-             f"License: {project['license']['text']}", f"Requires-Python: {project['requires-python']}"]
+    lines = ["Metadata-Version: 2.1", f"Name: {project['name']}", f"Version: {project['version']}",
+             f"Summary: {project['description']}", f"License: {project['license']['text']}",
+             f"Requires-Python: {project['requires-python']}"]
     for extra, needs in project["optional-dependencies"].items():
-        lines += [f"Provides-Extra: {extra}", *(f"Requires-Dist: {need}; extra == '{extra}'" for need in needs)]
-    return "\n".join([*lines, "Description-Content-Type: text/markdown", "", (HERE / project["readme"]).read_text()])
+        lines.append(f"Provides-Extra: {extra}")
+        lines += [f"Requires-Dist: {need}; extra == '{extra}'" for need in needs]
+    readme = (HERE / project["readme"]).read_text()
+    return "\n".join([*lines, "Description-Content-Type: text/markdown", "", readme])
+
+
+def _record(name, data):
+    digest = base64.urlsafe_b64encode(hashlib.sha256(data).digest()).rstrip(b"=").decode()
+    return f"{name},sha256={digest},{len(data)}\n"
+
+
+def _write_wheel(folder, files):
+    """Writes a wheel of these files into a folder, and gives its name."""
+    project = _project()
+    stem = f"{project['name']}-{project['version']}"
+    info = f"{stem}.dist-info"
+    scripts = "".join(f"{name} = {place}\n" for name, place in project["scripts"].items())
+    files |= {
+        f"{info}/METADATA": _metadata(project).encode(),
+        f"{info}/WHEEL": b"Wheel-Version: 1.0\nGenerator: wheel_backend\nRoot-Is-Purelib: true\n"
+                         b"Tag: py3-none-any\n",
+        f"{info}/entry_points.txt": f"[console_scripts]\n{scripts}".encode(),
+    }
+    records = "".join(_record(name, data) for name, data in files.items())
+    files[f"{info}/RECORD"] = (records + f"{info}/RECORD,,\n").encode()
+    name = f"{stem}-py3-none-any.whl"
+    with zipfile.ZipFile(Path(folder, name), "w", zipfile.ZIP_DEFLATED) as wheel:
+        for file, data in files.items():
+            wheel.writestr(file, data)
+    return name
 
 
 def build_wheel(wheel_directory, config_settings=None, metadata_directory=None):
     """Writes the wheel into a folder, and gives its name."""
-    project = _project()
-    stem = f"{project['name']}-{project['version']}"
-    info = f"{stem}.dist-info"
-    files = {str(file.relative_to(HERE)): file.read_bytes() for file in sorted((HERE / "dosolve").iterdir()) if file.is_file()}
-    files[f"{info}/METADATA"] = _metadata(project).encode()
-    files[f"{info}/WHEEL"] = b"Wheel-Version: 1.0\nGenerator: wheel_backend\nRoot-Is-Purelib: true\nTag: py3-none-any\n"
-    records = [f"{name},sha256={base64.urlsafe_b64encode(hashlib.sha256(data).digest()).rstrip(b'=').decode()},{len(data)}\n"
-               for name, data in files.items()]
-    files[f"{info}/RECORD"] = ("".join(records) + f"{info}/RECORD,,\n").encode()
-    name = f"{stem}-py3-none-any.whl"
-    with zipfile.ZipFile(Path(wheel_directory, name), "w", zipfile.ZIP_DEFLATED) as wheel:
-        for file, data in files.items():
-            wheel.writestr(file, data)
-    return name
+    sources = sorted(file for file in (HERE / "dosolve").iterdir() if file.is_file())
+    return _write_wheel(wheel_directory, {str(file.relative_to(HERE)): file.read_bytes()
+                                          for file in sources})
+
+
+def build_editable(wheel_directory, config_settings=None, metadata_directory=None):
+    """Writes a wheel that puts this folder on Python's path, and gives its name."""
+    return _write_wheel(wheel_directory, {"dosolve.pth": f"{HERE}\n".encode()})
 
 
 def build_sdist(sdist_directory, config_settings=None):
@@ -44,6 +68,7 @@ def build_sdist(sdist_directory, config_settings=None):
     project = _project()
     stem = f"{project['name']}-{project['version']}"
     with tarfile.open(Path(sdist_directory, f"{stem}.tar.gz"), "w:gz") as archive:
-        for file in [HERE / "pyproject.toml", HERE / "README.md", Path(__file__), *sorted((HERE / "dosolve").glob("*.*"))]:
+        for file in [HERE / "pyproject.toml", HERE / "README.md", Path(__file__),
+                     *sorted((HERE / "dosolve").glob("*.*"))]:
             archive.add(file, f"{stem}/{file.relative_to(HERE)}")
     return f"{stem}.tar.gz"

@@ -1,12 +1,12 @@
 #!/usr/bin/env python3
-"""random_positions.py PROGRAM [OTHER] [COUNT [SEED]]: solves random positions, and has every report checked.
+"""random_positions.py PROGRAM [OTHER] [COUNT [SEED]] [linear]: solves random positions, and has every report checked.
 
 Each of COUNT positions (500) of the games goes to `solve` and `bounds`, with few or ample turns, visits and rows, so that every
 outcome comes up, also with visits that end inside a search that was done before; every fourth is spoilt first, so that it is
 refused. Each answer has to be one that docs/FORMATS.md tells, `check`
 has to accept each report, and no lower bound may be above an upper one of either command. Where OTHER is given, any program
-with the same commands, bytes and status have to be those of OTHER. One seed makes the same positions again. No part of the
-gate.
+with the same commands, bytes and status have to be those of OTHER. With the word `linear` each position asks for linear stages,
+which no other program has to print alike. One seed makes the same positions again. No part of the gate.
 """
 import json
 import os
@@ -62,12 +62,14 @@ def pursuit(r):
 GAMES = [goofspiel, oshi_zumo, tron, goofspiel_drawn, pursuit]
 
 
-def position(r, spoil, games=GAMES):
+def position(r, spoil, games=GAMES, stages=None):
     p = r.choice(games)(r)
     p.update(gap=r.choice([0, 0, 1000, 1000000]), weight=r.choice([8192, 8193, 65536, 1048576]),
              turns=r.choice([0, 0, 1, 2, 5, 50, 5000]),
              visits=r.choice([0, 1, 5, 50, 1000, 100000, r.randint(20, 2000), r.randint(20, 20000), 1099511627776]),
              rows=r.choice([1, 2, 5, 20, 200, 65536, 65536]), workers=1)
+    if stages:
+        p.update(stages=stages)
     for _ in range(r.randint(1, 2) if spoil else 0):
         name = r.choice(list(p))
         if r.random() < 0.2:
@@ -107,16 +109,17 @@ def fault(formats, program, other, text):
 
 
 def main():
-    words = sys.argv[1:]
+    stages = "linear" if "linear" in sys.argv else None
+    words = [word for word in sys.argv[1:] if word != "linear"]
     if not words:
-        sys.exit("usage: random_positions.py PROGRAM [OTHER] [COUNT [SEED]]")
+        sys.exit("usage: random_positions.py PROGRAM [OTHER] [COUNT [SEED]] [linear]")
     program = os.path.realpath(words.pop(0))
     other = os.path.realpath(words.pop(0)) if words and not words[0].isdigit() else None
     count, seed = (int(word) for word in (words + ["500", "1"][len(words):]))
     r, formats, failed = random.Random(seed), Formats(), 0
     for number in range(count):
-        text = position(r, number % 4 == 3)
-        found = fault(formats, program, other, text)
+        text = position(r, number % 4 == 3, stages=stages)
+        found = fault(formats, program, None if stages else other, text)
         if found:
             failed += 1
             print("FAILED", text.decode(), found)

@@ -3,7 +3,8 @@
 
 The values come from here alone, and share nothing with the program or its package: rules on plain tuples, backward induction
 over all states in exact fractions, each state's matrix game by a simplex whose answer is checked against both sides. The
-bounds that `solve` and `bounds` print have to enclose the value, and those of a closed report whose gap is 0 have to equal it.
+bounds that `solve` prints by regret matching and by linear programs, and those of `bounds`, have to enclose the value, those of
+a closed report whose gap is 0 have to equal it, and `check` has to accept each report.
 Games that docs/FORMATS.md does not tell are left out, and named. One seed makes the same positions again.
 """
 import json
@@ -177,8 +178,8 @@ def tiny_position(r, game):
                 visits=r.choice([0, 30, 100000]), rows=r.choice([3, 5000, 5000]), workers=r.choice([1, 1, 2]))
 
 
-def answer(program, command, position):
-    run = subprocess.run([program, command], input=json.dumps(position).encode(), capture_output=True, timeout=60)
+def answer(program, command, text):
+    run = subprocess.run([program, command], input=text.encode(), capture_output=True, timeout=60)
     return run.returncode, run.stdout.decode()
 
 
@@ -188,14 +189,18 @@ def number(text, word):
 
 def fault(program, position, value):
     """What is wrong with the program's bounds of a position with this value, or None; and whether they were exact."""
-    status, text = answer(program, "solve", position)
-    if status not in (0, 3, 4, 5):
-        return f"solve: status {status}, {text}", False
-    lower, upper = number(text, "lower"), number(text, "upper")
-    if not lower <= value * SCALE <= upper:
-        return f"solve: {lower} to {upper}", False
-    exact = status == 0 and lower == upper
-    status, text = answer(program, "bounds", position)
+    exact = False
+    for asked in position, dict(position, stages="linear", weight=1048576):
+        status, text = answer(program, "solve", json.dumps(asked))
+        if status not in (0, 3, 4, 5):
+            return f"solve: status {status}, {text}", False
+        lower, upper = number(text, "lower"), number(text, "upper")
+        if not lower <= value * SCALE <= upper:
+            return f"solve: {lower} to {upper}", False
+        if answer(program, "check", text)[0] != 0:
+            return "check: the report is not accepted", False
+        exact = exact or status == 0 and lower == upper
+    status, text = answer(program, "bounds", json.dumps(position))
     if status == 0 and not number(text, "lower") <= value * SCALE <= number(text, "upper"):
         return f"bounds: {text}", exact
     return None, exact

@@ -3,32 +3,92 @@
     import dosolve
 
     game = dosolve.Goofspiel(one=[1, 3], two=[2, 3], prizes=[1, 1])
-    solved = dosolve.solve(dosolve.Position(game, gap=1000))
+    solved = dosolve.solve(dosolve.Position(game))
+    print(solved)
     mine = dosolve.plan(game, "one", lambda state: [1 for card in state.moves("one")])
     report = dosolve.Report.of(mine, solved.two)
-    print(dosolve.exploit(report, "one").low, dosolve.play(report, games=1000, seed=0).mean)
+    print(dosolve.exploit(report, "one").payoff, dosolve.expected(report))
 
-The program is the judge, and has to be built; `find_program` says where it is looked for. Bounds, gaps and resolutions are
-millionths of a payoff, what One gets; moves, draws and cells are numbered from 0.
+The program is the judge, and has to be built; `find_program` says where it is looked for.
+
+Calls of the program:
+
+    solve(position, seconds=.., progress=..)   bounds of the value, and a plan of each side
+    check(report)                              verifies a report, or refuses it
+    bounds(position)                           bounds by pure plans alone
+    exploit(report, side)                      what a side's plan guarantees, exactly
+    play(report, games, seed)                  games between both plans, of one seed
+    match(report, games, seed)                 the same with a standard error
+    best_response(report, side)                the plan that does best against the other side's
+    nash_conv(report)                          what both sides together could gain
+    expected(report)                           the exact expected payoff of both plans
+    sweep(positions, executor, output)         many positions, on any executor, resumable
+    Solver(program, timeout)                   all of these as methods of one program
+
+Players:
+
+    plan(game, side, function)                 the plan of a function of a state
+    measure(position, player, side)            what a player guarantees, and how it does
+    tournament(players, positions)             each against each, as a table
+    live_match(game, one, two)                 games of any players, of histories too
+    load_player(path)                          the player of a file
+
+A `Position` is a game with what is asked, a `Report` has bounds and both plans, a `Sheet` is a
+plan. Games are `Goofspiel`, `GoofspielDrawn`, `OshiZumo`, `Tron` and `Pursuit`; a state has
+`moves(side)`, `play(one=.., two=..)`, `is_end` and `payoff`. Both sides are `SIDES`. Pictures are
+in `dosolve.pictures`, OpenSpiel's names in `dosolve.openspiel`, limits in `dosolve.limits`.
+Bounds, gaps and resolutions are millionths of a payoff, what One gets; payoffs are whole; moves,
+draws and cells are numbered from 0. `dosolve-py --help` is the same on a command line.
 """
-from .errors import DosolveError, InputRefused, Invalid, LimitReached, ProgramFailed, ProgramMissing, Refused, ReportRefused
-from .game import CHANCE, SCALE, SIDES, Game, Side, State, other
+from . import limits, openspiel, pictures
+from .errors import (
+    DosolveError, InputRefused, InputRefusedError, Invalid, InvalidError, LimitReached,
+    LimitReachedError, PlayerError, ProgramFailed, ProgramFailedError, ProgramMissing,
+    ProgramMissingError, ProgramTimeoutError, Refused, RefusedError, ReportRefused,
+    ReportRefusedError,
+)
+from .exact import BestResponse, expected_of, respond
+from .game import CHANCE, SCALE, SIDES, Game, Move, Side, State, other
 from .goofspiel import Goofspiel, GoofspielDrawn, GoofspielDrawnState, GoofspielState
+from .histories import HistoryPlayer, live_match
 from .measuring import Measured, Player, load_player, measure
 from .oshi_zumo import OshiZumo, OshiZumoState
 from .plans import Choice, Row, Sheet, plan, whole_weights
-from .positions import GAMES, Position
-from .program import Accepted, Match, Turn, WorstCase, bounds, check, exploit, find_program, play, solve
+from .positions import ASKED, GAMES, Position, processors
+from .program import (
+    Accepted, Match, Solver, Turn, WorstCase, best_response, bounds, check, expected, exploit,
+    find_program, match, nash_conv, play, solve,
+)
+from .progress import Bar, Progress, read_progress
 from .pursuit import Pursuit, PursuitState
 from .reports import OUTCOMES, Report
+from .sweeps import Swept, read_positions, sweep
+from .tournaments import Pairing, Tournament, tournament
 from .tron import DIRECTIONS, Tron, TronState
 
-__version__ = "1.0.0"
+__version__ = "2.0.0"
 
 __all__ = [
-    "Accepted", "CHANCE", "Choice", "DIRECTIONS", "DosolveError", "GAMES", "Game", "Goofspiel", "GoofspielDrawn", "GoofspielDrawnState",
-    "GoofspielState", "InputRefused", "Invalid", "LimitReached", "Match", "Measured", "OUTCOMES", "OshiZumo", "OshiZumoState",
-    "Player", "Position", "ProgramFailed", "ProgramMissing", "Pursuit", "PursuitState", "Refused", "Report", "ReportRefused", "Row", "SCALE",
-    "SIDES", "Sheet", "Side", "State", "Tron", "TronState", "Turn", "WorstCase", "bounds", "check", "exploit", "find_program",
-    "load_player", "measure", "other", "plan", "play", "solve", "whole_weights",
+    # Calls of the program.
+    "solve", "check", "bounds", "exploit", "play", "match", "best_response", "nash_conv",
+    "expected", "sweep", "Solver", "find_program",
+    # Players.
+    "plan", "measure", "tournament", "live_match", "load_player", "whole_weights", "expected_of",
+    "respond", "read_positions", "read_progress", "processors", "other",
+    # What is handed over and handed back.
+    "Position", "Report", "Sheet", "Row", "Accepted", "WorstCase", "Match", "Turn", "Measured",
+    "BestResponse", "Swept", "Tournament", "Pairing", "Progress", "Bar", "HistoryPlayer",
+    # Games.
+    "Goofspiel", "GoofspielDrawn", "OshiZumo", "Tron", "Pursuit", "Game", "State",
+    "GoofspielState", "GoofspielDrawnState", "OshiZumoState", "TronState", "PursuitState",
+    # Types and constants.
+    "Side", "SIDES", "Move", "Choice", "Player", "SCALE", "CHANCE", "GAMES", "ASKED", "OUTCOMES",
+    "DIRECTIONS", "limits", "openspiel", "pictures",
+    # Errors.
+    "DosolveError", "InvalidError", "PlayerError", "ProgramMissingError", "ProgramFailedError",
+    "ProgramTimeoutError", "RefusedError", "InputRefusedError", "ReportRefusedError",
+    "LimitReachedError",
+    # Names of earlier versions.
+    "Invalid", "ProgramMissing", "ProgramFailed", "Refused", "InputRefused", "ReportRefused",
+    "LimitReached",
 ]

@@ -1,53 +1,285 @@
-"""python -m dosolve measure POSITION PLAYER.py, and python -m dosolve show REPORT -o FILE.svg."""
+"""The command line: python3 -m dosolve, or dosolve-py where the package is installed."""
 from __future__ import annotations
 
 import argparse
+import json
+import os
 import sys
+from dataclasses import replace
 from pathlib import Path
+from typing import Any
 
-from .errors import DosolveError
-from .game import SIDES
+from . import __version__, pictures
+from .errors import DosolveError, ProgramMissingError
+from .game import SCALE, SIDES, Side
 from .measuring import load_player, measure, solved_text
-from .pictures import show
-from .positions import Position
-from .program import solve
+from .positions import ASKED, Position
+from .program import Solver, find_program
+from .progress import read_progress
 from .reports import Report
+from .sweeps import read_positions, sweep
+from .tournaments import tournament
+from .values import as_points
+
+INTERRUPTED, PIPE_CLOSED = 130, 141
+
+_EXAMPLES = """examples:
+  python3 -m dosolve solve examples/goofspiel_mixed.json -o mixed.report
+  python3 -m dosolve solve python/examples/goofspiel_five.json --seconds 10
+  python3 -m dosolve measure examples/goofspiel_mixed.json python/examples/even.py
+  python3 -m dosolve exploit examples/goofspiel_mixed.report one
+  python3 -m dosolve show examples/goofspiel_mixed.report -o mixed.svg
+  python3 -m dosolve sweep positions.jsonl -o results.jsonl
+
+Payoffs and bounds are what player one gets. The program is the one of --program, else that of the
+variable DOSOLVE, else the one built in the repository, else dosolve on the path."""
+
+
+def _print_record(record: Any) -> None:
+    print(json.dumps(record))
+
+
+def _solver(words: argparse.Namespace) -> Solver:
+    return Solver(words.program)
+
+
+def _position(words: argparse.Namespace) -> Position:
+    """The position of a file, with what the options ask for in place of what the file asks."""
+    asked = {field.name: getattr(words, field.name) for field in ASKED
+             if getattr(words, field.name, None) is not None}
+    return replace(Position.load(words.position), **asked)
+
+
+def _solve(words: argparse.Namespace) -> None:
+    position = _position(words)
+    report = _solver(words).solve(position, words.seconds, progress=sys.stderr.isatty())
+    if words.output:
+        report.save(words.output)
+    if words.report:
+        print(report.text(), end="")
+    elif words.json:
+        _print_record(report.record())
+    else:
+        print(report.summary(), end="")
+
+
+def _check(words: argparse.Namespace) -> None:
+    found = _solver(words).check(words.report.read_bytes())
+    if words.json:
+        _print_record({"lower": found.lower, "upper": found.upper, "outcome": found.outcome})
+    else:
+        print(f"accepted lower {as_points(found.lower)} upper {as_points(found.upper)} "
+              f"{found.outcome}")
+
+
+def _exploit(words: argparse.Namespace) -> None:
+    report, solver = words.report.read_bytes(), _solver(words)
+    sides: tuple[Side, ...] = (words.side,) if words.side else SIDES
+    found = [solver.exploit(report, side) for side in sides]
+    if words.json:
+        _print_record([{"side": worst.side, "guarantees": worst.guaranteed / SCALE,
+                        "low": float(worst.low / SCALE), "high": float(worst.high / SCALE),
+                        "exact": worst.is_exact} for worst in found])
+        return
+    for worst in found:
+        print(f"player {worst.side} guarantees {as_points(worst.guaranteed)}")
+    if len(found) == len(SIDES):
+        print(f"nash_conv {float(found[1].payoff - found[0].payoff):.6f}")
 
 
 def _measure(words: argparse.Namespace) -> None:
-    position, player = Position.read(words.position.read_bytes()), load_player(words.player)
-    solved = solve(position, words.program)
-    print(solved_text(solved), end="")
+    position, player = _position(words), load_player(words.player)
+    solver = _solver(words)
+    solved = solver.solve(position, words.seconds, progress=sys.stderr.isatty())
+    if not words.json:
+        print(solved_text(solved), end="")
+    records = []
     for side in [words.side] if words.side else SIDES:
         found = measure(position, player, side, solved, words.games, words.seed, words.program)
-        print(found.text(), end="")
+        records.append(found.record())
+        if not words.json:
+            print(found.text(), end="")
         if words.keep:
             words.keep.mkdir(parents=True, exist_ok=True)
-            (words.keep / f"{side}.report").write_text(found.report.text())
+            found.report.save(words.keep / f"{side}.report")
+    if words.json:
+        _print_record({"solver": solved.record(), "player": records})
 
 
 def _show(words: argparse.Namespace) -> None:
-    show(Report.read(words.report.read_bytes()), words.output)
+    if words.progress:
+        pictures.save(pictures.history(read_progress(words.report.read_text().splitlines())),
+                      words.output)
+        return
+    report = Report.load(words.report)
+    if words.tree:
+        pictures.save(pictures.tree(report, words.tree), words.output)
+    else:
+        pictures.show(report, words.output, words.key, words.zoom, words.players)
+
+
+def _sweep(words: argparse.Namespace) -> None:
+    failed = 0
+    for found in sweep(read_positions(words.positions), None, words.output, _solver(words),
+                       words.seconds):
+        failed += found.report is None
+        if words.json:
+            _print_record({"number": found.number} | found.record())
+        elif found.report is None:
+            print(f"{found.number} failed {found.error}")
+        else:
+            report = found.report
+            print(f"{found.number} {report.game.name} lower {as_points(report.lower)} upper "
+                  f"{as_points(report.upper)} gap {as_points(report.gap)} {report.closeness} "
+                  f"seconds {found.seconds:.1f}")
+        sys.stdout.flush()
+    if failed:
+        raise DosolveError(f"{failed} positions failed; a second call tries them again")
+
+
+def _tournament(words: argparse.Namespace) -> None:
+    players = {path.stem: load_player(path) for path in words.players}
+    positions = [Position.load(path) for path in words.position]
+    found = tournament(players, positions, None if words.no_solver else _solver(words),
+                       words.games, words.seed)
+    if words.json:
+        print(found.json(), end="")
+    else:
+        print(found.csv() if words.csv else found.markdown(), end="")
+
+
+class _Version(argparse.Action):
+    """Prints the version of the package and where the program is."""
+
+    def __call__(self, parser: argparse.ArgumentParser, *_: Any, **__: Any) -> None:
+        try:
+            where = find_program()
+        except ProgramMissingError as fault:
+            where = str(fault)
+        print(f"dosolve-py {__version__}, program {where}")
+        parser.exit()
+
+
+def _seconds(word: str) -> float:
+    """A number of seconds, `inf` too."""
+    try:
+        seconds = float(word)
+    except ValueError:
+        seconds = -1.0
+    if not seconds >= 0:
+        raise argparse.ArgumentTypeError(f"{word!r} has to be a number from 0, or inf")
+    return seconds
 
 
 def _parser() -> argparse.ArgumentParser:
-    parser = argparse.ArgumentParser(prog="python -m dosolve", description="Measures players, and draws reports.")
-    commands = parser.add_subparsers(required=True)
-    measuring = commands.add_parser("measure", help="what a player guarantees, and how it does against the solver's plan",
-                                    description="Bounds are millionths of a payoff, the match counts whole payoffs of One.")
-    measuring.add_argument("position", type=Path, metavar="POSITION", help="a JSON file as `dosolve solve` reads it")
-    measuring.add_argument("player", type=Path, metavar="PLAYER.py", help="a file with a function play(side, state)")
-    measuring.add_argument("--side", choices=SIDES, help="one side alone")
-    measuring.add_argument("--games", type=int, default=1000, help="games of a match, 1 to 100000 (1000)")
-    measuring.add_argument("--seed", type=int, default=0, help="of a match (0)")
-    measuring.add_argument("--keep", type=Path, metavar="FOLDER", help="write one.report and two.report, with the player's plan")
-    measuring.add_argument("--program", help="the program's file; else DOSOLVE names it")
-    measuring.set_defaults(run=_measure)
-    showing = commands.add_parser("show", help="draw a report")
-    showing.add_argument("report", type=Path, metavar="REPORT")
-    showing.add_argument("-o", "--output", type=Path, required=True, metavar="FILE.svg", help="or .png, .pdf")
-    showing.set_defaults(run=_show)
+    parser = argparse.ArgumentParser(
+        prog="dosolve-py", epilog=_EXAMPLES, formatter_class=argparse.RawDescriptionHelpFormatter,
+        description="Solves games with simultaneous moves, measures players, draws reports.")
+    parser.add_argument("--version", action=_Version, nargs=0,
+                        help="the package's version, and where the program is")
+    commands = parser.add_subparsers(required=True, metavar="COMMAND")
+    for add in (_add_solve, _add_check, _add_exploit, _add_measure, _add_tournament, _add_show,
+                _add_sweep):
+        add(commands)
     return parser
+
+
+def _added(commands: Any, name: str, run: Any, about: str) -> argparse.ArgumentParser:
+    """A command with the options that all of them have."""
+    parser: argparse.ArgumentParser = commands.add_parser(name, help=about, description=about)
+    parser.add_argument("--program", metavar="FILE", help="the program")
+    parser.add_argument("--json", action="store_true", help="print JSON")
+    parser.set_defaults(run=run)
+    return parser
+
+
+def _add_seconds(parser: argparse.ArgumentParser) -> None:
+    parser.add_argument("--seconds", type=_seconds, metavar="S",
+                        help="solve with growing turns, and take the best report after S seconds, "
+                             "or at Ctrl-C; `inf` goes on to the end")
+
+
+def _add_asked(parser: argparse.ArgumentParser) -> None:
+    group = parser.add_argument_group("in place of what the position asks")
+    for field in ASKED:
+        if field.choices:
+            group.add_argument(f"--{field.name}", choices=field.choices)
+        else:
+            group.add_argument(f"--{field.name}", type=int, metavar="N",
+                               help=f"{field.low} to {field.high}")
+
+
+def _add_match(parser: argparse.ArgumentParser) -> None:
+    parser.add_argument("--games", type=int, default=1000, metavar="N",
+                        help="games of a match (1000)")
+    parser.add_argument("--seed", type=int, default=0, metavar="N", help="of a match (0)")
+
+
+def _add_solve(commands: Any) -> None:
+    parser = _added(commands, "solve", _solve, "bounds of a position's value, with notes")
+    parser.add_argument("position", type=Path, metavar="POSITION", help="a JSON file")
+    parser.add_argument("-o", "--output", type=Path, metavar="REPORT", help="write the report")
+    parser.add_argument("--report", action="store_true", help="print the report itself")
+    _add_seconds(parser)
+    _add_asked(parser)
+
+
+def _add_check(commands: Any) -> None:
+    parser = _added(commands, "check", _check, "verify a report")
+    parser.add_argument("report", type=Path, metavar="REPORT")
+
+
+def _add_exploit(commands: Any) -> None:
+    parser = _added(commands, "exploit", _exploit,
+                    "what each plan of a report guarantees, and how much both could gain")
+    parser.add_argument("report", type=Path, metavar="REPORT")
+    parser.add_argument("side", choices=SIDES, nargs="?", help="one side alone")
+
+
+def _add_measure(commands: Any) -> None:
+    parser = _added(commands, "measure", _measure,
+                    "what a player guarantees, and how it does against the solver's plan")
+    parser.add_argument("position", type=Path, metavar="POSITION", help="a JSON file")
+    parser.add_argument("player", type=Path, metavar="PLAYER.py",
+                        help="a file with a function play(side, state)")
+    parser.add_argument("--side", choices=SIDES, help="one side alone")
+    _add_match(parser)
+    _add_seconds(parser)
+    _add_asked(parser)
+    parser.add_argument("--keep", type=Path, metavar="FOLDER",
+                        help="write one.report and two.report, with the player's plan")
+
+
+def _add_tournament(commands: Any) -> None:
+    parser = _added(commands, "tournament", _tournament, "each player against each")
+    parser.add_argument("players", type=Path, nargs="+", metavar="PLAYER.py")
+    parser.add_argument("--position", type=Path, action="append", required=True,
+                        metavar="POSITION", help="a JSON file; can be given several times")
+    parser.add_argument("--no-solver", action="store_true", help="without the solver's plans")
+    parser.add_argument("--csv", action="store_true", help="print the meetings as CSV")
+    _add_match(parser)
+
+
+def _add_show(commands: Any) -> None:
+    parser = _added(commands, "show", _show, "draw a report")
+    parser.add_argument("report", type=Path, metavar="REPORT")
+    parser.add_argument("-o", "--output", type=Path, required=True, metavar="FILE.svg",
+                        help="or .png, .pdf")
+    parser.add_argument("--key", type=int, metavar="KEY", help="a state other than the root")
+    parser.add_argument("--zoom", action="store_true", help="the axis round the bounds alone")
+    parser.add_argument("--players", nargs=2, metavar=("ONE", "TWO"), help="names for the titles")
+    parser.add_argument("--tree", type=int, metavar="TURNS", help="a tree of the first turns")
+    parser.add_argument("--progress", action="store_true",
+                        help="REPORT has lines of progress: draw bounds over time")
+
+
+def _add_sweep(commands: Any) -> None:
+    parser = _added(commands, "sweep", _sweep, "solve many positions on all processors")
+    parser.add_argument("positions", type=Path, metavar="FILE.jsonl",
+                        help="one position on each line")
+    parser.add_argument("-o", "--output", type=Path, metavar="RESULTS.jsonl",
+                        help="write results, and go on where an earlier call stopped")
+    _add_seconds(parser)
 
 
 def main(arguments: list[str] | None = None) -> int:
@@ -55,11 +287,24 @@ def main(arguments: list[str] | None = None) -> int:
     words = _parser().parse_args(arguments)
     try:
         words.run(words)
-    except (DosolveError, OSError) as fault:
+        sys.stdout.flush()
+    except BrokenPipeError:
+        # What is left to be written goes nowhere, so that no second fault comes at the end.
+        os.dup2(os.open(os.devnull, os.O_WRONLY), sys.stdout.fileno())
+        return PIPE_CLOSED
+    except KeyboardInterrupt:
+        print("dosolve: interrupted", file=sys.stderr)
+        return INTERRUPTED
+    except (DosolveError, OSError, UnicodeDecodeError) as fault:
         print(f"dosolve: {fault}", file=sys.stderr)
         return 1
     return 0
 
 
-if __name__ == "__main__":
+def run() -> None:
+    """The console script."""
     sys.exit(main())
+
+
+if __name__ == "__main__":
+    run()

@@ -6,32 +6,48 @@ class DosolveError(Exception):
     """The base of every exception of this package."""
 
 
-class Invalid(DosolveError, ValueError):
-    """Something that was handed to the package is none of what it takes; the message says what and where."""
+class InvalidError(DosolveError, ValueError):
+    """Something that was handed to the package is not what it takes; the message says what."""
 
 
-class ProgramMissing(DosolveError):
-    """The program was not found, or is none that can be run."""
+class PlayerError(InvalidError):
+    """A player gave no answer that is a plan, or raised an exception; the message names the
+    player's side and the state."""
 
 
-class ProgramFailed(DosolveError):
-    """The program gave no answer: it failed, ran out of memory or time, or does not know the command.
+class ProgramMissingError(DosolveError):
+    """The program was not found, or cannot be run."""
 
-    `status` is its exit status, None where it had none.
-    """
+
+class ProgramFailedError(DosolveError):
+    """The program gave no answer: it failed, ran out of memory or time, does not know the command,
+    or is another program. `status` is its exit status, None where it had none."""
 
     def __init__(self, message: str, status: int | None = None) -> None:
-        super().__init__(message)
+        super().__init__(message, status)
+        self.message = message
         self.status = status
 
+    def __str__(self) -> str:
+        return self.message
 
-class Refused(DosolveError):
-    """A refusal with the program's exact text, without its line feed: `text`, which is the message too."""
 
-    def __init__(self, text: str) -> None:
-        super().__init__(text)
+class ProgramTimeoutError(ProgramFailedError, TimeoutError):
+    """The program took longer than it was given."""
+
+
+class RefusedError(DosolveError):
+    """A refusal: `text` is exactly what the program prints, without its line feed; `hint` says in
+    words what is wrong, where more is known."""
+
+    def __init__(self, text: str, hint: str = "") -> None:
+        super().__init__(text, hint)
         self.text = text
+        self.hint = hint
         self.words = text.split(" ")
+
+    def __str__(self) -> str:
+        return f"{self.text}: {self.hint}" if self.hint else self.text
 
     def number_at(self, place: int) -> int | None:
         """The word at `place` as a number, None where it is none."""
@@ -39,38 +55,74 @@ class Refused(DosolveError):
         return int(word) if word.removeprefix("-").isdecimal() else None
 
 
-# The field that a rule is about, where it is one; -1 stands for the text's last word, 4 for its fifth.
+# The field that a rule is about, where it is one; -1 stands for the text's last word, 4 for its
+# fifth.
 _FIELDS: dict[int, str | int] = {
-    12: -1, 14: -1, 15: -1, 16: "game", 21: 4, 22: 4, 24: "prizes", 25: "score", 31: "size", 33: "least", 34: "place",
-    71: "nodes", 72: "edges", 73: "edges", 74: "edges", 75: -1, 76: "rounds",
+    12: -1, 14: -1, 15: -1, 16: "game", 21: 4, 22: 4, 24: "prizes", 25: "score", 31: "size",
+    33: "least", 34: "place", 71: "nodes", 72: "edges", 73: "edges", 74: "edges", 75: -1,
+    76: "rounds",
 }
 
 
-class InputRefused(Refused):
-    """A position is refused: `code` is the number of the refusal, `field` the field it names, None where it is not one."""
+class InputRefusedError(RefusedError):
+    """A position is refused: `code` is the number of the refusal, `field` the field at fault,
+    None where it is not one."""
 
-    def __init__(self, text: str) -> None:
-        super().__init__(text)
+    def __init__(self, text: str, hint: str = "") -> None:
+        super().__init__(text, hint)
         self.code = self.number_at(1) or 0
         named = _FIELDS.get(self.code)
         self.field: str | None = self.words[named] if isinstance(named, int) else named
 
 
-class ReportRefused(Refused):
+class ReportRefusedError(RefusedError):
     """A report is refused.
 
-    `line` is the number of the faulty line, from 1, where the text itself is at fault; `code` the number of the refusal where
-    the rules refuse the position; `side` and `key` the row at fault. Each is None where the refusal does not tell it.
+    `line` is the number of the faulty line, from 1, where the text itself is at fault; `code` the
+    number of the refusal where the rules refuse the position; `side` and `key` the row at fault.
+    Each is None where the refusal does not tell it.
     """
 
-    def __init__(self, text: str) -> None:
-        super().__init__(text)
+    def __init__(self, text: str, hint: str = "") -> None:
+        super().__init__(text, hint)
         kind, what = (self.words + ["", ""])[:2]
+        refused = kind == "refused" and len(self.words) > 2 and what != "resolution"
         self.line = self.number_at(2) if kind == "report" and what != "position" else None
         self.code = self.number_at(2) if what == "position" else None
-        self.side: str | None = self.words[2] if kind == "refused" and len(self.words) > 2 and what != "resolution" else None
+        self.side: str | None = self.words[2] if refused else None
         self.key = self.number_at(3) if self.side else None
+        if not hint:
+            self.hint = _explained(self.words)
 
 
-class LimitReached(Refused):
-    """The visits or rows that were given to the program, or its own limit of states, did not suffice."""
+def _explained(words: list[str]) -> str:
+    """What a refusal of `check` means, where its words do not say it."""
+    if words[:2] == ["refused", "bound"] and len(words) == 7:
+        least = "at least" if words[2] == "one" else "at most"
+        return (f"in the state {words[3]} the row's weights yield {words[5]} against move "
+                f"{words[4]} of the other player, and its bound requires {least} {words[6]}")
+    if words[:2] == ["refused", "idle"] and len(words) == 4:
+        return f"the plan of {words[2]} never reaches the state {words[3]}"
+    if words[:2] == ["refused", "weights"] and len(words) == 4:
+        return (f"the row {words[3]} of {words[2]} needs one weight for each move, which sum to "
+                f"the report's weight")
+    if words[:2] == ["refused", "root"] and len(words) == 3:
+        return f"the report's bound of {words[2]} is not that of its plan"
+    if words[:2] == ["refused", "resolution"] and len(words) == 3:
+        return f"the game's resolution is {words[2]}"
+    return ""
+
+
+class LimitReachedError(RefusedError):
+    """The visits or rows that the program was given, or its own limit of states, did not
+    suffice."""
+
+
+# Names of earlier versions.
+Invalid = InvalidError
+ProgramMissing = ProgramMissingError
+ProgramFailed = ProgramFailedError
+Refused = RefusedError
+InputRefused = InputRefusedError
+ReportRefused = ReportRefusedError
+LimitReached = LimitReachedError

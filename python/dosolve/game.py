@@ -1,33 +1,42 @@
 """What a game is: settings, states, moves, labels, draws and keys, as the program has them.
 
-A game is a frozen dataclass of its settings, in the order in which positions and reports have them. Its constructor refuses
-what the program refuses, by the same text. A state belongs to its game. Moves are numbered from 0; what a player sees of move
-i is its label, `state.moves(side)[i]`. Payoffs are whole numbers, what One gets; Two gets the negative. Bounds, elsewhere,
-are millionths of a payoff.
+A game is a frozen dataclass of its settings, in the order in which positions and reports have
+them. Its constructor refuses what the program refuses, by the same text. A state belongs to its
+game, and never changes. Moves are numbered from 0 (`Move`); what a player sees of a move is its
+label, `state.moves(side)[move]`. `state.play(one=.., two=..)` takes labels, `state.after(..)`
+numbers. Payoffs are whole numbers, what One gets; Two gets the negative. Bounds, elsewhere, are
+millionths of a payoff.
 """
 from __future__ import annotations
 
 import math
 from abc import ABC, abstractmethod
-from collections.abc import Iterator, Sequence
+from collections.abc import Iterator, Set
 from dataclasses import dataclass
-from typing import Any, ClassVar, Literal, TypeGuard, cast
+from typing import Any, ClassVar, Final, Literal, NewType, Self, cast
 
-from .errors import InputRefused, Invalid
+from .errors import InputRefusedError, InvalidError
+from .limits import MOST_KEY, MOST_ROWS
+from .values import as_field, is_whole, shorten
 
 Side = Literal["one", "two"]
-SIDES: tuple[Side, Side] = ("one", "two")
+SIDES: Final[tuple[Side, Side]] = ("one", "two")
+"""Both sides: `for side in dosolve.SIDES`."""
 
-SCALE = 1_000_000
+Move = NewType("Move", int)
+"""The number of a move, from 0; `state.moves(side)[move]` is its label."""
+
+SCALE: Final = 1_000_000
 """Millionths in one payoff."""
 
-CHANCE = 360_360
+CHANCE: Final = 360_360
 """What the chances of the draws after one pair of moves sum to."""
+
 
 def side_of(word: str) -> Side:
     """The side of this name, `one` or `two`."""
     if word not in SIDES:
-        raise Invalid(f"a side is 'one' or 'two', not {word!r}")
+        raise InvalidError(f"a side is 'one' or 'two', not {word!r}")
     return cast(Side, word)
 
 
@@ -36,20 +45,21 @@ def other(side: Side) -> Side:
     return "two" if side == "one" else "one"
 
 
-def is_whole(value: object) -> TypeGuard[int]:
-    """Whether the value is a whole number; True and False are none."""
-    return isinstance(value, int) and not isinstance(value, bool)
-
-
 @dataclass(frozen=True)
 class Field:
-    """A field of a position: a whole number in its range, or a list of at most `most` of them, or one of `choices`."""
+    """A field of a position: a whole number in its range, or a list of at most `most` of them, or
+    one of `choices`.
+
+    An optional field has in `absent` the value that it stands for where it is left out.
+    """
 
     name: str
     low: int = 0
     high: int = 255
     most: int | None = None
     choices: tuple[str, ...] = ()
+    absent: str | int | None = None
+    about: str = ""
 
     def refuse(self, value: object) -> None:
         """Refuses a value of another kind, then one out of range."""
@@ -60,11 +70,27 @@ class Field:
             kind, good = is_whole(value), is_whole(value) and self.low <= value <= self.high
         elif isinstance(value, (list, tuple)):
             kind = all(is_whole(number) for number in value)
-            good = kind and len(value) <= self.most and all(self.low <= number <= self.high for number in value)
-        if not kind:
-            raise InputRefused(f"input 14 kind of {self.name}")
+            good = kind and len(value) <= self.most and all(map(self._is_in, value))
         if not good:
-            raise InputRefused(f"input 15 range of {self.name}")
+            fault = "range" if kind else "kind"
+            raise InputRefusedError(f"input {15 if kind else 14} {fault} of {self.name}",
+                                    self._told(value))
+
+    def _is_in(self, number: int) -> bool:
+        return self.low <= number <= self.high
+
+    def _told(self, value: object) -> str:
+        """What is wrong with a value, and what it has to be."""
+        if self.choices:
+            wanted = " or ".join(map(repr, self.choices))
+        elif self.most is None:
+            wanted = f"a whole number from {self.low} to {self.high}"
+        else:
+            wanted = f"a list of at most {self.most} whole numbers from {self.low} to {self.high}"
+        about = f" ({self.about})" if self.about else ""
+        if isinstance(value, Set):
+            about += "; a set has no order: hand over sorted(..) of it"
+        return f"{self.name} is {shorten(value)}, and has to be {wanted}{about}"
 
 
 def packed(*parts: tuple[int, int]) -> int:
@@ -72,9 +98,23 @@ def packed(*parts: tuple[int, int]) -> int:
     key = 0
     for value, bits in parts:
         if not 0 <= value < 1 << bits:
-            raise Invalid(f"{value} does not fit {bits} bits of a key")
+            raise InvalidError(f"{value} does not fit {bits} bits of a key")
         key = key << bits | value
     return key
+
+
+def unpacked(key: int, *bits: int) -> tuple[int, ...]:
+    """The fields of a key, of these widths; what lies above them is left out."""
+    found = []
+    for width in reversed(bits):
+        found.append(key & (1 << width) - 1)
+        key >>= width
+    return tuple(reversed(found))
+
+
+def members(bits: int) -> tuple[int, ...]:
+    """The places of the bits that are set, rising."""
+    return tuple(place for place in range(bits.bit_length()) if bits >> place & 1)
 
 
 def sign(number: int) -> int:
@@ -106,7 +146,7 @@ class State(ABC):
     def payoff(self) -> int:
         """What One gets here, in whole payoffs; asked of an end alone."""
         if not self.is_end:
-            raise Invalid(f"the game is not over in {self}, so it pays nothing")
+            raise InvalidError(f"the game is not over in {self}, so it pays nothing")
         return self._payoff()
 
     def moves(self, side: Side) -> tuple[int, ...]:
@@ -117,29 +157,46 @@ class State(ABC):
         """The labels as words to show."""
         return tuple(map(str, self.moves(side)))
 
-    def chances(self, one: int, two: int) -> tuple[int, ...]:
-        """The chance of each draw after these moves (numbers from 0), in parts of `CHANCE`."""
+    def move(self, side: Side, label: int) -> Move:
+        """The number of the move with this label."""
+        labels = self.moves(side)
+        if label not in labels:
+            raise InvalidError(f"player {side} has no move {shorten(label)} in {self}, whose moves "
+                               f"are {labels}")
+        return Move(labels.index(label))
+
+    def play(self, *, one: int, two: int, draw: int = 0) -> Self:
+        """The state after the moves with these labels, and this draw (a number from 0)."""
+        return self.after(self.move("one", one), self.move("two", two), draw)
+
+    def chances(self, one: Move, two: Move) -> tuple[int, ...]:
+        """The chance of each draw after these moves (numbers), in parts of `CHANCE`."""
         self._in_range(one, two)
         return self._chances()
 
-    def after(self, one: int, two: int, draw: int = 0) -> State:
-        """The state after these moves and this draw, all numbers from 0."""
+    def after(self, one: Move, two: Move, draw: int = 0) -> Self:
+        """The state after the moves with these numbers, and this draw, all from 0; `play` takes
+        labels."""
         labels = self._in_range(one, two)
         if not 0 <= draw < len(self._chances()):
-            raise Invalid(f"draw {draw} of {len(self._chances())} in {self}")
-        return self._after(*labels, draw)
+            raise InvalidError(f"draw {draw} of {len(self._chances())} in {self}")
+        return cast(Self, self._after(*labels, draw))
 
-    def outcomes(self, one: int, two: int) -> list[tuple[int, State]]:
-        """Each state that these moves can lead to, behind its chance in parts of `CHANCE`, in the order of draws."""
+    def outcomes(self, one: Move, two: Move) -> list[tuple[int, Self]]:
+        """Each state that these moves (numbers) can lead to, behind its chance in parts of
+        `CHANCE`, in the order of draws."""
         labels = self._in_range(one, two)
-        return [(chance, self._after(*labels, draw)) for draw, chance in enumerate(self._chances())]
+        return [(chance, cast(Self, self._after(*labels, draw)))
+                for draw, chance in enumerate(self._chances())]
 
     def _in_range(self, one: int, two: int) -> tuple[int, int]:
         """The labels of both moves."""
         mine, yours = self.moves("one"), self.moves("two")
         for side, move, labels in (("one", one, mine), ("two", two, yours)):
             if not 0 <= move < len(labels):
-                raise Invalid(f"move {move} of {len(labels)} of player {side} in {self}")
+                raise InvalidError(
+                    f"player {side} has no move number {move} in {self}, which has {len(labels)}, "
+                    f"numbered from 0; play(one=.., two=..) takes labels")
         return mine[one], yours[two]
 
     def _chances(self) -> tuple[int, ...]:
@@ -159,7 +216,7 @@ class State(ABC):
 
 
 class Game(ABC):
-    """The settings of a game, as a position tells them."""
+    """The settings of a game, as a position has them."""
 
     name: ClassVar[str]
     version: ClassVar[int] = 1
@@ -170,18 +227,16 @@ class Game(ABC):
 
     def __post_init__(self) -> None:
         for field in self.settings:
-            value = getattr(self, field.name)
-            if field.most is not None and isinstance(value, Sequence) and not isinstance(value, str):
-                value = tuple(value)
-                object.__setattr__(self, field.name, value)
+            value = as_field(getattr(self, field.name))
+            object.__setattr__(self, field.name, value)
             field.refuse(value)
         fault = self._fault()
         if fault is not None:
-            raise InputRefused(f"input {fault}")
+            raise InputRefusedError(f"input {fault[0]}", fault[1])
 
     @abstractmethod
-    def _fault(self) -> str | None:
-        """The first rule that the settings break: its number and words."""
+    def _fault(self) -> tuple[str, str] | None:
+        """The first rule that the settings break: its number and words, and what is wrong."""
 
     @abstractmethod
     def root(self) -> State:
@@ -202,12 +257,46 @@ class Game(ABC):
     def most_moves(self) -> int:
         """At least the number of moves of either player in any state, 1 or more."""
 
+    @property
+    def most_states(self) -> int:
+        """At least the number of states that are no ends, where that is known without a walk;
+        else the rows that a board can have."""
+        return MOST_ROWS
+
+    def state(self, key: int) -> State:
+        """The state with this key, as reports name it."""
+        found = self._unpacked(key) if is_whole(key) and 0 <= key <= MOST_KEY else None
+        if found is None or found.key != key:
+            raise InvalidError(f"no state of {self.line()} has the key {shorten(key)}")
+        return found
+
+    def _unpacked(self, key: int) -> State | None:
+        """The state of a key, or None. A game may do better than search."""
+        return next((state for state in self.states() if state.key == key), None)
+
+    def states(self) -> Iterator[State]:
+        """Each state that play can reach, terminal ones too, each once."""
+        root = self.root()
+        seen, waiting = {root.key}, [root]
+        while waiting:
+            state = waiting.pop()
+            yield state
+            draws = range(0 if state.is_end else len(state._chances()))
+            for one in state.moves("one"):
+                for two in state.moves("two"):
+                    for after in (state._after(one, two, draw) for draw in draws):
+                        if after.key not in seen:
+                            seen.add(after.key)
+                            waiting.append(after)
+
     def opening(self, side: Side) -> int:
-        """The bound that each plan of the side guarantees, in millionths: the least payoff for One, the greatest for Two."""
+        """The bound that each plan of the side guarantees, in millionths: the least payoff for
+        One, the greatest for Two."""
         return SCALE * (self.low if side_of(side) == "one" else self.high)
 
     def resolution(self, weight: int) -> int:
-        """The gap, in millionths, that a search reaches for certain where rows sum to `weight` and turns and rows suffice."""
+        """The gap, in millionths, that a search reaches for certain where rows sum to `weight` and
+        turns and rows suffice."""
         spread = (self.high - self.low) * SCALE
         quotient = -(-2 * self.most_moves * spread * spread // weight)
         root = math.isqrt(quotient)
@@ -220,5 +309,6 @@ class Game(ABC):
 
     def line(self) -> str:
         """The game as a report's second line has it, without `game`."""
-        lists = (",".join(map(str, value)) or "-" if isinstance(value, tuple) else str(value) for value in self.values())
+        lists = (",".join(map(str, value)) or "-" if isinstance(value, tuple) else str(value)
+                 for value in self.values())
         return " ".join([self.name, *lists])

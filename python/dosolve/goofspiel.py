@@ -1,46 +1,76 @@
 """Goofspiel, with a known order of prizes and with prizes drawn by chance."""
 from __future__ import annotations
 
+import math
 from abc import abstractmethod
-from dataclasses import dataclass
+from collections.abc import Sequence
+from dataclasses import dataclass, field
+from functools import lru_cache
 
-from .game import CHANCE, Field, Game, Side, State, packed, sign
+from .game import CHANCE, Field, Game, Side, State, members, packed, sign, unpacked
+from .limits import MOST_CARD, MOST_PRIZE, MOST_SCORE
+
+_SCORE_SHIFT = 2300
 
 
-def _cards(name: str) -> Field:
-    return Field(name, most=255)
+def _cards(name: str, about: str) -> Field:
+    return Field(name, most=255, about=about)
 
 
-_GOOFSPIEL = (_cards("one"), _cards("two"), _cards("prizes"), Field("score", -1_000_000, 1_000_000),
-              Field("pay", choices=("margin", "win")))
+_CARDS = f"cards from 1 to {MOST_CARD}"
+_GOOFSPIEL = (
+    _cards("one", _CARDS), _cards("two", _CARDS), _cards("prizes", f"from 1 to {MOST_PRIZE}"),
+    Field("score", -1_000_000, 1_000_000), Field("pay", choices=("margin", "win")),
+)
+
+
+@lru_cache(1 << 16)
+def _mask(cards: tuple[int, ...]) -> int:
+    """The cards as bits."""
+    return sum(1 << card - 1 for card in cards)
+
+
+@lru_cache(1 << 16)
+def _without(cards: tuple[int, ...], card: int) -> tuple[int, ...]:
+    """The cards but one."""
+    return tuple(left for left in cards if left != card)
 
 
 class _Goofspiel(Game):
     """What both forms of Goofspiel share."""
 
-    one: tuple[int, ...]
-    two: tuple[int, ...]
-    prizes: tuple[int, ...]
+    one: Sequence[int]
+    two: Sequence[int]
+    prizes: Sequence[int]
     score: int
     pay: str
     settings = _GOOFSPIEL
 
-    def _fault(self) -> str | None:
+    def _fault(self) -> tuple[str, str] | None:
         hands = (("one", self.one), ("two", self.two))
         for side, cards in hands:
             for place, card in enumerate(cards):
-                if not 1 <= card <= 13:
-                    return f"21 card range {side} {place}"
+                if not 1 <= card <= MOST_CARD:
+                    return (f"21 card range {side} {place}",
+                            f"the card {card} at place {place} (from 0) of {side} has to be from "
+                            f"1 to {MOST_CARD}")
         for side, cards in hands:
             for place, card in enumerate(cards):
                 if card in cards[:place]:
-                    return f"22 card twice {side} {card}"
+                    return f"22 card twice {side} {card}", f"{side} has the card {card} twice"
         if not len(self.one) == len(self.two) == len(self.prizes):
-            return f"23 lengths {len(self.one)} {len(self.two)} {len(self.prizes)}"
+            return (f"23 lengths {len(self.one)} {len(self.two)} {len(self.prizes)}",
+                    f"{len(self.one)} cards of one, {len(self.two)} of two and "
+                    f"{len(self.prizes)} prizes have to be equally many")
         for place, prize in enumerate(self.prizes):
-            if not 1 <= prize <= 100:
-                return f"24 prize range {place}"
-        return None if -1000 <= self.score <= 1000 else "25 score range"
+            if not 1 <= prize <= MOST_PRIZE:
+                return (f"24 prize range {place}",
+                        f"the prize {prize} at place {place} (from 0) has to be from 1 to "
+                        f"{MOST_PRIZE}")
+        if abs(self.score) <= MOST_SCORE:
+            return None
+        return ("25 score range",
+                f"the score {self.score} has to be from -{MOST_SCORE} to {MOST_SCORE}")
 
     @property
     def low(self) -> int:
@@ -54,12 +84,29 @@ class _Goofspiel(Game):
     def most_moves(self) -> int:
         return max(1, len(self.prizes))
 
+    def _scores(self, played: int) -> int:
+        """At most how many scores there are after so many prizes."""
+        most = sorted(self.prizes, reverse=True)[:played]
+        return int(min(3**played, 2 * sum(most) + 1))
+
+    def _bid_of(self, one: int, two: int, score: int,
+                left: Sequence[int]) -> tuple[tuple[int, ...], tuple[int, ...], int] | None:
+        """Hands and score of the fields of a key, where these prizes are left; None where the game
+        cannot have them."""
+        hands = [tuple(place + 1 for place in members(bits)) for bits in (one, two)]
+        held = set(hands[0]) <= set(self.one) and set(hands[1]) <= set(self.two)
+        found = score - _SCORE_SHIFT
+        paid = sum(self.prizes) - sum(left)
+        equal = len(hands[0]) == len(hands[1]) == len(left)
+        near = abs(found - self.score) <= paid
+        return (hands[0], hands[1], found) if held and equal and near else None
+
 
 @dataclass(frozen=True)
 class _Hands(State):
     """The cards left to each player, rising, and One's prizes so far less Two's."""
 
-    game: _Goofspiel
+    game: _Goofspiel = field(repr=False)
     one: tuple[int, ...]
     two: tuple[int, ...]
     score: int
@@ -84,20 +131,19 @@ class _Hands(State):
         return self.one if side == "one" else self.two
 
     def _key_parts(self) -> tuple[tuple[int, int], ...]:
-        one, two = (sum(1 << card - 1 for card in cards) for cards in (self.one, self.two))
-        return (one, 13), (two, 13), (self.score + 2300, 13)
+        return (_mask(self.one), 13), (_mask(self.two), 13), (self.score + _SCORE_SHIFT, 13)
 
     def _bid(self, one: int, two: int) -> tuple[tuple[int, ...], tuple[int, ...], int]:
         """The hands and the score after these cards."""
-        left = tuple(card for card in self.one if card != one), tuple(card for card in self.two if card != two)
-        return *left, self.score + sign(one - two) * self.prize
+        score = self.score + sign(one - two) * self.prize
+        return _without(self.one, one), _without(self.two, two), score
 
 
 @dataclass(frozen=True)
 class GoofspielState(_Hands):
     """A state of Goofspiel: the cards left to each player, rising, and the score."""
 
-    game: Goofspiel
+    game: Goofspiel = field(repr=False)
 
     @property
     def prize(self) -> int:
@@ -115,27 +161,39 @@ class GoofspielState(_Hands):
 class Goofspiel(_Goofspiel):
     """Goofspiel with a known order of prizes.
 
-    Cards of One and Two (1 to 13 each), the prizes in the order of play (1 to 100 each), One's prizes so far less Two's, and
-    whether an end pays the score (`margin`) or its sign (`win`).
+    Cards of One and Two (1 to 13 each), the prizes in the order of play (1 to 100 each), One's
+    prizes so far less Two's, and whether an end pays the score (`margin`) or its sign (`win`).
     """
 
     name = "goofspiel"
-    one: tuple[int, ...]
-    two: tuple[int, ...]
-    prizes: tuple[int, ...]
+    one: Sequence[int]
+    two: Sequence[int]
+    prizes: Sequence[int]
     score: int = 0
     pay: str = "margin"
 
     def root(self) -> GoofspielState:
         return GoofspielState(self, tuple(sorted(self.one)), tuple(sorted(self.two)), self.score)
 
+    @property
+    def most_states(self) -> int:
+        count = len(self.prizes)
+        return sum(math.comb(count, left)**2 * self._scores(count - left)
+                   for left in range(1, count + 1))
+
+    def _unpacked(self, key: int) -> State | None:
+        one, two, score = unpacked(key, 13, 13, 13)
+        played = len(self.prizes) - one.bit_count()
+        found = self._bid_of(one, two, score, self.prizes[max(0, played):])
+        return GoofspielState(self, *found) if found else None
+
 
 @dataclass(frozen=True)
 class GoofspielDrawnState(_Hands):
-    """A state of Goofspiel with drawn prizes: the hands, the score, the places of the prizes not yet drawn, rising, and the
-    place of the prize that is bid for (0 at an end)."""
+    """A state of Goofspiel with drawn prizes: the hands, the score, the places of the prizes not
+    yet drawn, rising, and the place of the prize that is bid for (0 at an end)."""
 
-    game: GoofspielDrawn
+    game: GoofspielDrawn = field(repr=False)
     undrawn: tuple[int, ...]
     place: int
 
@@ -145,7 +203,8 @@ class GoofspielDrawnState(_Hands):
 
     @property
     def key(self) -> int:
-        return packed(*self._key_parts(), (sum(1 << place for place in self.undrawn), 13), (self.place, 4))
+        undrawn = sum(1 << place for place in self.undrawn)
+        return packed(*self._key_parts(), (undrawn, 13), (self.place, 4))
 
     def _chances(self) -> tuple[int, ...]:
         count = max(1, len(self.undrawn))
@@ -161,17 +220,35 @@ class GoofspielDrawnState(_Hands):
 
 @dataclass(frozen=True)
 class GoofspielDrawn(_Goofspiel):
-    """Goofspiel whose first prize is the first of the list, and each further one is drawn from those that are left."""
+    """Goofspiel whose first prize is the first of the list, and each further one is drawn from
+    those that are left."""
 
     name = "goofspiel_drawn"
     version = 2
     chance_free = False
-    one: tuple[int, ...]
-    two: tuple[int, ...]
-    prizes: tuple[int, ...]
+    one: Sequence[int]
+    two: Sequence[int]
+    prizes: Sequence[int]
     score: int = 0
     pay: str = "margin"
 
     def root(self) -> GoofspielDrawnState:
         hands = tuple(sorted(self.one)), tuple(sorted(self.two)), self.score
         return GoofspielDrawnState(self, *hands, tuple(range(1, len(self.prizes))), 0)
+
+    @property
+    def most_states(self) -> int:
+        count = len(self.prizes)
+        later = (math.comb(count, left)**2 * self._scores(count - left)
+                 * math.comb(count - 1, left) * left for left in range(1, count))
+        return min(1, count) + sum(later)
+
+    def _unpacked(self, key: int) -> State | None:
+        one, two, score, undrawn, place = unpacked(key, 13, 13, 13, 13, 4)
+        left = members(undrawn)
+        places = (place, *left) if one else ()
+        known = all(at < len(self.prizes) for at in places) and place not in left
+        if not known or (not one and undrawn | place):
+            return None
+        found = self._bid_of(one, two, score, [self.prizes[at] for at in places])
+        return GoofspielDrawnState(self, *found, left, place) if found else None

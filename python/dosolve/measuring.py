@@ -1,30 +1,38 @@
-"""Measures a player that is told as a function: what it guarantees, and how it does against the solver's plan."""
+"""Measures a player given as a function: what it guarantees, and how it does against the
+solver's plan."""
 from __future__ import annotations
 
 import importlib.util
-from collections.abc import Callable, Sequence
+import sys
+from collections.abc import Callable
 from dataclasses import dataclass
+from fractions import Fraction
 from functools import partial
 from pathlib import Path
 from typing import Any
 
-from .errors import Invalid
-from .game import SIDES, Side, other
-from .plans import plan
-from .positions import Position
-from .program import Match, FilePath, WorstCase, exploit, play, solve
+from .errors import InvalidError, PlayerError
+from .exact import expected_of
+from .game import SIDES, Side, other, side_of
+from .histories import NO_PLAN, HistoryPlayer, takes_history
+from .plans import ASKED_AGAIN, Sheet, plan
+from .positions import FilePath, Position, require_position
+from .program import Match, Solver, WorstCase
 from .reports import Report
+from .values import as_points
 
-Player = Callable[[Side, Any], Sequence[Any]]
-"""A function from a side and a state to one probability or weight for each of `state.moves(side)`."""
+Player = Callable[[Side, Any], Any]
+"""A function from a side and a state to one probability or weight for each of
+`state.moves(side)`, or to a mapping from these labels."""
 
 
 @dataclass(frozen=True)
 class Measured:
     """What was found of a player on one side.
 
-    `report` has the player's plan for its side and the solver's for the other; `bound` is what the solver's own plan for the
-    player's side guarantees, in millionths; `match` was played by the two plans of the report.
+    `report` has the player's plan for its side and the solver's for the other; `bound` is what the
+    solver's own plan for the player's side guarantees, in millionths; `match` was played by the
+    two plans of the report, and `expected` is their exact expected payoff.
     """
 
     side: Side
@@ -32,46 +40,96 @@ class Measured:
     bound: int
     worst: WorstCase
     match: Match
+    expected: Fraction
 
     @property
     def short(self) -> int:
-        """By how many millionths the player guarantees less than the solver's plan; negative where it guarantees more."""
-        return self.bound - self.worst.guaranteed if self.side == "one" else self.worst.guaranteed - self.bound
+        """By how many millionths the player guarantees less than the solver's plan; negative where
+        it guarantees more."""
+        guaranteed = self.worst.guaranteed
+        return self.bound - guaranteed if self.side == "one" else guaranteed - self.bound
 
     def text(self) -> str:
-        """Two lines on the player."""
+        """Two lines on the player, in payoffs of One."""
         sheet, match = self.report.sheet(self.side), self.match
-        players = " ".join(f"{side} {'player' if side == self.side else 'solver'}" for side in SIDES)
-        return (f"player {self.side} rows {len(sheet.rows)} guarantees {self.worst.guaranteed} short {self.short}\n"
-                f"match {players} games {match.games} sum {match.sum} least {match.least} most {match.most} "
-                f"mean {float(match.mean):.6f}\n")
+        players = " ".join(f"{side} {'player' if side == self.side else 'solver'}"
+                           for side in SIDES)
+        return (f"player {self.side} rows {len(sheet.rows)} guarantees "
+                f"{as_points(self.worst.guaranteed)} short {as_points(self.short)}\n"
+                f"match {players} expected {float(self.expected):.6f} games {match.games} mean "
+                f"{float(match.mean):.6f} error {match.error or 0:.6f} least {match.least} most "
+                f"{match.most}\n")
+
+    def record(self) -> dict[str, Any]:
+        """The numbers for JSON and tables, in payoffs of One."""
+        return {
+            "side": self.side, "rows": len(self.report.sheet(self.side).rows),
+            "guarantees": self.worst.guaranteed / 10**6, "short": self.short / 10**6,
+            "expected": float(self.expected), "games": self.match.games,
+            "mean": float(self.match.mean), "error": self.match.error,
+            "least": self.match.least, "most": self.match.most,
+        }
 
 
 def solved_text(report: Report) -> str:
-    """One line on what the solver found, in millionths."""
-    return f"solver lower {report.lower} upper {report.upper} gap {report.gap} {report.outcome}\n"
+    """One line on what the solver found, in payoffs of One, and a line for each note."""
+    notes = "".join(f"note {note}\n" for note in report.notes())
+    return (f"solver lower {as_points(report.lower)} upper {as_points(report.upper)} gap "
+            f"{as_points(report.gap)} {report.closeness}\n{notes}")
 
 
 def load_player(path: FilePath) -> Player:
-    """The function `play(side, state)` of a Python file."""
-    file = Path(path)
-    spec = importlib.util.spec_from_file_location(file.stem, file)
-    if spec is None or spec.loader is None or not file.is_file():
-        raise Invalid(f"{file} is no Python file")
+    """The function `play(side, state)` of a Python file, or `play(side, state, history)` as a
+    `HistoryPlayer`. The file can import its neighbours, as when it is run."""
+    file = Path(path).resolve()
+    if not file.is_file():
+        raise InvalidError(f"{path} is no file")
+    name = f"dosolve_player_{file.stem}"
+    spec = importlib.util.spec_from_file_location(name, file)
+    if spec is None or spec.loader is None:
+        raise InvalidError(f"{path} is no Python file")
+    if str(file.parent) not in sys.path:
+        sys.path.insert(0, str(file.parent))
     module = importlib.util.module_from_spec(spec)
-    spec.loader.exec_module(module)
+    sys.modules[name] = module
+    try:
+        spec.loader.exec_module(module)
+    except Exception as fault:
+        raise PlayerError(f"{path} raised {type(fault).__name__}: {fault}") from fault
     found = getattr(module, "play", None)
     if not callable(found):
-        raise Invalid(f"{file} defines no function play(side, state)")
-    return found  # type: ignore[no-any-return]
+        raise InvalidError(f"{path} defines no function play(side, state)")
+    return HistoryPlayer(found) if takes_history(found) else found  # type: ignore[no-any-return]
 
 
-def measure(position: Position, player: Player, side: Side, solved: Report | None = None, games: int = 1000, seed: int = 0,
-            program: FilePath | None = None) -> Measured:
-    """Measures a player on one side of a position, against the solver's report on it, which is made where none is given."""
-    found = solved or solve(position, program)
+def plan_of(position: Position, player: Player | Sheet, side: Side,
+            ask_again: int = ASKED_AGAIN) -> Sheet:
+    """The plan of a player for one side of a position, by rows of the position's weight."""
+    if isinstance(player, Sheet):
+        if (player.game, player.side, player.total) != (position.game, side, position.weight):
+            raise InvalidError(f"the plan is not one of player {side} for this position: "
+                               f"{player!r}")
+        return player
+    if not callable(player):
+        raise InvalidError(f"a player is a function play(side, state), not {player!r}")
+    if takes_history(player):
+        raise InvalidError(NO_PLAN)
+    return plan(position.game, side, partial(player, side), position.weight, ask_again)
+
+
+def measure(position: Position, player: Player, side: Side, solved: Report | None = None,
+            games: int = 1000, seed: int = 0, program: FilePath | None = None) -> Measured:
+    """Measures a player on one side of a position, against the solver's report on it, which is
+    made where none is given."""
+    require_position(position, "measure")
+    solver = Solver(program)
+    mine = plan_of(position, player, side_of(side))
+    found = solved or solver.solve(position)
     if (found.game, found.weight) != (position.game, position.weight):
-        raise Invalid(f"the report is not of this position: {found.game.line()}, weight {found.weight}")
-    mine, yours = plan(position.game, side, partial(player, side), position.weight), found.sheet(other(side))
-    report = Report.of(mine, yours, found.asked) if side == "one" else Report.of(yours, mine, found.asked)
-    return Measured(side, report, found.bound(side), exploit(report, side, program), play(report, games, seed, program))
+        raise InvalidError(f"the report is not of this position: {found.game.line()}, weight "
+                           f"{found.weight}")
+    yours = found.sheet(other(side))
+    one, two = (mine, yours) if side == "one" else (yours, mine)
+    report = Report.of(one, two, found.asked)
+    return Measured(side, report, found.bound(side), solver.exploit(report, side),
+                    solver.match(report, games, seed), expected_of(one, two))

@@ -1,16 +1,17 @@
 """Oshi-Zumo: bids of coins push a wrestler from place to place."""
 from __future__ import annotations
 
-from dataclasses import dataclass
+from dataclasses import dataclass, field
 
-from .game import Field, Game, Side, State, packed, sign
+from .game import Field, Game, Side, State, packed, sign, unpacked
+from .limits import MOST_COINS, MOST_SIZE
 
 
 @dataclass(frozen=True)
 class OshiZumoState(State):
     """A state of Oshi-Zumo: where the wrestler stands, 0 in the middle, and the coins of both."""
 
-    game: OshiZumo
+    game: OshiZumo = field(repr=False)
     place: int
     one: int
     two: int
@@ -39,34 +40,51 @@ class OshiZumoState(State):
         return tuple(range(self.game.least, coins + 1)) or (0,)
 
     def _after(self, one: int, two: int, draw: int) -> OshiZumoState:
-        return OshiZumoState(self.game, self.place + sign(one - two), self.one - one, self.two - two)
+        place = self.place + sign(one - two)
+        return OshiZumoState(self.game, place, self.one - one, self.two - two)
 
 
 @dataclass(frozen=True)
 class OshiZumo(Game):
-    """Oshi-Zumo: places on each side of the middle (0 to 8), the coins of both (0 to 31), the least bid (1 to 31), and where
-    the wrestler stands."""
+    """Oshi-Zumo: places on each side of the middle (0 to 8), the coins of both (0 to 31), the
+    least bid (1 to 31), and where the wrestler stands."""
 
     name = "oshi_zumo"
-    settings = (Field("size"), Field("one"), Field("two"), Field("least"), Field("place", -128, 127))
+    settings = (Field("size"), Field("one"), Field("two"), Field("least"),
+                Field("place", -128, 127))
     size: int
     one: int
     two: int
     least: int = 1
     place: int = 0
 
-    def _fault(self) -> str | None:
-        if self.size > 8:
-            return "31 size range"
-        if max(self.one, self.two) > 31:
-            return "32 coin range"
-        if not 1 <= self.least <= 31:
-            return "33 least range"
-        return "34 place range" if abs(self.place) > self.size else None
+    def _fault(self) -> tuple[str, str] | None:
+        if self.size > MOST_SIZE:
+            return "31 size range", f"the size {self.size} has to be from 0 to {MOST_SIZE}"
+        if max(self.one, self.two) > MOST_COINS:
+            return ("32 coin range",
+                    f"{max(self.one, self.two)} coins are too many: a side has 0 to {MOST_COINS}")
+        if not 1 <= self.least <= MOST_COINS:
+            return ("33 least range",
+                    f"the least bid {self.least} has to be from 1 to {MOST_COINS}")
+        if abs(self.place) > self.size:
+            return ("34 place range",
+                    f"the place {self.place} has to be from -{self.size} to {self.size}")
+        return None
 
     @property
     def most_moves(self) -> int:
         return max(1, max(self.one, self.two) - self.least + 1)
 
+    @property
+    def most_states(self) -> int:
+        return (2 * self.size + 1) * (self.one + 1) * (self.two + 1)
+
     def root(self) -> OshiZumoState:
         return OshiZumoState(self, self.place, self.one, self.two)
+
+    def _unpacked(self, key: int) -> State | None:
+        place, one, two = unpacked(key, 5, 5, 5)
+        found = OshiZumoState(self, place - 16, one, two)
+        known = abs(found.place) <= self.size + 1 and one <= self.one and two <= self.two
+        return found if known else None

@@ -1,30 +1,49 @@
-"""Pictures of reports: both plans at the root, both bounds on one axis, and the board of games that have one.
+"""Pictures of reports: both plans at a state, both bounds on one axis, the board of games that
+have one, a tree of the first turns, and bounds over time.
 
-Matplotlib draws them, and is asked for only here.
+Matplotlib draws them, and is asked for only here. `figure`, `tree` and `history` give a figure of
+matplotlib, as notebooks show it; `show` writes a file.
 """
 from __future__ import annotations
 
 import math
 import random
+from collections.abc import Sequence
+from dataclasses import dataclass, field
+from fractions import Fraction
 from pathlib import Path
 from typing import Any
 
-from .errors import DosolveError
-from .game import SCALE, SIDES, Side, State, other
+from .errors import DosolveError, InvalidError
+from .game import CHANCE, SCALE, SIDES, Move, Side, State
 from .plans import Sheet
-from .program import FilePath
+from .positions import FilePath
+from .progress import Progress
 from .pursuit import PursuitState
 from .reports import Report
 from .tron import TronState
+from .values import as_points, cut
 
 _COLOURS: dict[Side, str] = {"one": "#1f6fb4", "two": "#c8501e"}
 _BOUNDS: tuple[tuple[Side, str], ...] = (("one", "lower"), ("two", "upper"))
 _STEPS = ((-1, 0), (0, 1), (1, 0), (0, -1))
+_TITLES = {
+    "goofspiel": "Goofspiel", "goofspiel_drawn": "Goofspiel with drawn prizes",
+    "oshi_zumo": "Oshi-Zumo", "tron": "Tron", "pursuit": "Pursuit on a graph",
+}
+
+Players = tuple[str, str]
+"""Who plays for One and for Two, for the titles."""
 
 
-def show(report: Report, output: FilePath) -> None:
-    """Draws a report into a file, whose ending tells the format: `.svg`, `.png` or `.pdf`."""
-    picture = figure(report)
+def show(report: Report, output: FilePath, key: int | None = None, zoom: bool = False,
+         players: Players | None = None) -> None:
+    """Draws a report into a file; see `figure`."""
+    save(figure(report, key, zoom, players), output)
+
+
+def save(picture: Any, output: FilePath) -> None:
+    """Writes a figure into a file, whose ending is the format: `.svg`, `.png` or `.pdf`."""
     path = Path(output)
     kind = path.suffix.removeprefix(".")
     if kind not in ("svg", "png", "pdf"):
@@ -32,64 +51,87 @@ def show(report: Report, output: FilePath) -> None:
     import matplotlib
 
     # Without the date and with a fixed salt one report gives the same bytes again.
+    dated = None if kind == "png" else {"Date" if kind == "svg" else "CreationDate": None}
     with matplotlib.rc_context({"svg.hashsalt": "dosolve"}):
-        picture.savefig(path, metadata=None if kind == "png" else {"Date" if kind == "svg" else "CreationDate": None})
+        picture.savefig(path, metadata=dated)
 
 
-def figure(report: Report) -> Any:
-    """The picture of a report as a figure of matplotlib."""
+def _blank(width: float, height: float) -> Any:
+    """An empty figure."""
     try:
         from matplotlib.backends.backend_agg import FigureCanvasAgg
         from matplotlib.figure import Figure
     except ImportError:
-        raise DosolveError("pictures need matplotlib: install the package python3-matplotlib, or pip install matplotlib") from None
-    root = report.game.root()
-    board = isinstance(root, (TronState, PursuitState))
-    picture = Figure(figsize=(11 if board else 7.5, 7), layout="constrained")
+        raise DosolveError("pictures need matplotlib: install the package python3-matplotlib, or "
+                           "pip install matplotlib") from None
+    picture = Figure(figsize=(width, height), layout="constrained")
     FigureCanvasAgg(picture)
     picture.get_layout_engine().set(w_pad=0.1, h_pad=0.1)
-    picture.suptitle(_title(report), fontsize=11)
-    grid = picture.add_gridspec(3, 2 if board else 1, height_ratios=(5, 5, 3), width_ratios=(5, 6) if board else None)
-    for place, side in enumerate(SIDES):
-        _bars(picture.add_subplot(grid[place, 0]), report.sheet(side), root)
-    _axis(picture.add_subplot(grid[2, 0]), report)
-    if isinstance(root, TronState):
-        _grid(picture.add_subplot(grid[:, 1]), report, root)
-    elif isinstance(root, PursuitState):
-        _graph(picture.add_subplot(grid[:, 1]), report, root)
     return picture
 
 
-def _title(report: Report) -> str:
-    """The game's settings, cut where they are long."""
-    lines, line = [], "game"
-    for word in report.game.line().split(" "):
-        short = word if len(word) <= 48 else word[:46] + ".."
-        if len(line) + len(short) > 72:
-            lines.append(line)
-            line = short
+def figure(report: Report, key: int | None = None, zoom: bool = False,
+           players: Players | None = None) -> Any:
+    """The picture of a report as a figure of matplotlib: both plans at the root, or at the state
+    with this key, and both bounds there.
+
+    The axis of payoffs goes from the least to the greatest, and with `zoom` round the bounds
+    alone.
+    """
+    state = report.game.root() if key is None else report.game.state(key)
+    board = isinstance(state, (TronState, PursuitState))
+    picture = _blank(11 if board else 7.5, 7)
+    picture.suptitle(_title(report, state, key), fontsize=11)
+    grid = picture.add_gridspec(3, 2 if board else 1, height_ratios=(5, 5, 3),
+                                width_ratios=(5, 6) if board else None)
+    for place, side in enumerate(SIDES):
+        name = f" ({players[place]})" if players else ""
+        _bars(picture.add_subplot(grid[place, 0]), report.sheet(side), state, name)
+    _axis(picture.add_subplot(grid[2, 0]), report, state, key is None, zoom)
+    if isinstance(state, TronState):
+        _grid(picture.add_subplot(grid[:, 1]), report, state)
+    elif isinstance(state, PursuitState):
+        _graph(picture.add_subplot(grid[:, 1]), report, state)
+    return picture
+
+
+def _title(report: Report, state: State, key: int | None) -> str:
+    """The game's name in words, its settings, cut where they are long, and the state."""
+    words = []
+    for setting, value in zip(report.game.settings, report.game.values()):
+        shown = " ".join(map(str, value)) or "none" if isinstance(value, tuple) else str(value)
+        words.append(cut(f"{setting.name} {shown}", 48))
+    lines = [f"{_TITLES.get(report.game.name, report.game.name)}: {words[0]}"]
+    for word in words[1:]:
+        if len(lines[-1]) + len(word) > 72:
+            lines[-1] += ","
+            lines.append(word)
         else:
-            line += " " + short
-    return "\n".join([*lines, line])
+            lines[-1] += f", {word}"
+    if key is not None:
+        lines.append(cut(f"state {key}: {state!r}", 90))
+    return "\n".join(lines)
 
 
-def _shares(sheet: Sheet, root: State) -> list[float]:
-    """The chance of each move at the root; empty at an end."""
-    return [] if root.is_end else [weight / sheet.total for weight in sheet.weights(root)]
+def _shares(sheet: Sheet, state: State) -> list[float]:
+    """The chance of each move at a state; empty at an end."""
+    return [] if state.is_end else [weight / sheet.total for weight in sheet.weights(state)]
 
 
-def _bars(axes: Any, sheet: Sheet, root: State) -> None:
-    """The plan of one side at the root, a bar for each move."""
-    shares, names = _shares(sheet, root), root.names(sheet.side)
-    without = "" if sheet.row(root) or root.is_end else " (no row: its first move)"
-    axes.set_title(f"Player {sheet.side} at the root{without}", loc="left", fontsize=10)
+def _bars(axes: Any, sheet: Sheet, state: State, name: str) -> None:
+    """The plan of one side at a state, a bar for each move."""
+    shares, names = _shares(sheet, state), state.names(sheet.side)
+    without = "" if sheet.row(state) or state.is_end else ", no row: the first move"
+    axes.set_title(f"Player {sheet.side}{name}: probability of each move{without}", loc="left",
+                   fontsize=10)
     axes.set_ylim(0, 1.25)
     axes.set_yticks([0, 0.5, 1], ["0%", "50%", "100%"])
     for spine in ("top", "right"):
         axes.spines[spine].set_visible(False)
     if not shares:
         axes.set_xticks([])
-        axes.text(0.5, 0.5, "the game is over", ha="center", va="center", transform=axes.transAxes)
+        axes.text(0.5, 0.5, "the game is over", ha="center", va="center",
+                  transform=axes.transAxes)
         return
     bars = axes.bar(range(len(shares)), shares, color=_COLOURS[sheet.side], width=0.7)
     many = len(shares) > 10
@@ -97,38 +139,183 @@ def _bars(axes: Any, sheet: Sheet, root: State) -> None:
     middle, room = (len(shares) - 1) / 2, max(len(shares), 3) / 2 + 0.1
     axes.set_xlim(middle - room, middle + room)
     for bar, share in zip(bars, shares):
-        axes.text(bar.get_x() + bar.get_width() / 2, share + 0.03, _percent(share, many), ha="center", va="bottom",
-                  fontsize=6 if many else 8, rotation=90 if many else 0)
+        axes.text(bar.get_x() + bar.get_width() / 2, share + 0.03, _percent(share, many),
+                  ha="center", va="bottom", fontsize=6 if many else 8, rotation=90 if many else 0)
 
 
 def _percent(share: float, short: bool = False) -> str:
     """A chance in percent; nothing for none where there is little room."""
     if share == 0:
         return "" if short else "0%"
-    return f"{100 * share:.1f}%" if 0.0005 <= share < 0.9995 else "<0.1%" if share < 0.5 else ">99.9%" if share < 1 else "100%"
+    if 0.0005 <= share < 0.9995:
+        return f"{100 * share:.1f}%"
+    return "<0.1%" if share < 0.5 else ">99.9%" if share < 1 else "100%"
 
 
-def _axis(axes: Any, report: Report) -> None:
-    """Both bounds and the gap on the axis of payoffs, from the least to the greatest."""
-    low, high = report.game.low, report.game.high
-    room = (high - low) * 0.04 or 0.1
-    axes.set_xlim(low - room, high + room)
+def _axis(axes: Any, report: Report, state: State, is_root: bool, zoom: bool) -> None:
+    """Both bounds and the gap on the axis of payoffs."""
+    bounds = {side: report.bound(side) if is_root else report.sheet(side).bound(state)
+              for side in SIDES}
+    gap = bounds["two"] - bounds["one"]
+    ends = [bounds[side] / SCALE for side in SIDES]
+    _set_range(axes, report, ends, zoom)
     axes.set_ylim(0, 4)
     axes.set_yticks([])
     for spine in ("top", "left", "right"):
         axes.spines[spine].set_visible(False)
     axes.set_xlabel("payoff of player one", fontsize=9)
-    ends = [report.bound(side) / SCALE for side in SIDES]
     axes.axvspan(*ends, ymin=0.02, ymax=0.5, color="#c9c9c9", linewidth=0)
     for (side, word), at in zip(_BOUNDS, ends):
         # One above the other, so that both are seen where they meet.
         height = 0.6 if side == "one" else 1.4
         axes.plot([at, at], [0, 2], color=_COLOURS[side], linewidth=1.2)
-        axes.plot([at], [height], marker=">" if side == "one" else "<", markersize=10, color=_COLOURS[side], clip_on=False)
-        axes.text(0 if side == "one" else 1, 0.96, f"{word} {report.bound(side) / SCALE:.6f}", color=_COLOURS[side], va="top",
-                  ha="left" if side == "one" else "right", fontsize=10, transform=axes.transAxes)
-    axes.text(0.5, 0.68, f"gap {report.gap / SCALE:.6f}, {report.outcome}", ha="center", va="top", fontsize=9,
+        axes.plot([at], [height], marker=">" if side == "one" else "<", markersize=10,
+                  color=_COLOURS[side], clip_on=False)
+        axes.text(0 if side == "one" else 1, 0.96, f"{word} {as_points(bounds[side])}",
+                  color=_COLOURS[side], va="top", ha="left" if side == "one" else "right",
+                  fontsize=10, transform=axes.transAxes)
+    closeness = f", {report.closeness}" if is_root else ""
+    axes.text(0.5, 0.68, f"gap {as_points(gap)}{closeness}", ha="center", va="top", fontsize=9,
               transform=axes.transAxes)
+
+
+def _set_range(axes: Any, report: Report, ends: list[float], zoom: bool) -> None:
+    """The axis from the least to the greatest payoff, or round the bounds alone."""
+    low, high = report.game.low, report.game.high
+    if zoom:
+        room = abs(ends[1] - ends[0]) or max(1e-6, (high - low) / 1e6)
+        axes.set_xlim(min(ends) - room, max(ends) + room)
+        axes.ticklabel_format(useOffset=False, axis="x")
+        axes.locator_params(axis="x", nbins=3)
+        return
+    room = (high - low) * 0.04 or 0.1
+    axes.set_xlim(low - room, high + room)
+
+
+def history(steps: Sequence[Progress]) -> Any:
+    """The bounds and the gap, or the turns where no bounds are told, over the seconds of a
+    search."""
+    if not steps:
+        raise InvalidError("there are no lines of progress: a search of less than a second prints "
+                           "none")
+    picture = _blank(7.5, 6)
+    told = [step for step in steps if step.gap is not None]
+    upper, lower = picture.subplots(2, 1, sharex=True)
+    if told:
+        seconds = [step.seconds for step in told]
+        for side, word in _BOUNDS:
+            values = [(step.lower if side == "one" else step.upper or 0) for step in told]
+            upper.step(seconds, [(value or 0) / SCALE for value in values], where="post",
+                       color=_COLOURS[side], label=f"{word} bound")
+        upper.set_title("Bounds of the value over time", loc="left", fontsize=10)
+        upper.set_ylabel("payoff of player one", fontsize=9)
+        upper.legend(fontsize=8)
+        lower.step(seconds, [max(1, step.gap or 0) / SCALE for step in told], where="post",
+                   color="#555555")
+        lower.set_yscale("log")
+        lower.yaxis.set_minor_formatter(lambda value, place: "")
+        lower.set_title("Gap", loc="left", fontsize=10)
+    else:
+        upper.set_axis_off()
+        lower.plot([step.seconds for step in steps], [step.turns for step in steps],
+                   color="#555555")
+        lower.set_title("Turns spent", loc="left", fontsize=10)
+    lower.set_xlabel("seconds", fontsize=9)
+    return picture
+
+
+@dataclass
+class _Branch:
+    """A state of the tree, what led there, and with what probability from the state before."""
+
+    state: State | None
+    chance: Fraction
+    moves: str
+    depth: int
+    place: float = 0.0
+    branches: list[_Branch] = field(default_factory=list)
+
+
+def tree(report: Report, turns: int = 2, most: int = 4) -> Any:
+    """The first turns where both sides play their plans of a report: the pairs of moves that are
+    most probable, at most `most` after each state, with the probability of each."""
+    if not 1 <= turns <= 6 or not 1 <= most <= 12:
+        raise InvalidError("a tree has 1 to 6 turns, and 1 to 12 branches at a state")
+    root = _Branch(report.game.root(), Fraction(1), "", 0)
+    leaves = _grow(root, report, turns, most)
+    _place(root, iter(range(leaves)))
+    picture = _blank(3 + 3 * turns, max(4, 0.62 * leaves))
+    axes = picture.add_subplot()
+    axes.set_axis_off()
+    axes.set_xlim(-0.45, turns + 0.1)
+    axes.set_ylim(leaves - 0.3, -0.7)
+    picture.suptitle(_title(report, report.game.root(), None), fontsize=10)
+    _draw_branch(axes, root, report)
+    return picture
+
+
+def _grow(branch: _Branch, report: Report, turns: int, most: int) -> int:
+    """Adds what follows, and gives the number of leaves."""
+    state = branch.state
+    if state is None or state.is_end or branch.depth == turns:
+        return 1
+    found = sorted(_steps(state, report), key=lambda step: -step[1])
+    for moves, chance, after in found[:most]:
+        branch.branches.append(_Branch(after, chance, moves, branch.depth + 1))
+    left = sum((chance for _, chance, _ in found[most:]), Fraction(0))
+    if left:
+        others = f"{len(found) - most} others"
+        branch.branches.append(_Branch(None, left, others, branch.depth + 1))
+    return sum(_grow(after, report, turns, most) for after in branch.branches)
+
+
+def _steps(state: State, report: Report) -> list[tuple[str, Fraction, State]]:
+    """What can follow a state where both play their plans: the moves, the chance, the state."""
+    names = [state.names(side) for side in SIDES]
+    weights = [report.sheet(side).weights(state) for side in SIDES]
+    found = []
+    for one, mine in enumerate(weights[0]):
+        for two, yours in enumerate(weights[1]):
+            both = Fraction(mine * yours, report.weight**2)
+            if both:
+                outcomes = state.outcomes(Move(one), Move(two))
+                for draw, (chance, after) in enumerate(outcomes):
+                    drawn = f", draw {draw}" if len(outcomes) > 1 else ""
+                    found.append((f"{names[0][one]} - {names[1][two]}{drawn}",
+                                  both * Fraction(chance, CHANCE), after))
+    return found
+
+
+def _place(branch: _Branch, places: Any) -> None:
+    """Puts leaves one below the other, and each state in the middle of what follows it."""
+    for after in branch.branches:
+        _place(after, places)
+    between = [after.place for after in branch.branches]
+    branch.place = (between[0] + between[-1]) / 2 if between else float(next(places))
+
+
+def _draw_branch(axes: Any, branch: _Branch, report: Report) -> None:
+    """One state with its lines to what follows."""
+    for after in branch.branches:
+        axes.plot([branch.depth, after.depth - 0.42, after.depth],
+                  [branch.place, after.place, after.place], color="#999999", zorder=1,
+                  linewidth=0.6 + 3 * float(after.chance))
+        share = _percent(float(after.chance))
+        axes.text(after.depth - 0.05, after.place - 0.16, f"{after.moves}  {share}", fontsize=8,
+                  ha="right", va="bottom")
+        _draw_branch(axes, after, report)
+    if branch.state is not None:
+        axes.scatter([branch.depth], [branch.place], s=18, color="#333333", zorder=3)
+        axes.text(branch.depth - 0.05, branch.place + 0.12, _worth(branch.state, report),
+                  fontsize=7, ha="right", va="top", color="#555555")
+
+
+def _worth(state: State, report: Report) -> str:
+    """What is known of the value of a state."""
+    if state.is_end:
+        return f"end, payoff {state.payoff}"
+    bounds = [report.sheet(side).bound(state) / SCALE for side in SIDES]
+    return f"{bounds[0]:.3f} to {bounds[1]:.3f}"
 
 
 def _plain(axes: Any, title: str) -> None:
@@ -142,71 +329,83 @@ def _plain(axes: Any, title: str) -> None:
 def _head(axes: Any, x: float, y: float, side: Side, size: float) -> None:
     """A player's place: a disc with the number."""
     axes.scatter([x], [y], s=size, color=_COLOURS[side], zorder=4)
-    axes.text(x, y, "1" if side == "one" else "2", color="white", ha="center", va="center", fontsize=11, fontweight="bold", zorder=5)
+    axes.text(x, y, "1" if side == "one" else "2", color="white", ha="center", va="center",
+              fontsize=11, fontweight="bold", zorder=5)
 
 
 def _grid(axes: Any, report: Report, root: TronState) -> None:
-    """The grid with walls, heads and the weights of the first moves."""
+    """The grid with taken cells, heads and the weights of the next moves."""
     from matplotlib.patches import Rectangle
 
-    game = report.game
     height, width = root.game.height, root.game.width
-    _plain(axes, "The grid: walls, heads, chances of the first moves")
+    over = "the game is over" if root.is_end else "taken cells, heads, probabilities of moves"
+    _plain(axes, f"The grid: {over}")
     axes.set_xlim(-0.55, width - 0.45)
     axes.set_ylim(height - 0.45, -0.55)
     for cell in range(height * width):
         row, column = divmod(cell, width)
         wall = cell in root.taken and cell not in (root.one, root.two)
-        axes.add_patch(Rectangle((column - 0.5, row - 0.5), 1, 1, facecolor="#555555" if wall else "white", edgecolor="#999999"))
+        axes.add_patch(Rectangle((column - 0.5, row - 0.5), 1, 1, edgecolor="#999999",
+                                 facecolor="#555555" if wall else "white"))
     for side in SIDES:
         row, column = divmod(root.one if side == "one" else root.two, width)
         _head(axes, column, row, side, 380)
         for label, share in zip(root.moves(side), _shares(report.sheet(side), root)):
             down, right = _STEPS[label]
             if share:
-                axes.annotate("", (column + 0.57 * right, row + 0.57 * down), (column + 0.22 * right, row + 0.22 * down),
-                              arrowprops={"arrowstyle": "-|>", "color": _COLOURS[side], "linewidth": 1 + 3 * share}, zorder=3)
-            # One's chances stand in the upper half of a cell, Two's in the lower, so that they never meet.
+                axes.annotate("", (column + 0.57 * right, row + 0.57 * down),
+                              (column + 0.22 * right, row + 0.22 * down), zorder=3,
+                              arrowprops={"arrowstyle": "-|>", "color": _COLOURS[side],
+                                          "linewidth": 1 + 3 * share})
+            # One's chances stand in the upper half of a cell, Two's in the lower: they never meet.
             shift = -0.32 if side == "one" else 0.32
-            axes.text(column + right, row + down + shift, _percent(share), color=_COLOURS[side], ha="center", va="center", fontsize=9)
-    if game.root().is_end:
-        axes.set_title("The grid: the game is over", loc="left", fontsize=10)
+            axes.text(column + right, row + down + shift, _percent(share), color=_COLOURS[side],
+                      ha="center", va="center", fontsize=9)
 
 
 def _graph(axes: Any, report: Report, root: PursuitState) -> None:
-    """The graph with both players and the weights of their first moves."""
+    """The graph with both players and the weights of their next moves."""
     game = root.game
     places = _layout(game.near)
-    _plain(axes, f"The graph: One chases Two, {root.rounds} rounds, chances of the first moves")
+    _plain(axes, f"The graph: One chases Two, {root.rounds} rounds left, probabilities of moves")
     for low, high in sorted(game.pairs):
         axes.plot(*zip(places[low], places[high]), color="#999999", linewidth=1.2, zorder=1)
     size = 330 if game.nodes <= 16 else 200
     for node, (x, y) in enumerate(places):
         axes.scatter([x], [y], s=size, color="white", edgecolor="#666666", zorder=2)
-        axes.text(x, y, str(node), ha="center", va="center", fontsize=9 if game.nodes <= 16 else 7, zorder=3)
+        axes.text(x, y, str(node), ha="center", va="center", zorder=3,
+                  fontsize=9 if game.nodes <= 16 else 7)
     for side in SIDES:
         node = root.one if side == "one" else root.two
-        axes.scatter([places[node][0]], [places[node][1]], s=size * (2.2 if side == "one" else 1.6), facecolor="none", zorder=4,
-                     edgecolor=_COLOURS[side], linewidth=2.5)
+        axes.scatter([places[node][0]], [places[node][1]], facecolor="none", zorder=4,
+                     s=size * (2.2 if side == "one" else 1.6), edgecolor=_COLOURS[side],
+                     linewidth=2.5)
         for label, share in zip(root.moves(side), _shares(report.sheet(side), root)):
             if share:
                 # One's chances stand above a node, Two's below it.
-                axes.annotate(_percent(share), places[label], (0, 24 if side == "one" else -24), textcoords="offset points",
-                              color=_COLOURS[side], ha="center", va="center", fontsize=8, zorder=5,
+                axes.annotate(_percent(share), places[label], (0, 24 if side == "one" else -24),
+                              textcoords="offset points", color=_COLOURS[side], ha="center",
+                              va="center", fontsize=8, zorder=5,
                               bbox={"facecolor": "white", "edgecolor": "none", "pad": 1})
     axes.margins(0.15)
-    axes.text(0.5, -0.02, "ring of One blue, of Two orange", ha="center", va="top", fontsize=8, transform=axes.transAxes)
+    axes.text(0.5, -0.02, "One: blue ring, Two: orange ring", ha="center", va="top", fontsize=8,
+              transform=axes.transAxes)
 
 
 def _layout(near: tuple[tuple[int, ...], ...]) -> list[tuple[float, float]]:
-    """Places of nodes in the plane whose distances are about those in the graph: stress majorization, the best of some starts."""
+    """Places of nodes in the plane whose distances are about those in the graph: stress
+    majorization, the best of some starts."""
     steps = [_distances(near, node) for node in range(len(near))]
     source = random.Random(0)
-    found = [_settled([(source.random() * len(near), source.random() * len(near)) for _ in near], steps) for _ in range(8)]
+    found = []
+    for _ in range(8):
+        start = [(source.random() * len(near), source.random() * len(near)) for _ in near]
+        found.append(_settled(start, steps))
     return _turned(min(found, key=lambda places: _stress(places, steps)))
 
 
-def _settled(places: list[tuple[float, float]], steps: list[list[float]]) -> list[tuple[float, float]]:
+def _settled(places: list[tuple[float, float]],
+             steps: list[list[float]]) -> list[tuple[float, float]]:
     """The places after each node was moved many times."""
     for _ in range(100 if len(places) > 1 else 0):
         for node in range(len(places)):
@@ -221,7 +420,8 @@ def _stress(places: list[tuple[float, float]], steps: list[list[float]]) -> floa
 
 
 def _distances(near: tuple[tuple[int, ...], ...], start: int) -> list[float]:
-    """Moves from a node to each; nodes that cannot be reached are a little further than the farthest."""
+    """Moves from a node to each; nodes that cannot be reached are a little further than the
+    farthest."""
     steps = {start: 0}
     front = [start]
     while front:
@@ -232,7 +432,8 @@ def _distances(near: tuple[tuple[int, ...], ...], start: int) -> list[float]:
     return [steps.get(node, far) for node in range(len(near))]
 
 
-def _moved(node: int, places: list[tuple[float, float]], steps: list[float]) -> tuple[float, float]:
+def _moved(node: int, places: list[tuple[float, float]],
+           steps: list[float]) -> tuple[float, float]:
     """Where the other nodes, each by its weight, would have this one."""
     x = y = whole = 0.0
     for index, (at_x, at_y) in enumerate(places):
@@ -246,7 +447,8 @@ def _moved(node: int, places: list[tuple[float, float]], steps: list[float]) -> 
 
 
 def _turned(places: list[tuple[float, float]]) -> list[tuple[float, float]]:
-    """The same places, turned so that node 0 is at the upper left and the farthest node from it at the lower right."""
+    """The same places, turned so that node 0 is at the upper left and the farthest node from it at
+    the lower right."""
     start = places[0]
     far = max(places, key=lambda place: math.dist(place, start))
     angle = -math.pi / 4 - math.atan2(far[1] - start[1], far[0] - start[0])

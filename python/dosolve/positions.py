@@ -1,102 +1,199 @@
-"""Positions: a game and what is asked of the solver, as the JSON object that the program reads."""
+"""Positions: a game and what is asked of the solver (its budgets), as the JSON object that the
+program reads."""
 from __future__ import annotations
 
 import json
 import math
+import os
 from dataclasses import dataclass
-from typing import Any
+from pathlib import Path
+from typing import Any, cast
 
-from .errors import InputRefused, Invalid
+from .errors import InputRefusedError, InvalidError
 from .game import Field, Game
 from .goofspiel import Goofspiel, GoofspielDrawn
+from .limits import (
+    LEAST_WEIGHT, MOST_DEPTH, MOST_GAP, MOST_POSITION_BYTES, MOST_ROWS, MOST_TURNS, MOST_WEIGHT,
+    MOST_WORKERS,
+)
 from .oshi_zumo import OshiZumo
 from .pursuit import Pursuit
 from .tron import Tron
+from .values import as_field, cut, shorten
+
+FilePath = str | os.PathLike[str]
+"""A file's name."""
 
 _KINDS: tuple[type[Game], ...] = (Goofspiel, OshiZumo, Tron, GoofspielDrawn, Pursuit)
 GAMES = {kind.name: kind for kind in _KINDS}
 """The games by the names that positions and reports have for them."""
 
-MOST_BYTES = 1_048_576
-"""How long the text of a position can be."""
+ASKED = (
+    Field("gap", 0, MOST_GAP, about="millionths of a payoff"),
+    Field("weight", LEAST_WEIGHT, MOST_WEIGHT),
+    Field("turns", 0, MOST_TURNS), Field("visits", 0, MOST_TURNS), Field("rows", 1, MOST_ROWS),
+    Field("workers", 1, MOST_WORKERS),
+    Field("stages", choices=("regret", "linear"), absent="regret"),
+)
+"""What is asked of the solver, with ranges, in the order in which it is refused. Optional fields
+have in `absent` what the program takes where they are left out, and are written only where they
+differ from it."""
 
-_MOST = 1_099_511_627_776
-ASKED = (Field("gap", 0, 8_000_000_000), Field("weight", 8192, 1_048_576), Field("turns", 0, _MOST), Field("visits", 0, _MOST),
-         Field("rows", 1, 1_048_576), Field("workers", 1, 16))
-"""What is asked of the solver, with ranges, in the order in which it is refused."""
+_DEFAULT = cast(int, None)
 
 
 @dataclass(frozen=True)
 class Position:
-    """A game and what is asked: the gap in millionths that is narrow enough, what the weights of a row sum to, the matrix
-    games that each worker may solve, the states that its serial searches may enter, the rows of the board, and the workers.
+    """A game and what is asked of the solver.
+
+    - `gap`: the gap, in millionths of a payoff, that is narrow enough; the search ends there.
+    - `weight`: what the weights of a row sum to (8192 to 1048576); more is finer.
+    - `turns`: the budget of matrix games of each worker; a search that runs out of them has few
+      bounds or none.
+    - `visits`: the budget of states that each worker's serial searches may enter.
+    - `rows`: the states that the board has room for; left out, twice as many as the game can
+      have, where that is known, else the most.
+    - `workers`: the threads, which share one search; left out, one for each processor, at most
+      16. One worker gives the same report, byte by byte, each time.
+    - `stages`: how matrix games are solved, `linear` (linear programs: fast, small gaps) or
+      `regret` (rounds of regret matching).
     """
 
     game: Game
     gap: int = 0
-    weight: int = 65_536
-    turns: int = 1_000_000
-    visits: int = 1_000_000
-    rows: int = 1_048_576
-    workers: int = 1
+    weight: int = MOST_WEIGHT
+    turns: int = MOST_TURNS
+    visits: int = MOST_TURNS
+    rows: int = _DEFAULT
+    workers: int = _DEFAULT
+    stages: str = "linear"
 
     def __post_init__(self) -> None:
-        if not isinstance(self.game, Game):
-            raise Invalid(f"the game of a position is one of dosolve's games, not {self.game!r}")
+        if type(self.game) not in _KINDS:
+            raise InvalidError(f"the program has the games {', '.join(GAMES)}, and "
+                               f"{cut(repr(self.game), 60)} is none of them; a plan in any game "
+                               f"of your own can be measured by expected_of and respond")
+        if self.rows is None:
+            rows = min(MOST_ROWS, max(1, 2 * self.game.most_states))
+            object.__setattr__(self, "rows", rows)
+        if self.workers is None:
+            object.__setattr__(self, "workers", min(MOST_WORKERS, processors()))
         for field in ASKED:
+            object.__setattr__(self, field.name, as_field(getattr(self, field.name)))
             field.refuse(getattr(self, field.name))
 
     def text(self) -> str:
         """The position as one line of JSON."""
-        entries = {"game": self.game.name} | {field.name: getattr(self.game, field.name) for field in self.game.settings}
-        return json.dumps(entries | {field.name: getattr(self, field.name) for field in ASKED}, separators=(",", ":")) + "\n"
+        entries = {"game": self.game.name}
+        entries |= {field.name: getattr(self.game, field.name) for field in self.game.settings}
+        entries |= {field.name: getattr(self, field.name) for field in ASKED
+                    if field.absent is None or getattr(self, field.name) != field.absent}
+        return json.dumps(entries, separators=(",", ":")) + "\n"
 
     @classmethod
     def read(cls, data: bytes | str) -> Position:
-        """The position of a text, refused as the program refuses it."""
+        """The position of a text, refused as the program refuses it; `load` reads a file."""
         entries = _entries(data)
         game = _game(entries)
-        unknown = set(entries) - {"game"} - {field.name for field in (*game.settings, *ASKED)}
+        unknown = sorted(set(entries) - {"game"} - {each.name for each in (*game.settings, *ASKED)})
         if unknown:
-            raise InputRefused("input 13 unknown field")
+            names = ", ".join(each.name for each in (*game.settings, *ASKED))
+            raise InputRefusedError("input 13 unknown field",
+                                    f"{shorten(unknown[0])} is no field of {game.name}, whose "
+                                    f"fields are game, {names}")
         for field in (*game.settings, *ASKED):
-            if field.name not in entries:
-                raise InputRefused(f"input 12 missing {field.name}")
-            field.refuse(entries[field.name])
+            if field.name in entries:
+                field.refuse(entries[field.name])
+            elif field.absent is None:
+                raise InputRefusedError(f"input 12 missing {field.name}")
         settings = {field.name: entries[field.name] for field in game.settings}
-        return cls(game(**settings), **{field.name: entries[field.name] for field in ASKED})
+        asked = {field.name: entries.get(field.name, field.absent) for field in ASKED}
+        return cls(game(**settings), **asked)
+
+    @classmethod
+    def load(cls, path: FilePath) -> Position:
+        """The position of a file."""
+        return cls.read(Path(path).read_bytes())
+
+    def save(self, path: FilePath) -> None:
+        """Writes the position into a file."""
+        Path(path).write_text(self.text())
+
+
+def processors() -> int:
+    """How many processors this process can use."""
+    return len(os.sched_getaffinity(0)) if hasattr(os, "sched_getaffinity") else os.cpu_count() or 1
+
+
+def require_position(position: object, call: str) -> Position:
+    """Refuses what is no position."""
+    if isinstance(position, Position):
+        return position
+    hint = ""
+    if isinstance(position, Game):
+        hint = f"; Position({type(position).__name__}(..)) is one"
+    elif isinstance(position, (str, bytes, os.PathLike)):
+        hint = "; Position.load reads a file, Position.read a text"
+    raise InvalidError(f"{call} takes a Position, not {shorten(position)}{hint}")
+
+
+def looks_like_path(data: bytes | str) -> bool:
+    """Whether a text is rather the name of a file."""
+    return (isinstance(data, str) and 0 < len(data) < 1000 and "\n" not in data
+            and not data.lstrip().startswith(("{", "[")))
 
 
 def _game(entries: dict[str, Any]) -> type[Game]:
     if "game" not in entries:
-        raise InputRefused("input 12 missing game")
+        raise InputRefusedError("input 12 missing game", f"it is one of {', '.join(GAMES)}")
     name = entries["game"]
     if not isinstance(name, str):
-        raise InputRefused("input 14 kind of game")
+        raise InputRefusedError("input 14 kind of game", f"it is one of {', '.join(GAMES)}")
     if name not in GAMES:
-        raise InputRefused("input 16 game name")
+        raise InputRefusedError("input 16 game name",
+                                f"there is no game {shorten(name)}, only {', '.join(GAMES)}")
     return GAMES[name]
 
 
 def _entries(data: bytes | str) -> dict[str, Any]:
     """The fields of the JSON object that the program sees in these bytes."""
+    if not isinstance(data, (bytes, str)):
+        raise InvalidError(f"read takes a text, not {shorten(data)}; load takes a path")
     encoded = data.encode("utf-8", "surrogatepass") if isinstance(data, str) else data
-    if len(encoded) > MOST_BYTES:
-        raise InputRefused("input 50 too long")
+    if len(encoded) > MOST_POSITION_BYTES:
+        raise InputRefusedError("input 50 too long",
+                                f"{len(encoded)} bytes are more than {MOST_POSITION_BYTES}")
     try:
-        value = json.loads(encoded.decode(), parse_int=_integer, parse_float=_float, parse_constant=_refuse)
+        value = json.loads(encoded.decode(), parse_int=_integer, parse_float=_float,
+                           parse_constant=_refuse)
         json.dumps(value, ensure_ascii=False).encode()
-    except (ValueError, RecursionError):
-        raise InputRefused("input 10 not json") from None
-    if _depth(value) > 127:
-        raise InputRefused("input 10 not json")
+    except (ValueError, RecursionError) as fault:
+        raise InputRefusedError("input 10 not json", _syntax(data, encoded, fault)) from None
+    if _depth(value) > MOST_DEPTH:
+        raise InputRefusedError("input 10 not json",
+                                f"arrays and objects stand more than {MOST_DEPTH} deep")
     if not isinstance(value, dict):
-        raise InputRefused("input 11 not an object")
+        raise InputRefusedError("input 11 not an object",
+                                f"a position is one object {{..}}, not {shorten(value)}")
     return value
 
 
+def _syntax(data: bytes | str, encoded: bytes, fault: Exception) -> str:
+    """What keeps a text from being JSON."""
+    if not encoded.strip():
+        return "the text is empty"
+    if encoded.startswith(b"dosolve report "):
+        return "this is a report, not a position; Report.read reads one"
+    if looks_like_path(data):
+        return f"{shorten(data)} looks like the name of a file, which Position.load reads"
+    if isinstance(fault, json.JSONDecodeError):
+        return f"{fault.msg} at line {fault.lineno}, column {fault.colno}"
+    return cut(str(fault), 80)
+
+
 def _integer(digits: str) -> int | float:
-    """A number without fraction and exponent; one that does not fit 64 bits, or is spelled -0, is no whole number."""
+    """A number without fraction and exponent; one that does not fit 64 bits, or is spelled -0, is
+    no whole number."""
     if digits == "-0" or len(digits) > 20 or not -2**63 <= int(digits) < 2**63:
         return _float(digits)
     return int(digits)
@@ -105,12 +202,12 @@ def _integer(digits: str) -> int | float:
 def _float(digits: str) -> float:
     value = float(digits)
     if math.isinf(value):
-        raise ValueError(digits)
+        raise ValueError(f"the number {cut(digits, 40)} is too large")
     return value
 
 
 def _refuse(word: str) -> None:
-    raise ValueError(word)
+    raise ValueError(f"{word} is no number of JSON")
 
 
 def _depth(value: Any) -> int:
@@ -118,5 +215,6 @@ def _depth(value: Any) -> int:
     deepest, layer = 0, [value]
     while layer := [inner for inner in layer if isinstance(inner, (list, dict))]:
         deepest += 1
-        layer = [part for inner in layer for part in (inner.values() if isinstance(inner, dict) else inner)]
+        layer = [part for inner in layer
+                 for part in (inner.values() if isinstance(inner, dict) else inner)]
     return deepest

@@ -1,40 +1,58 @@
 """Calls of the built program, which is the judge: solve, check, bounds, exploit and play."""
 from __future__ import annotations
 
+import hashlib
 import math
 import os
 import re
 import shutil
 import subprocess
-from dataclasses import dataclass
+import threading
+import time
+from collections.abc import Sequence
+from dataclasses import dataclass, replace
 from fractions import Fraction
 from pathlib import Path
+from typing import Any
 
-from .errors import DosolveError, InputRefused, LimitReached, ProgramFailed, ProgramMissing, ReportRefused
-from .game import SCALE, Side, side_of
-from .plans import require_range
-from .positions import Position
+from .errors import (
+    DosolveError, InputRefusedError, InvalidError, LimitReachedError, ProgramFailedError,
+    ProgramMissingError, ProgramTimeoutError, ReportRefusedError,
+)
+from .exact import BestResponse, expected_of, respond
+from .game import SCALE, SIDES, Side, other, side_of
+from .limits import MOST_GAMES, MOST_SEED
+from .plans import Sheet
+from .positions import FilePath, Position, require_position
+from .progress import Bar, Follower, Listener
 from .reports import Report
+from .values import as_field, cut, require_range, shorten
 
-FilePath = str | os.PathLike[str]
-"""A file's name."""
+BLOCKS = 40
+"""The blocks of games of a match, from whose means its standard error is made."""
 
-_BESIDE = Path(__file__).resolve().parents[2] / "crates" / "dosolve" / "out" / "dosolve"
-_FAILURES = {6: "its standard input failed", 7: "its standard output failed", 8: "it ran out of memory"}
+_REPOSITORY = Path(__file__).resolve().parents[2]
+_BESIDE = _REPOSITORY / "crates" / "dosolve" / "out" / "dosolve"
+_FAILURES = {6: "its standard input failed", 7: "its standard output failed",
+             8: "it ran out of memory"}
+_FIRST_TURNS, _MORE_TURNS = 256, 8
 
 
 def find_program(program: FilePath | None = None) -> str:
-    """The program's file: the one that is handed in, else that of the environment variable DOSOLVE, else the one built beside
-    this package in its repository, else `dosolve` on the path."""
+    """The program's file: the one that is handed in, else that of the environment variable
+    DOSOLVE, else the one built beside this package in its repository, else `dosolve` on the
+    path."""
     named = program or os.environ.get("DOSOLVE")
     if named:
         found = shutil.which(os.fspath(named))
         if found is None:
-            raise ProgramMissing(f"{os.fspath(named)} is no program that can be run")
+            raise ProgramMissingError(f"{os.fspath(named)} is no program that can be run")
         return found
     found = shutil.which(str(_BESIDE)) or shutil.which("dosolve")
     if found is None:
-        raise ProgramMissing(f"dosolve was not found: build {_BESIDE}, or name the program in the variable DOSOLVE")
+        built = f"build {_BESIDE}, " if (_REPOSITORY / "crates").is_dir() else ""
+        raise ProgramMissingError(f"dosolve was not found: {built}put it on the path, or name the "
+                                  f"program in the variable DOSOLVE")
     return found
 
 
@@ -49,8 +67,8 @@ class Accepted:
 
 @dataclass(frozen=True)
 class WorstCase:
-    """The worst that any plan of the other player does to a plan: at least `low` and at most `high` millionths, exact where
-    these are equal."""
+    """The worst that any plan of the other player does to a plan: at least `low` and at most
+    `high` millionths, exact where these are equal."""
 
     side: Side
     low: Fraction
@@ -66,6 +84,11 @@ class WorstCase:
         """What the plan guarantees, in whole millionths: rounded down for One and up for Two."""
         return math.floor(self.low) if self.side == "one" else math.ceil(self.high)
 
+    @property
+    def payoff(self) -> Fraction:
+        """What the plan guarantees, as a payoff, exactly where that is known."""
+        return (self.low if self.side == "one" else self.high) / SCALE
+
 
 @dataclass(frozen=True)
 class Turn:
@@ -78,8 +101,12 @@ class Turn:
 
 @dataclass(frozen=True)
 class Match:
-    """Games between two plans: the turns and the payoff of the first, and of all games their number, the sum of payoffs, the
-    least and the greatest. Payoffs are whole, and One's."""
+    """Games between two plans: the turns and the payoff of the first, and of all games their
+    number, the sum of payoffs, the least and the greatest. Payoffs are whole, and One's.
+
+    `error` is the standard error of the mean, None where the games came of one seed: `match` has
+    it, `play` has not.
+    """
 
     turns: tuple[Turn, ...]
     payoff: int
@@ -87,6 +114,7 @@ class Match:
     sum: int
     least: int
     most: int
+    error: float | None = None
 
     @property
     def mean(self) -> Fraction:
@@ -94,83 +122,292 @@ class Match:
         return Fraction(self.sum, self.games)
 
 
-def solve(position: Position, program: FilePath | None = None, timeout: float | None = None) -> Report:
-    """The program's report on a position, whatever its outcome; `timeout` is in seconds, here and in the other calls."""
-    return Report.read(_answer(["solve"], position.text(), {0, 3, 4, 5}, program, timeout))
+@dataclass(frozen=True)
+class Solver:
+    """The program with a limit of seconds for each call, both of which may be left out.
+
+    The functions of the same names are its methods with the program that `find_program` finds.
+    """
+
+    program: FilePath | None = None
+    timeout: float | None = None
+
+    def solve(self, position: Position, seconds: float | None = None,
+              progress: Listener | bool = False) -> Report:
+        """The program's report on a position, whatever its outcome.
+
+        With `seconds`, the search is run with growing turns, none at first, and the best report is
+        handed back when time is up, or at Ctrl-C; each report is complete. `math.inf` goes on
+        until the search ends by itself. `progress` is a function that is called with each step
+        (`Progress`) about once a second, or True for a line on the terminal.
+        """
+        require_position(position, "solve")
+        bar = Bar(most=position.turns if position.turns < 10**9 else None)
+        listener = bar if progress is True else progress or None
+        try:
+            if seconds is None:
+                return self._solved(position, listener, self.timeout)
+            return self._solve_within(position, seconds, listener)
+        finally:
+            bar.close()
+
+    def _solve_within(self, position: Position, seconds: float,
+                      listener: Listener | None) -> Report:
+        if not isinstance(seconds, (int, float)) or not seconds >= 0:
+            raise InvalidError(f"seconds is {shorten(seconds)}, and has to be a number from 0")
+        since, turns = time.monotonic(), 0
+        one, two = (Sheet(position.game, side, position.weight) for side in SIDES)
+        best = Report.of(one, two, position.gap)
+        while True:
+            left = seconds - (time.monotonic() - since)
+            try:
+                if left <= 0:
+                    return best
+                found = self._solved(replace(position, turns=turns), listener,
+                                     None if math.isinf(left) else left, since, best)
+            except (ProgramTimeoutError, KeyboardInterrupt):
+                return best
+            if found.gap < best.gap or best.is_vacuous:
+                best = found
+            more = turns == 0 or "turns" in found.used_up
+            if not more or found.gap <= position.gap or turns == position.turns:
+                return best
+            turns = min(max(_FIRST_TURNS, _MORE_TURNS * turns), position.turns)
+
+    def _solved(self, position: Position, listener: Listener | None, timeout: float | None,
+                since: float | None = None, best: Report | None = None) -> Report:
+        """The report of one run of the program."""
+        follower = None
+        if listener is not None:
+            bounds = (best.lower, best.upper) if best else (None, None)
+            follower = Follower(listener, since, bounds)
+        text = self._answer(["solve"], position.text(), {0, 3, 4, 5}, follower, timeout)
+        try:
+            return Report.read(text)
+        except ReportRefusedError as refusal:
+            raise self._unexpected(f"no report ({refusal.text})", text) from None
+
+    def check(self, report: Report | bytes | str) -> Accepted:
+        """What `check` says of a right report; any other is refused with the first fault. Takes
+        any bytes too."""
+        text = self._answer(["check"], report, {0})
+        found = self._matched(r"accepted (-?\d+) (-?\d+) (\w+)\n", text)
+        return Accepted(int(found[1]), int(found[2]), found[3])
+
+    def bounds(self, position: Position) -> tuple[int, int]:
+        """The lower and the upper bound by pure plans that are disclosed before the other player
+        replies, in millionths."""
+        require_position(position, "bounds")
+        text = self._answer(["bounds"], position.text(), {0})
+        found = self._matched(r"lower (-?\d+)\nupper (-?\d+)\n", text)
+        return int(found[1]), int(found[2])
+
+    def exploit(self, report: Report | bytes | str, side: Side) -> WorstCase:
+        """The worst case of a side's plan in a report, which need not be right: what One gets
+        against the other side's best response."""
+        text = self._answer(["exploit", side_of(side)], report, {0})
+        found = self._matched(rf"exploit {side} (?:exact (-?\d+) (\d+) (\d+)|"
+                              rf"between (-?\d+) (-?\d+))\n", text)
+        if found[1] is not None:
+            exact = Fraction(SCALE * int(found[1]), int(found[2]) ** int(found[3]))
+            return WorstCase(side, exact, exact)
+        return WorstCase(side, Fraction(int(found[4])), Fraction(int(found[5])))
+
+    def play(self, report: Report | bytes | str, games: int = 1000, seed: int = 0) -> Match:
+        """Games (1 to 100000) between both plans of a report; one seed (0 to 2^64 - 1) makes the
+        same games again. Games of seeds that are near each other are alike: `match` takes seeds
+        that are far apart, and gives the error."""
+        games, seed = as_field(games), as_field(seed)
+        require_range("games", games, 1, MOST_GAMES)
+        require_range("seed", seed, 0, MOST_SEED)
+        text = self._answer(["play", str(games), str(seed)], report, {0})
+        found = self._matched(r"((?:turn \d+ \d+ \d+\n)*)payoff (-?\d+)\n"
+                              r"games (\d+) sum (-?\d+) least (-?\d+) most (-?\d+)\n", text)
+        turns = tuple(Turn(*map(int, line.split(" ")[1:])) for line in found[1].splitlines())
+        return Match(turns, *map(int, found.groups()[1:]))
+
+    def match(self, report: Report | bytes | str, games: int = 1000, seed: int = 0) -> Match:
+        """Games between both plans of a report, with the standard error of their mean: blocks of
+        games, each of a seed that a hash makes of `seed` and the block's number."""
+        games, seed = as_field(games), as_field(seed)
+        require_range("games", games, 2, BLOCKS * MOST_GAMES)
+        require_range("seed", seed, 0, MOST_SEED)
+        blocks = min(BLOCKS, games)
+        sizes = [games // blocks + (block < games % blocks) for block in range(blocks)]
+        found = [self.play(report, size, _hashed(seed, block)) for block, size in enumerate(sizes)]
+        whole = sum(match.sum for match in found)
+        mean = whole / games
+        spread = sum(match.games * (float(match.mean) - mean)**2 for match in found)
+        return Match(found[0].turns, found[0].payoff, games, whole,
+                     min(match.least for match in found), max(match.most for match in found),
+                     math.sqrt(spread / (blocks - 1) / games))
+
+    def best_response(self, report: Report, side: Side) -> BestResponse:
+        """The side's best response to the other side's plan in a report, as a plan, with what One
+        then gets exactly. It is checked against what `exploit` says of the other side's plan."""
+        found = respond(report.sheet(other(side_of(side))))
+        worst = self.exploit(report, other(side))
+        if not worst.low <= found.value * SCALE <= worst.high:
+            raise ProgramFailedError(f"exploit says {worst.low} to {worst.high} millionths, and "
+                                     f"the best response gets {found.value * SCALE}")
+        return found
+
+    def nash_conv(self, report: Report) -> Fraction:
+        """How much both sides together could gain by best responses to the plans of a report, as a
+        payoff: 0 where they are an equilibrium. Exact where `exploit` is, else at most that."""
+        return self.exploit(report, "two").payoff - self.exploit(report, "one").payoff
+
+    def expected(self, report: Report) -> Fraction:
+        """The exact expected payoff of One between both plans of a report."""
+        return expected_of(report.one, report.two)
+
+    def _answer(self, words: list[str], given: Report | bytes | str, good: set[int],
+                follower: Follower | None = None, timeout: float | None = None) -> str:
+        """What the program prints with one of the good statuses; every other answer is an
+        exception."""
+        text = given.text() if isinstance(given, Report) else given
+        if not isinstance(text, (bytes, str)):
+            raise InvalidError(f"{words[0]} takes a Report or its text, not {shorten(given)}")
+        data = text.encode() if isinstance(text, str) else text
+        status, answer, told = _run([find_program(self.program), *words], data, follower,
+                                    self.timeout if timeout is None else timeout)
+        if status in good:
+            return answer
+        raise self._refusal(words, data, status, answer.removesuffix("\n"), told)
+
+    def _refusal(self, words: list[str], given: bytes, status: int, text: str,
+                 told: str) -> DosolveError:
+        if status == 2 and text.startswith("input "):
+            if text == "input 13 unknown field" and b'"stages":' in given:
+                return InputRefusedError(text, "the program is older than this package, and has no "
+                                               "field `stages`: ask stages='regret'")
+            return InputRefusedError(text)
+        if status == 9 and text.startswith(("report ", "refused ")):
+            return ReportRefusedError(text)
+        if status in (4, 5) and re.fullmatch(r"visits spent \w+|board full|states full", text):
+            return LimitReachedError(text)
+        if status == 1 and text.startswith("usage: dosolve "):
+            return ProgramFailedError(f"the program does not know {' '.join(words)}: {text}",
+                                      status)
+        if status in _FAILURES:
+            why = _FAILURES[status]
+        else:
+            why = f"{find_program(self.program)} is not dosolve, or failed: status {status}"
+        shown = cut(told or text, 200)
+        return ProgramFailedError(f"{' '.join(words)}: {why}{': ' if shown else ''}{shown}", status)
+
+    def _matched(self, pattern: str, text: str) -> re.Match[str]:
+        found = re.fullmatch(pattern, text)
+        if found is None:
+            raise self._unexpected("no answer of dosolve", text)
+        return found
+
+    def _unexpected(self, what: str, text: str) -> ProgramFailedError:
+        shown = f": {text[:200]!r}" if text else ", nothing at all"
+        return ProgramFailedError(f"{find_program(self.program)} gave {what}{shown}; is it "
+                                  f"dosolve?", 0)
 
 
-def check(report: Report | bytes, program: FilePath | None = None, timeout: float | None = None) -> Accepted:
-    """What `check` says of a right report; any other is refused with the first fault. Takes any bytes too."""
-    text = _answer(["check"], report, {0}, program, timeout)
-    found = re.fullmatch(r"accepted (-?\d+) (-?\d+) (\w+)\n", text)
-    if found is None:
-        raise _unexpected(text)
-    return Accepted(int(found[1]), int(found[2]), found[3])
+def _hashed(seed: int, block: int) -> int:
+    """A seed for a block of games, far from those of other blocks and seeds."""
+    digest = hashlib.sha256(f"dosolve match {seed} {block}".encode()).digest()
+    return int.from_bytes(digest[:8], "big")
 
 
-def bounds(position: Position, program: FilePath | None = None, timeout: float | None = None) -> tuple[int, int]:
-    """The lower and the upper bound by pure plans that are disclosed before the other player replies, in millionths."""
-    text = _answer(["bounds"], position.text(), {0}, program, timeout)
-    found = re.fullmatch(r"lower (-?\d+)\nupper (-?\d+)\n", text)
-    if found is None:
-        raise _unexpected(text)
-    return int(found[1]), int(found[2])
+def _run(words: Sequence[str], data: bytes, follower: Follower | None,
+         timeout: float | None) -> tuple[int, str, str]:
+    """The status, the answer and what the program printed on standard error.
 
-
-def exploit(report: Report | bytes, side: Side, program: FilePath | None = None, timeout: float | None = None) -> WorstCase:
-    """The worst case of a side's plan in a report, which need not be right."""
-    text = _answer(["exploit", side_of(side)], report, {0}, program, timeout)
-    found = re.fullmatch(rf"exploit {side} (?:exact (-?\d+) (\d+) (\d+)|between (-?\d+) (-?\d+))\n", text)
-    if found is None:
-        raise _unexpected(text)
-    if found[1] is not None:
-        exact = Fraction(SCALE * int(found[1]), int(found[2]) ** int(found[3]))
-        return WorstCase(side, exact, exact)
-    return WorstCase(side, Fraction(int(found[4])), Fraction(int(found[5])))
-
-
-def play(report: Report | bytes, games: int, seed: int, program: FilePath | None = None, timeout: float | None = None) -> Match:
-    """Games (1 to 100000) between both plans of a report; one seed (0 to 2^64 - 1) makes the same games again."""
-    require_range("games", games, 1, 100_000)
-    require_range("seed", seed, 0, 2**64 - 1)
-    text = _answer(["play", str(games), str(seed)], report, {0}, program, timeout)
-    found = re.fullmatch(r"((?:turn \d+ \d+ \d+\n)*)payoff (-?\d+)\ngames (\d+) sum (-?\d+) least (-?\d+) most (-?\d+)\n", text)
-    if found is None:
-        raise _unexpected(text)
-    turns = tuple(Turn(*map(int, line.split(" ")[1:])) for line in found[1].splitlines())
-    return Match(turns, *map(int, found.groups()[1:]))
-
-
-def _answer(words: list[str], given: Report | bytes | str, good: set[int], program: FilePath | None, timeout: float | None) -> str:
-    """What the program prints with one of the good statuses; every other answer is an exception."""
-    text = given.text() if isinstance(given, Report) else given
-    data = text.encode() if isinstance(text, str) else text
-    # With DOSOLVE_PROGRESS set, standard error has what the program tells meanwhile, and is left to go where this process's goes.
-    told = None if "DOSOLVE_PROGRESS" in os.environ else subprocess.PIPE
+    Without a follower, and with DOSOLVE_PROGRESS set, standard error goes where this process's
+    goes. The program is ended with the call, whatever ends it.
+    """
+    told: list[str] = []
+    passed = follower is None and "DOSOLVE_PROGRESS" in os.environ
+    environment = os.environ | {"DOSOLVE_PROGRESS": "1"} if follower else None
     try:
-        run = subprocess.run([find_program(program), *words], input=data, stdout=subprocess.PIPE, stderr=told, timeout=timeout,
-                             check=False)
+        process = subprocess.Popen(words, stdin=subprocess.PIPE, stdout=subprocess.PIPE,
+                                   stderr=None if passed else subprocess.PIPE, env=environment)
     except OSError as fault:
-        raise ProgramMissing(f"{find_program(program)} cannot be run: {fault}") from fault
-    except subprocess.TimeoutExpired:
-        raise ProgramFailed(f"{' '.join(words)} took more than {timeout} seconds") from None
-    answer = run.stdout.decode("utf-8", "replace")
-    if run.returncode in good:
-        return answer
-    raise _refusal(words, run.returncode, answer.removesuffix("\n"), (run.stderr or b"").decode("utf-8", "replace").strip())
+        raise ProgramMissingError(f"{words[0]} cannot be run: {fault}") from fault
+    with process:
+        errors = process.stderr
+        process.stderr = None
+        listening = threading.Thread(target=_listen, args=(errors, follower, told), daemon=True)
+        listening.start()
+        try:
+            answer, _ = process.communicate(data, timeout)
+        except subprocess.TimeoutExpired:
+            raise ProgramTimeoutError(f"{' '.join(words[1:])} took more than {timeout} "
+                                      f"seconds") from None
+        finally:
+            if process.poll() is None:
+                process.kill()
+                process.wait()
+            listening.join(1)
+    return process.returncode, answer.decode("utf-8", "replace"), "\n".join(told)
 
 
-def _refusal(words: list[str], status: int, text: str, told: str) -> DosolveError:
-    if status == 2:
-        return InputRefused(text)
-    if status == 9:
-        return ReportRefused(text)
-    if status in (4, 5):
-        return LimitReached(text)
-    if status == 1:
-        return ProgramFailed(f"the program does not know {' '.join(words)}: {text}", status)
-    return ProgramFailed(f"{' '.join(words)}: {_FAILURES.get(status, f'status {status}')}{': ' if told else ''}{told}", status)
+def _listen(errors: Any, follower: Follower | None, told: list[str]) -> None:
+    """Reads standard error to its end, and keeps what is no progress."""
+    if errors is None:
+        return
+    with errors:
+        for line in errors:
+            text = line.decode("utf-8", "replace").rstrip()
+            if follower is None or not follower.hear(text):
+                told.append(text)
 
 
-def _unexpected(text: str) -> ProgramFailed:
-    return ProgramFailed(f"the program's answer is none that is known: {text[:200]!r}", 0)
+def solve(position: Position, program: FilePath | None = None, timeout: float | None = None,
+          seconds: float | None = None, progress: Listener | bool = False) -> Report:
+    """The program's report on a position, whatever its outcome; see `Solver.solve`."""
+    return Solver(program, timeout).solve(position, seconds, progress)
+
+
+def check(report: Report | bytes | str, program: FilePath | None = None,
+          timeout: float | None = None) -> Accepted:
+    """What `check` says of a right report; any other is refused with the first fault."""
+    return Solver(program, timeout).check(report)
+
+
+def bounds(position: Position, program: FilePath | None = None,
+           timeout: float | None = None) -> tuple[int, int]:
+    """The lower and the upper bound by pure plans that are disclosed before the other player
+    replies, in millionths."""
+    return Solver(program, timeout).bounds(position)
+
+
+def exploit(report: Report | bytes | str, side: Side, program: FilePath | None = None,
+            timeout: float | None = None) -> WorstCase:
+    """The worst case of a side's plan in a report: what One gets against the other side's best
+    response."""
+    return Solver(program, timeout).exploit(report, side)
+
+
+def play(report: Report | bytes | str, games: int = 1000, seed: int = 0,
+         program: FilePath | None = None, timeout: float | None = None) -> Match:
+    """Games between both plans of a report, all of one seed; see `Solver.play`."""
+    return Solver(program, timeout).play(report, games, seed)
+
+
+def match(report: Report | bytes | str, games: int = 1000, seed: int = 0,
+          program: FilePath | None = None, timeout: float | None = None) -> Match:
+    """Games between both plans of a report, with the standard error of their mean."""
+    return Solver(program, timeout).match(report, games, seed)
+
+
+def best_response(report: Report, side: Side, program: FilePath | None = None,
+                  timeout: float | None = None) -> BestResponse:
+    """The side's best response to the other side's plan in a report, as a plan."""
+    return Solver(program, timeout).best_response(report, side)
+
+
+def nash_conv(report: Report, program: FilePath | None = None,
+              timeout: float | None = None) -> Fraction:
+    """How much both sides together could gain by best responses to the plans of a report."""
+    return Solver(program, timeout).nash_conv(report)
+
+
+def expected(report: Report) -> Fraction:
+    """The exact expected payoff of One between both plans of a report."""
+    return expected_of(report.one, report.two)

@@ -1,17 +1,21 @@
 """Pursuit and evasion on an undirected graph: One chases Two for a limited number of rounds."""
 from __future__ import annotations
 
-from dataclasses import dataclass
+from collections.abc import Iterable, Sequence
+from dataclasses import dataclass, field
 from functools import cached_property
+from typing import Any
 
-from .game import Field, Game, Side, State, packed
+from .game import Field, Game, Side, State, packed, unpacked
+from .limits import MOST_NODES, MOST_ROUNDS
+from .values import as_field
 
 
 @dataclass(frozen=True)
 class PursuitState(State):
     """A state of the pursuit: whether Two is caught, the rounds left, and the nodes of both."""
 
-    game: Pursuit
+    game: Pursuit = field(repr=False)
     caught: bool
     rounds: int
     one: int
@@ -42,37 +46,63 @@ class PursuitState(State):
 
 @dataclass(frozen=True)
 class Pursuit(Game):
-    """The nodes (1 to 32), the edges as pairs of nodes one after the other, the nodes of both players, and the rounds (0 to
-    31)."""
+    """The nodes (1 to 32), the edges, the nodes of both players, and the rounds (0 to 31).
+
+    Edges are pairs of nodes, or the nodes of all pairs one after the other, as positions have
+    them: `[(0, 1), (1, 2)]` or `[0, 1, 1, 2]`.
+    """
 
     name = "pursuit"
     version = 2
-    settings = (Field("nodes"), Field("edges", most=1024), Field("one"), Field("two"), Field("rounds"))
+    settings = (
+        Field("nodes"),
+        Field("edges", most=1024, about="both nodes of each edge, one edge after the other"),
+        Field("one"), Field("two"), Field("rounds"),
+    )
     nodes: int
-    edges: tuple[int, ...]
+    edges: Sequence[int] | Iterable[tuple[int, int]]
     one: int
     two: int
     rounds: int
 
-    def _fault(self) -> str | None:
-        if not 1 <= self.nodes <= 32:
-            return "71 nodes range"
-        if len(self.edges) % 2:
-            return "72 edge odd"
-        for place, node in enumerate(self.edges):
+    def __post_init__(self) -> None:
+        edges = as_field(self.edges)
+        if isinstance(edges, tuple) and edges and all(map(_is_pair, edges)):
+            edges = tuple(node for pair in edges for node in pair)
+        object.__setattr__(self, "edges", edges)
+        super().__post_init__()
+
+    @property
+    def _ends(self) -> tuple[int, ...]:
+        """The nodes of all edges, one after the other."""
+        return self.edges  # type: ignore[return-value]
+
+    def _fault(self) -> tuple[str, str] | None:
+        ends = self._ends
+        if not 1 <= self.nodes <= MOST_NODES:
+            return "71 nodes range", f"{self.nodes} nodes have to be from 1 to {MOST_NODES}"
+        if len(ends) % 2:
+            return "72 edge odd", f"{len(ends)} nodes of edges are no pairs"
+        for place, node in enumerate(ends):
             if node >= self.nodes:
-                return f"73 edge range {place}"
-        for place in range(0, len(self.edges), 2):
-            if self.edges[place] == self.edges[place + 1]:
-                return f"74 edge loop {place}"
+                return (f"73 edge range {place}", f"the node {node} at place {place} (from 0) of "
+                        f"the edges has to be from 0 to {self.nodes - 1}")
+        for place in range(0, len(ends), 2):
+            if ends[place] == ends[place + 1]:
+                return (f"74 edge loop {place}",
+                        f"the edge at place {place} (from 0) joins {ends[place]} with itself")
         if self.one >= self.nodes or self.two >= self.nodes:
-            return f"75 place range {'one' if self.one >= self.nodes else 'two'}"
-        return "76 rounds range" if self.rounds > 31 else None
+            side, node = ("one", self.one) if self.one >= self.nodes else ("two", self.two)
+            return (f"75 place range {side}",
+                    f"{side} stands on {node}, and nodes are from 0 to {self.nodes - 1}")
+        if self.rounds > MOST_ROUNDS:
+            return "76 rounds range", f"{self.rounds} rounds have to be from 0 to {MOST_ROUNDS}"
+        return None
 
     @property
     def pairs(self) -> frozenset[tuple[int, int]]:
         """The edges, each once, the lesser node first."""
-        ends = zip(self.edges[::2], self.edges[1::2])
+        ends = zip(self._ends[::2], self._ends[1::2])
         return frozenset((min(edge), max(edge)) for edge in ends)
 
     @cached_property
@@ -88,5 +118,18 @@ class Pursuit(Game):
     def most_moves(self) -> int:
         return max(map(len, self.near))
 
+    @property
+    def most_states(self) -> int:
+        return self.nodes * self.nodes * self.rounds
+
     def root(self) -> PursuitState:
         return PursuitState(self, self.one == self.two, self.rounds, self.one, self.two)
+
+    def _unpacked(self, key: int) -> State | None:
+        caught, rounds, one, two = unpacked(key, 1, 5, 5, 5)
+        known = rounds <= self.rounds and max(one, two) < self.nodes
+        return PursuitState(self, bool(caught), rounds, one, two) if known else None
+
+
+def _is_pair(value: Any) -> bool:
+    return isinstance(value, tuple) and len(value) == 2

@@ -1,37 +1,44 @@
 """Reports: read and written byte by byte as the program does, and made from two plans."""
 from __future__ import annotations
 
+import html
 import re
-from collections.abc import Iterator
+from collections.abc import Iterator, Sequence
 from dataclasses import dataclass
+from pathlib import Path
 from typing import Any
 
-from .errors import InputRefused, Invalid, ReportRefused
-from .game import Game, Side
-from .plans import MOST_BOUND, MOST_ROWS, Row, Sheet, require_range
-from .positions import GAMES
+from .errors import InputRefusedError, InvalidError, ReportRefusedError
+from .game import SCALE, SIDES, Game, Side
+from .limits import (
+    LEAST_WEIGHT, MOST_BOUND, MOST_GAP, MOST_KEY, MOST_REPORT_BYTES, MOST_RESOLUTION, MOST_ROWS,
+    MOST_TURNS, MOST_WEIGHT, MOST_WORKERS,
+)
+from .plans import Row, Sheet
+from .positions import GAMES, FilePath, looks_like_path
+from .values import as_points, cut, require_range, shorten
 
 OUTCOMES = ("closed", "settled", "spent", "full")
 
-MOST_BYTES = 1_073_741_824
-"""How long a report can be."""
-
-_MOST_TURNS = 1_099_511_627_776
-_MOST_ASKED = 8_000_000_000
-_MOST_RESOLUTION = 99_999_999_999
 _HEADS = {b"dosolve report %d\n" % version: version for version in (1, 2)}
 _NUMBER = re.compile(rb"0|-?[1-9][0-9]*")
 
 
 def outcome_of(gap: int, asked: int, resolution: int) -> str:
-    """The outcome of these numbers, in millionths; `spent` where the gap is wider than both others."""
+    """The outcome of these numbers, in millionths; `spent` where the gap is wider than both
+    others."""
     return "closed" if gap <= asked else "settled" if gap <= resolution else "spent"
 
 
-@dataclass(frozen=True)
+@dataclass(frozen=True, repr=False)
 class Report:
-    """A report: the game, what its rows sum to, the turns that each worker had, the gap asked, the resolution, the outcome, both
-    bounds, each worker's spent turns, and both plans. Gaps, bounds and the resolution are millionths of a payoff.
+    """A report: the game, what its rows sum to, the turns that each worker had, the gap asked, the
+    resolution, the outcome, both bounds, each worker's spent turns, and both plans. Gaps, bounds
+    and the resolution are millionths of a payoff.
+
+    The outcome says how wide the gap is, not how the search ended: `closed` is at most the gap
+    asked, `settled` at most the resolution, which can be wider than all payoffs. `notes()` and
+    `is_vacuous` say what the numbers are worth.
     """
 
     game: Game
@@ -42,67 +49,169 @@ class Report:
     outcome: str
     lower: int
     upper: int
-    spent: tuple[int, ...]
+    spent: Sequence[int]
     one: Sheet
     two: Sheet
 
     def __post_init__(self) -> None:
         object.__setattr__(self, "spent", tuple(self.spent))
-        require_range("weight", self.weight, 8192, 1_048_576)
-        require_range("turns", self.turns, 0, _MOST_TURNS)
-        require_range("asked", self.asked, 0, _MOST_ASKED)
-        require_range("resolution", self.resolution, 0, _MOST_RESOLUTION)
+        require_range("weight", self.weight, LEAST_WEIGHT, MOST_WEIGHT)
+        require_range("turns", self.turns, 0, MOST_TURNS)
+        require_range("asked", self.asked, 0, MOST_GAP)
+        require_range("resolution", self.resolution, 0, MOST_RESOLUTION)
         require_range("lower", self.lower, -MOST_BOUND, MOST_BOUND)
         require_range("upper", self.upper, -MOST_BOUND, MOST_BOUND)
         if self.outcome not in OUTCOMES:
-            raise Invalid(f"outcome is {self.outcome!r}, and has to be one of {', '.join(OUTCOMES)}")
-        if not 1 <= len(self.spent) <= 16:
-            raise Invalid(f"spent has {len(self.spent)} numbers, and has to have one for each of 1 to 16 workers")
+            raise InvalidError(f"outcome is {self.outcome!r}, and has to be one of "
+                               f"{', '.join(OUTCOMES)}")
+        if not 1 <= len(self.spent) <= MOST_WORKERS:
+            raise InvalidError(f"spent has {len(self.spent)} numbers, and has to have one for each "
+                               f"of 1 to {MOST_WORKERS} workers")
         for worker, turns in enumerate(self.spent):
-            require_range(f"spent of worker {worker}", turns, 0, _MOST_TURNS)
+            require_range(f"spent of worker {worker}", turns, 0, MOST_TURNS)
         for side, sheet in (("one", self.one), ("two", self.two)):
             if (sheet.game, sheet.side, sheet.total) != (self.game, side, self.weight):
-                raise Invalid(f"the sheet {side} is of another game, side or weight: {sheet.game.line()}, {sheet.side}, "
-                              f"{sheet.total}")
+                raise InvalidError(f"the sheet {side} is of another game, side or weight: "
+                                   f"{sheet.game.line()}, {sheet.side}, {sheet.total}")
 
     @property
     def gap(self) -> int:
         """The upper bound less the lower one, in millionths."""
         return self.upper - self.lower
 
+    @property
+    def span(self) -> int:
+        """The greatest payoff of the game less the least, in millionths."""
+        return (self.game.high - self.game.low) * SCALE
+
+    @property
+    def closeness(self) -> str:
+        """How the gap is beside the one asked, in words: `closed`, or what was asked."""
+        return "closed" if self.gap <= self.asked else f"asked {as_points(self.asked)}"
+
+    @property
+    def is_vacuous(self) -> bool:
+        """Whether the bounds are no better than the range of payoffs, so that nothing is known."""
+        return self.gap >= self.span > 0
+
+    @property
+    def used_up(self) -> tuple[str, ...]:
+        """The budgets that were used up, as far as a report shows: `turns`, `rows`."""
+        turns = self.turns > 0 and all(spent >= self.turns for spent in self.spent)
+        found = (("turns", turns), ("rows", self.outcome == "full"))
+        return tuple(name for name, up in found if up)
+
+    def notes(self) -> tuple[str, ...]:
+        """What a reader of the bounds has to know, in sentences."""
+        found = []
+        if self.is_vacuous:
+            found.append("the bounds are no better than the range of payoffs: nothing is known yet")
+        if "turns" in self.used_up:
+            found.append("every worker used up its turns: more turns can narrow the gap")
+        if "rows" in self.used_up:
+            found.append("the board had no row left: more rows can narrow the gap")
+        if self.turns == 0 and self.gap > self.asked:
+            found.append("no turns were given, so no matrix game was solved")
+        return tuple(found)
+
+    def summary(self) -> str:
+        """A few lines that tell what was found, in payoffs, with notes."""
+        share = f" ({100 * self.gap / self.span:.3g}% of the range)" if self.span else ""
+        lines = [f"game   {cut(self.game.line(), 90)}",
+                 f"value  from {as_points(self.lower)} to {as_points(self.upper)}, payoff of One",
+                 f"gap    {as_points(self.gap)}{share}, {self.closeness}",
+                 f"turns  {sum(self.spent)} spent by {len(self.spent)} "
+                 f"worker{'s' if len(self.spent) > 1 else ''}"]
+        lines += [self._root_line(side) for side in SIDES if not self.game.root().is_end]
+        return "\n".join([*lines, *(f"note   {note}" for note in self.notes())]) + "\n"
+
+    def _root_line(self, side: Side) -> str:
+        """What a side plays at the root: the moves of most weight."""
+        sheet, root = self.sheet(side), self.game.root()
+        moves = sorted(zip(sheet.weights(root), root.names(side)), key=lambda move: -move[0])
+        shown = [f"{name} {100 * weight / sheet.total:.1f}%" for weight, name in moves if weight]
+        return f"{side}    {', '.join(shown[:8])}{', ..' if len(shown) > 8 else ''}"
+
+    def __repr__(self) -> str:
+        return (f"<Report on {cut(self.game.line(), 60)}: lower {as_points(self.lower)}, upper "
+                f"{as_points(self.upper)}, gap {as_points(self.gap)}, {self.closeness}>")
+
+    def __str__(self) -> str:
+        return self.summary().removesuffix("\n")
+
+    def _repr_html_(self) -> str:
+        """The summary as a table, for notebooks."""
+        rows = [line.split(None, 1) for line in self.summary().splitlines()]
+        cells = "".join(f"<tr><th>{html.escape(name)}</th><td>{html.escape(text)}</td></tr>"
+                        for name, text in rows)
+        return f"<table>{cells}</table>"
+
     def sheet(self, side: Side) -> Sheet:
         """The plan of a side."""
         return self.one if side == "one" else self.two
 
     def bound(self, side: Side) -> int:
-        """What the plan of a side guarantees: the lower bound for One, the upper for Two; millionths."""
+        """What the plan of a side guarantees: the lower bound for One, the upper for Two;
+        millionths."""
         return self.lower if side == "one" else self.upper
 
     def text(self) -> str:
         """The report's one spelling."""
-        lines = [f"dosolve report {self.game.version}", f"game {self.game.line()}", f"weight {self.weight}", f"turns {self.turns}",
-                 f"asked {self.asked}", f"resolution {self.resolution}", f"outcome {self.outcome}", f"lower {self.lower}",
+        lines = [f"dosolve report {self.game.version}", f"game {self.game.line()}",
+                 f"weight {self.weight}", f"turns {self.turns}", f"asked {self.asked}",
+                 f"resolution {self.resolution}", f"outcome {self.outcome}", f"lower {self.lower}",
                  f"upper {self.upper}", _spaced("spent", *self.spent)]
         for sheet in (self.one, self.two):
             lines.append(f"{sheet.side} {len(sheet.rows)}")
             lines += [_spaced(row.key, row.bound, *row.weights) for row in sheet.rows]
         return "\n".join([*lines, "end", ""])
 
+    def record(self) -> dict[str, Any]:
+        """The numbers of the report, without its plans, for JSON and tables; bounds, gaps and the
+        resolution are millionths."""
+        return {
+            "game": self.game.name,
+            "settings": {field.name: getattr(self.game, field.name)
+                         for field in self.game.settings},
+            "lower": self.lower, "upper": self.upper, "gap": self.gap, "asked": self.asked,
+            "resolution": self.resolution, "outcome": self.outcome, "weight": self.weight,
+            "turns": self.turns, "spent": list(self.spent), "is_vacuous": self.is_vacuous,
+            "used_up": list(self.used_up), "notes": list(self.notes()),
+            "rows": {side: len(self.sheet(side).rows) for side in SIDES},
+        }
+
     @classmethod
     def read(cls, data: bytes | str) -> Report:
-        """The report of a text. Refuses, with `check`'s text, what is no report and a position that the rules refuse; whether
-        the rows and numbers are right only `check` tells."""
+        """The report of a text; `load` reads a file. Refuses, with `check`'s text, what is no
+        report and a position that the rules refuse; whether the rows and numbers are right only
+        `check` says."""
+        if not isinstance(data, (bytes, str)):
+            raise InvalidError(f"read takes a text, not {shorten(data)}; load takes a path")
+        if looks_like_path(data):
+            hint = f"{shorten(data)} looks like the name of a file, which Report.load reads"
+            raise ReportRefusedError("report head", hint)
         encoded = data.encode("utf-8", "surrogatepass") if isinstance(data, str) else data
-        if len(encoded) > MOST_BYTES:
-            raise ReportRefused("report too long")
+        if len(encoded) > MOST_REPORT_BYTES:
+            raise ReportRefusedError("report too long")
         return _Reader(encoded).report()
 
     @classmethod
+    def load(cls, path: FilePath) -> Report:
+        """The report of a file."""
+        return cls.read(Path(path).read_bytes())
+
+    def save(self, path: FilePath) -> None:
+        """Writes the report into a file."""
+        Path(path).write_text(self.text())
+
+    @classmethod
     def of(cls, one: Sheet, two: Sheet, asked: int = 0) -> Report:
-        """The report of two plans in one game, as of a search that spent no turn; its bounds are those of the sheets."""
-        lower, upper, resolution = one.root_bound, two.root_bound, one.game.resolution(one.total)
-        return cls(one.game, one.total, 0, asked, resolution, outcome_of(upper - lower, asked, resolution), lower, upper, (0,),
-                   one, two)
+        """The report of two plans in one game, as of a search that spent no turn; its bounds are
+        those of the sheets."""
+        lower, upper = one.root_bound, two.root_bound
+        resolution = one.game.resolution(one.total)
+        outcome = outcome_of(upper - lower, asked, resolution)
+        return cls(one.game, one.total, 0, asked, resolution, outcome, lower, upper, (0,), one, two)
 
 
 def _spaced(*fields: object) -> str:
@@ -118,18 +227,23 @@ class _Line:
 
     def require(self, good: bool) -> None:
         if not good:
-            raise ReportRefused(f"report line {self.number}")
+            line = cut(b" ".join(self.fields).decode("utf-8", "replace"), 60)
+            raise ReportRefusedError(f"report line {self.number}", f"the line is {line!r}")
 
     def spelled(self, field: bytes, low: int, high: int) -> int:
         """The number of a field; one of more than 20 digits is in no range."""
         if not _NUMBER.fullmatch(field) or len(field) > 20 or not low <= int(field) <= high:
-            raise ReportRefused(f"report number {self.number}")
+            word = cut(field.decode("utf-8", "replace"), 30)
+            raise ReportRefusedError(f"report number {self.number}",
+                                     f"{word!r} has to be a number from {low} to {high}")
         return int(field)
 
     def listed(self, field: bytes, low: int, high: int, most: int) -> tuple[int, ...]:
-        numbers = () if field == b"-" else tuple(self.spelled(piece, low, high) for piece in field.split(b","))
+        pieces = [] if field == b"-" else field.split(b",")
+        numbers = tuple(self.spelled(piece, low, high) for piece in pieces)
         if len(numbers) > most:
-            raise ReportRefused(f"report number {self.number}")
+            raise ReportRefusedError(f"report number {self.number}",
+                                     f"the list has more than {most} numbers")
         return numbers
 
 
@@ -142,7 +256,7 @@ class _Reader:
     def line(self) -> _Line:
         end = self.data.find(b"\n", self.at)
         if end < 0:
-            raise ReportRefused("report short")
+            raise ReportRefusedError("report short", f"line {self.number + 1} does not end")
         self.number += 1
         fields = self.data[self.at:end].split(b" ")
         self.at = end + 1
@@ -160,12 +274,20 @@ class _Reader:
         line.require(line.fields[0] == b"game" and len(line.fields) == 7)
         kind = GAMES.get(line.fields[1].decode("ascii", "replace"))
         if kind is None or kind.version != version:
-            raise ReportRefused(f"report line {line.number}")
+            raise ReportRefusedError(f"report line {line.number}",
+                                     f"version {version} has no such game")
         given = list(zip(kind.settings, line.fields[2:]))
         for field, word in given:
             line.require(not field.choices or word.decode("ascii", "replace") in field.choices)
-        return kind, [word.decode() if field.choices else line.spelled(word, field.low, field.high) if field.most is None
-                      else line.listed(word, field.low, field.high, field.most) for field, word in given]
+        settings: list[Any] = []
+        for field, word in given:
+            if field.choices:
+                settings.append(word.decode())
+            elif field.most is None:
+                settings.append(line.spelled(word, field.low, field.high))
+            else:
+                settings.append(line.listed(word, field.low, field.high, field.most))
+        return kind, settings
 
     def outcome(self) -> str:
         line = self.line()
@@ -175,39 +297,60 @@ class _Reader:
 
     def spent(self) -> tuple[int, ...]:
         line = self.line()
-        line.require(line.fields[0] == b"spent" and 2 <= len(line.fields) <= 17)
-        return tuple(line.spelled(field, 0, _MOST_TURNS) for field in line.fields[1:])
+        line.require(line.fields[0] == b"spent" and 2 <= len(line.fields) <= MOST_WORKERS + 1)
+        return tuple(line.spelled(field, 0, MOST_TURNS) for field in line.fields[1:])
 
     def rows(self, side: Side) -> Iterator[Row]:
         before = -1
         for _ in range(self.named(side, 0, MOST_ROWS)):
             line = self.line()
             line.require(3 <= len(line.fields) <= 34)
-            key, bound = line.spelled(line.fields[0], 0, 2**63 - 1), line.spelled(line.fields[1], -MOST_BOUND, MOST_BOUND)
-            weights = tuple(line.spelled(field, 0, 1_048_576) for field in line.fields[2:])
+            key = line.spelled(line.fields[0], 0, MOST_KEY)
+            bound = line.spelled(line.fields[1], -MOST_BOUND, MOST_BOUND)
+            weights = tuple(line.spelled(field, 0, MOST_WEIGHT) for field in line.fields[2:])
             if key <= before:
-                raise ReportRefused(f"report order {line.number}")
+                raise ReportRefusedError(f"report order {line.number}",
+                                         f"the key {key} has to be greater than {before}")
             before = key
             yield Row(key, bound, weights)
 
+    def head(self) -> int:
+        """The version of the report's form."""
+        for head, version in _HEADS.items():
+            if self.data.startswith(head):
+                self.line()
+                return version
+        raise ReportRefusedError("report head", _head_fault(self.data))
+
     def report(self) -> Report:
-        version = next((version for head, version in _HEADS.items() if self.data.startswith(head)), None)
-        if version is None:
-            raise ReportRefused("report head")
-        self.line()
+        version = self.head()
         kind, settings = self.game(version)
-        numbers = (self.named("weight", 8192, 1_048_576), self.named("turns", 0, _MOST_TURNS), self.named("asked", 0, _MOST_ASKED),
-                   self.named("resolution", 0, _MOST_RESOLUTION))
+        numbers = (self.named("weight", LEAST_WEIGHT, MOST_WEIGHT),
+                   self.named("turns", 0, MOST_TURNS), self.named("asked", 0, MOST_GAP),
+                   self.named("resolution", 0, MOST_RESOLUTION))
         outcome = self.outcome()
-        bounds = self.named("lower", -MOST_BOUND, MOST_BOUND), self.named("upper", -MOST_BOUND, MOST_BOUND)
+        bounds = (self.named("lower", -MOST_BOUND, MOST_BOUND),
+                  self.named("upper", -MOST_BOUND, MOST_BOUND))
         spent = self.spent()
         one, two = tuple(self.rows("one")), tuple(self.rows("two"))
         end = self.line()
         end.require(end.fields == [b"end"])
         if self.at < len(self.data):
-            raise ReportRefused("report tail")
+            raise ReportRefusedError("report tail", "something follows the line `end`")
         try:
             game = kind(*settings)
-        except InputRefused as refusal:
-            raise ReportRefused(f"report position {refusal.code}") from None
-        return Report(game, *numbers, outcome, *bounds, spent, Sheet(game, "one", numbers[0], one), Sheet(game, "two", numbers[0], two))
+        except InputRefusedError as refusal:
+            raise ReportRefusedError(f"report position {refusal.code}", refusal.hint) from None
+        sheets = (Sheet(game, "one", numbers[0], one), Sheet(game, "two", numbers[0], two))
+        return Report(game, *numbers, outcome, *bounds, spent, *sheets)
+
+
+def _head_fault(data: bytes) -> str:
+    """Why a text does not begin as a report does."""
+    if not data.strip():
+        return "the text is empty"
+    if data.startswith(b"dosolve report ") and b"\r\n" in data[:40]:
+        return "its lines end with CR LF; the program's end with LF alone"
+    if data.lstrip().startswith(b"{"):
+        return "this is a position, not a report; Position.read reads one"
+    return "a report begins with the line `dosolve report 1` or `dosolve report 2`"

@@ -39,6 +39,19 @@ def cases(command: str) -> list[tuple[str, bytes, bytes, int]]:
     return found
 
 
+def children(parent: int) -> list[int]:
+    """The numbers of a process's children."""
+    found = []
+    for status in Path("/proc").glob("[0-9]*/stat"):
+        try:
+            fields = status.read_text().rpartition(")")[2].split()
+        except OSError:
+            continue
+        if int(fields[1]) == parent:
+            found.append(int(status.parent.name))
+    return found
+
+
 def _goofspiel(kind: type[dosolve.Game], r: random.Random) -> dosolve.Game:
     cards = r.choice([1, 2, 3, 3, 4] if kind.chance_free else [1, 2, 3])
     hands = [r.sample(range(1, 14), cards) for _ in range(2)]

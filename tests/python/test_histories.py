@@ -28,7 +28,7 @@ def random_sheet(game, side, source):
     def choose(state):
         weights = [source.choice([0, 0, 1, 2, 7]) for _ in state.moves(side)]
         return weights if any(weights) else [1 for _ in weights]
-    return dosolve.plan(game, side, choose, source.choice([8192, 65536, 99991]))
+    return dosolve.plan(game, side, choose, source.choice([8192, 65536, 99991]), ask_again=0)
 
 
 class Histories(unittest.TestCase):
@@ -42,8 +42,7 @@ class Histories(unittest.TestCase):
 
     def one_history(self, game, source):
         one = random_sheet(game, "one", source)
-        two = dosolve.Sheet(game, "two", one.total, dosolve.plan(game, "two", lambda state: [
-            source.randint(1, 9) for _ in state.moves("two")], one.total).rows)
+        two = dosolve.plan(game, "two", lambda state: [source.randint(1, 9) for _ in state.moves("two")], one.total, ask_again=0)
         seed = source.randrange(2**64)
         match = dosolve.play(dosolve.Report.of(one, two), 1, seed)
         words, state = Words(seed), game.root()
@@ -66,12 +65,14 @@ class Histories(unittest.TestCase):
             source = random.Random(name)
             for number in range(40):
                 game = random_game(name, source)
-                report = dosolve.solve(dosolve.Position(game, source.choice([0, 100_000]), 8192, 50, 10_000, 50_000, 1))
+                report = dosolve.solve(dosolve.Position(game, source.choice([0, 100_000]), 8192, 50, 10_000, 50_000, 1, "regret"))
                 self.assertEqual((report.game, report.resolution), (game, game.resolution(8192)))
                 for sheet in (report.one, report.two):
                     with self.subTest(name, number=number, side=sheet.side):
                         states = self.reached(sheet)
                         self.assertLessEqual({row.key for row in sheet.rows}, states.keys())
+                        for key, state in states.items():
+                            self.assertEqual(game.state(key), state)
                         for row in sheet.rows:
                             self.assertEqual(sheet.weights(states[row.key]), row.weights)
                         rows += len(sheet.rows)
@@ -89,7 +90,8 @@ class Histories(unittest.TestCase):
             replies = len(state.moves(dosolve.other(sheet.side)))
             for move, weight in enumerate(sheet.weights(state)):
                 for reply in range(replies if weight else 0):
-                    waiting += [after for _, after in dosolve.plans.successors(state, sheet.side, move, reply)]
+                    pair = (move, reply) if sheet.side == "one" else (reply, move)
+                    waiting += [after for _, after in state.outcomes(*pair)]
         return found
 
     def test_the_program_accepts_the_bounds_of_made_plans(self):

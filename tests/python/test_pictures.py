@@ -1,4 +1,5 @@
-"""Pictures: no two texts overlap, nothing is cut off, both bounds can be read; without matplotlib there is a message."""
+"""Pictures: no two texts overlap, nothing is cut off, both bounds can be read; without matplotlib
+there is a message."""
 import random
 import sys
 import tempfile
@@ -9,6 +10,7 @@ from unittest import mock
 
 import dosolve
 from dosolve import pictures
+from dosolve.__main__ import main
 from support import TOP, random_game
 
 try:
@@ -16,7 +18,8 @@ try:
 except ImportError:
     matplotlib = None
 
-EXAMPLES = [TOP / "examples" / f"{name}.report" for name in ("goofspiel_mixed", "tron_corners", "oshi_zumo_mixed", "oshi_zumo_end")]
+NAMES = ("goofspiel_mixed", "tron_corners", "oshi_zumo_mixed", "oshi_zumo_end")
+EXAMPLES = [TOP / "examples" / f"{name}.report" for name in NAMES]
 EXAMPLES.append(TOP / "python" / "examples" / "pursuit_diagonals.report")
 
 
@@ -26,71 +29,123 @@ def made(game, source):
     for side, into in zip(dosolve.SIDES, rows):
         count = len(game.root().moves(side))
         if count:
-            into.append(dosolve.Row(game.root().key, 0, dosolve.whole_weights([source.choice([0, 1, 5, 300]) for _ in range(count - 1)] + [1],
-                                                                             count, 8192)))
-    return dosolve.Report.of(*(dosolve.Sheet(game, side, 8192, into) for side, into in zip(dosolve.SIDES, rows)))
+            chances = [source.choice([0, 1, 5, 300]) for _ in range(count - 1)] + [1]
+            weights = dosolve.whole_weights(chances, count, 8192)
+            into.append(dosolve.Row(game.root().key, 0, weights))
+    sheets = (dosolve.Sheet(game, side, 8192, into) for side, into in zip(dosolve.SIDES, rows))
+    return dosolve.Report.of(*sheets)
 
 
 @unittest.skipIf(matplotlib is None, "matplotlib is missing")
 class Pictures(unittest.TestCase):
-    def texts(self, report):
-        """Each text that the picture shows, with its box, drawn at the picture's own size."""
-        picture = pictures.figure(report)
+    def look(self, picture, *words):
+        """That no text is cut off or overlaps another, at the picture's own size, and that these
+        words stand there."""
         picture.canvas.draw()
         hidden = set()
         for axis in (axis for axes in picture.axes for axis in (axes.xaxis, axes.yaxis)):
             low, high = sorted(axis.get_view_interval())
-            hidden |= {label for tick in axis.get_major_ticks() if not low <= tick.get_loc() <= high for label in (tick.label1, tick.label2)}
-        texts = [text for text in picture.findobj(matplotlib.text.Text) if text not in hidden and text.get_visible()]
-        renderer = picture.canvas.get_renderer()
-        return picture.bbox, [(text.get_text(), text.get_window_extent(renderer)) for text in texts if text.get_text().strip()]
-
-    def look(self, report):
-        whole, shown = self.texts(report)
+            for tick in axis.get_major_ticks():
+                if not low <= tick.get_loc() <= high:
+                    hidden |= {tick.label1, tick.label2}
+        texts = [text for text in picture.findobj(matplotlib.text.Text)
+                 if text not in hidden and text.get_visible() and text.get_text().strip()]
+        renderer, whole = picture.canvas.get_renderer(), picture.bbox
+        shown = [(text.get_text(), text.get_window_extent(renderer)) for text in texts]
         for text, box in shown:
-            self.assertTrue(whole.x0 <= box.x0 and box.x1 <= whole.x1 and whole.y0 <= box.y0 and box.y1 <= whole.y1, f"{text!r} is cut off")
-        words = {text for text, _ in shown}
-        self.assertIn(f"lower {report.lower / dosolve.SCALE:.6f}", words)
-        self.assertIn(f"upper {report.upper / dosolve.SCALE:.6f}", words)
-        for side in dosolve.SIDES:
-            self.assertLessEqual(set(report.game.root().names(side)), words)
+            inside = (whole.x0 <= box.x0 and box.x1 <= whole.x1 and whole.y0 <= box.y0
+                      and box.y1 <= whole.y1)
+            self.assertTrue(inside, f"{text!r} is cut off")
+        self.assertLessEqual(set(words), {text for text, _ in shown})
         for (first, a), (second, b) in combinations(shown, 2):
             apart = a.x1 <= b.x0 or b.x1 <= a.x0 or a.y1 <= b.y0 or b.y1 <= a.y0
             self.assertTrue(apart, f"{first!r} and {second!r} overlap")
 
+    def look_at(self, report, **more):
+        words = [f"lower {report.lower / dosolve.SCALE:.6f}",
+                 f"upper {report.upper / dosolve.SCALE:.6f}"]
+        words += [name for side in dosolve.SIDES for name in report.game.root().names(side)]
+        self.look(pictures.figure(report, **more), *words)
+
     def test_examples(self):
         for file in EXAMPLES:
-            with self.subTest(file.stem):
-                self.look(dosolve.Report.read(file.read_bytes()))
+            report = dosolve.Report.load(file)
+            for more in ({}, {"zoom": True, "players": ("my player", "solver")}):
+                with self.subTest(file.stem, **more):
+                    self.look_at(report, **more)
 
     def test_wide_and_random_games(self):
         source = random.Random(2)
-        games = [dosolve.Goofspiel(list(range(1, 14)), list(range(13, 0, -1)), [100] * 13), dosolve.OshiZumo(8, 31, 31, 1),
-                 dosolve.Tron(6, 6, [7, 8], 14, 21), dosolve.Tron(1, 2, [], 0, 1), dosolve.Tron(3, 3, [], 3, 5),
+        games = [dosolve.Goofspiel(range(1, 14), range(13, 0, -1), [100] * 13),
+                 dosolve.OshiZumo(8, 31, 31, 1), dosolve.Tron(6, 6, [7, 8], 14, 21),
+                 dosolve.Tron(1, 2, [], 0, 1), dosolve.Tron(3, 3, [], 3, 5),
                  dosolve.Pursuit(1, [], 0, 0, 0), dosolve.Goofspiel([], [], [])]
         games += [random_game(name, source) for name in dosolve.GAMES for _ in range(2)]
         for game in games:
             with self.subTest(game.line()):
-                self.look(made(game, source))
+                self.look_at(made(game, source))
+
+    def test_other_states(self):
+        for file in EXAMPLES:
+            report = dosolve.Report.load(file)
+            for row in (*report.one.rows[:1], *report.two.rows[1:2]):
+                with self.subTest(file.stem, key=row.key):
+                    state = report.game.state(row.key)
+                    names = [name for side in dosolve.SIDES for name in state.names(side)]
+                    self.look(pictures.figure(report, row.key), *names)
+
+    def test_trees(self):
+        for file in EXAMPLES:
+            report = dosolve.Report.load(file)
+            for turns, most in ((1, 4), (2, 3), (3, 2)):
+                with self.subTest(file.stem, turns=turns):
+                    self.look(pictures.tree(report, turns, most))
+        with self.assertRaisesRegex(dosolve.InvalidError, "1 to 6 turns"):
+            pictures.tree(report, 0)
+
+    def test_bounds_over_time(self):
+        lines = [f"worker 0 turns {100 * at} seconds {at}" for at in range(1, 9)]
+        self.look(pictures.history(dosolve.read_progress(lines)), "Turns spent")
+        lines = [f"{line} lower {-10**6 // at} upper {10**6 // at} gap {2 * 10**6 // at}"
+                 for at, line in enumerate(lines, 1)]
+        self.look(pictures.history(dosolve.read_progress(lines)), "Gap", "lower bound")
+        with self.assertRaisesRegex(dosolve.InvalidError, "no lines of progress"):
+            pictures.history([])
 
     def test_one_report_gives_the_same_file(self):
-        report = dosolve.Report.read(EXAMPLES[0].read_bytes())
+        report = dosolve.Report.load(EXAMPLES[0])
         with tempfile.TemporaryDirectory() as folder:
             for end in ("svg", "png", "pdf"):
                 files = [Path(folder, f"{name}.{end}") for name in "ab"]
                 for file in files:
-                    dosolve.pictures.show(report, file)
+                    pictures.show(report, file)
                 self.assertEqual(files[0].read_bytes(), files[1].read_bytes())
                 self.assertGreater(files[0].stat().st_size, 3000)
             with self.assertRaisesRegex(dosolve.DosolveError, "has to end with"):
-                dosolve.pictures.show(report, Path(folder, "a.txt"))
+                pictures.show(report, Path(folder, "a.txt"))
+
+
+    def test_the_command_draws_each_of_them(self):
+        with tempfile.TemporaryDirectory() as folder:
+            lines = Path(folder, "lines")
+            lines.write_text("worker 0 turns 3 seconds 1 lower -5 upper 7 gap 12\n")
+            report = dosolve.Report.load(EXAMPLES[1])
+            for number, words in enumerate((
+                    (EXAMPLES[1], "--key", report.one.rows[0].key, "--zoom"),
+                    (EXAMPLES[0], "--tree", 2), (lines, "--progress"),
+                    (EXAMPLES[0], "--players", "my player", "solver"))):
+                output = Path(folder, f"{number}.svg")
+                self.assertEqual(main(["show", *map(str, words), "-o", str(output)]), 0)
+                self.assertGreater(output.stat().st_size, 3000)
 
 
 class Without(unittest.TestCase):
     def test_a_message_tells_what_to_install(self):
-        with mock.patch.dict(sys.modules, {"matplotlib": None, "matplotlib.figure": None, "matplotlib.backends.backend_agg": None}):
-            with self.assertRaisesRegex(dosolve.DosolveError, "python3-matplotlib"):
-                pictures.figure(dosolve.Report.read(EXAMPLES[0].read_bytes()))
+        modules = ("matplotlib", "matplotlib.figure", "matplotlib.backends.backend_agg")
+        with mock.patch.dict(sys.modules, dict.fromkeys(modules)):
+            for draw in (pictures.figure, pictures.tree):
+                with self.assertRaisesRegex(dosolve.DosolveError, "python3-matplotlib"):
+                    draw(dosolve.Report.load(EXAMPLES[0]))
 
 
 if __name__ == "__main__":

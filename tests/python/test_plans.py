@@ -6,6 +6,7 @@ from fractions import Fraction
 
 import dosolve
 from dosolve import Row, Sheet, whole_weights
+from support import games, random_game
 
 GAME = dosolve.Goofspiel([1, 3], [2, 3], [1, 1])
 ROOT = 335595772
@@ -93,6 +94,32 @@ class Sheets(unittest.TestCase):
 
 
 class States(unittest.TestCase):
+    def test_labels_and_numbers_are_told_apart(self):
+        root = GAME.root()
+        self.assertEqual(root.play(one=3, two=2), root.after(1, 0))
+        self.assertEqual((root.move("one", 3), root.move("two", 2)), (1, 0))
+        with self.assertRaisesRegex(dosolve.InvalidError, "has no move 2 in Goof.*moves are .1, 3."):
+            root.play(one=2, two=2)
+        with self.assertRaisesRegex(dosolve.InvalidError, r"no move number 3 in .* play\(one="):
+            root.after(3, 0)
+        with self.assertRaises(TypeError):
+            root.play(1, 2)
+
+    def test_keys_name_states(self):
+        source = random.Random(4)
+        for name in games():
+            for _ in range(4):
+                game = random_game(name, source)
+                states = list(game.states())
+                self.assertEqual(len({state.key for state in states}), len(states))
+                for state in states:
+                    self.assertEqual(game.state(state.key), state)
+                inner = sum(not state.is_end for state in states)
+                self.assertLessEqual(inner, game.most_states, game)
+                for key in (-1, 2**63, 2**62, 1.5, "x"):
+                    with self.assertRaisesRegex(dosolve.InvalidError, "has the key"):
+                        game.state(key)
+
     def test_moves_out_of_range_and_payoffs_too_early_are_refused(self):
         root = GAME.root()
         for call in (lambda: root.after(2, 0), lambda: root.after(-1, 0), lambda: root.after(0, 0, 1), lambda: root.payoff,

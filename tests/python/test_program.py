@@ -27,7 +27,7 @@ class Calls(unittest.TestCase):
                 else:
                     with self.assertRaises(dosolve.ReportRefused) as caught:
                         dosolve.check(given)
-                    self.assertEqual(str(caught.exception) + "\n", out.decode())
+                    self.assertEqual(caught.exception.text + "\n", out.decode())
 
     def test_bounds_gives_numbers_or_raises_what_stopped_it(self):
         for name, given, out, status in cases("bounds"):
@@ -60,7 +60,7 @@ class Calls(unittest.TestCase):
         match = dosolve.play(dosolve.Report.of(dosolve.Sheet(game, "one", 8192), dosolve.Sheet(game, "two", 8192)), 3, 0)
         self.assertEqual(match, dosolve.Match((dosolve.Turn(1, 1, 0), dosolve.Turn(1, 0, 0)), 1, 3, 3, 1, 1))
         self.assertEqual(match.mean, 1)
-        for games, seed in ((0, 0), (100_001, 0), (1, -1), (1, 2**64), (1.0, 0)):
+        for games, seed in ((0, 0), (100_001, 0), (1, -1), (1, 2**64), (1.5, 0)):
             with self.assertRaises(dosolve.Invalid):
                 dosolve.play(EXAMPLE, games, seed)
 
@@ -78,9 +78,9 @@ class Failures(unittest.TestCase):
     def test_each_status_is_an_exception(self):
         for script, kind, words in (("cat > /dev/null; exit 8", dosolve.ProgramFailed, "ran out of memory"),
                                     ("cat > /dev/null; exit 6", dosolve.ProgramFailed, "standard input failed"),
-                                    ("cat > /dev/null; echo 'usage: x'; exit 1", dosolve.ProgramFailed, "does not know check: usage: x"),
+                                    ("cat > /dev/null; echo 'usage: dosolve x'; exit 1", dosolve.ProgramFailed, "does not know check: usage: dosolve x"),
                                     ("cat > /dev/null; echo oops >&2; exit 77", dosolve.ProgramFailed, "status 77: oops"),
-                                    ("cat > /dev/null; echo accepted", dosolve.ProgramFailed, "none that is known"),
+                                    ("cat > /dev/null; echo accepted", dosolve.ProgramFailed, "gave no answer of dosolve: 'accepted.n'; is it dosolve"),
                                     ("cat > /dev/null; echo states full; exit 5", dosolve.LimitReached, "^states full$"),
                                     ("cat > /dev/null; sleep 5", dosolve.ProgramFailed, "took more than 0.2 seconds")):
             with self.subTest(script), self.assertRaisesRegex(kind, words):

@@ -1,9 +1,12 @@
 """Positions and reports are read, written and refused as the program does it."""
+import dataclasses
 import json
 import random
 import re
 import subprocess
+import tempfile
 import unittest
+from pathlib import Path
 
 import dosolve
 from support import TOP, cases, commands, games, random_game
@@ -41,6 +44,11 @@ def changed(data, source):
             pieces[place] = pieces[place][:at] + bytes([source.choice([32, 10, 34, 44, 45, 48, 57, 91, 125, 200])]) + pieces[place][at + 1:]
         data = cut.join(pieces)
     return data
+
+
+def whole(text):
+    """The fields of a position, the optional ones too."""
+    return {"stages": "regret"} | json.loads(text)
 
 
 class Page(unittest.TestCase):
@@ -98,8 +106,38 @@ class Positions(unittest.TestCase):
                     self.assertEqual(found + "\n", out.decode())
                     refused += 1
                 else:
-                    self.assertEqual(json.loads(found), json.loads(given))
+                    self.assertEqual(whole(found), whole(given))
         self.assertGreater(refused, 50)
+
+    def test_optional_fields_are_written_where_they_differ_from_what_their_absence_means(self):
+        optional = {field.name: field.absent for field in dosolve.ASKED if field.absent is not None}
+        self.assertEqual(optional, {"stages": "regret"})
+        for file in sorted(TOP.glob("**/examples/*.json")):
+            position, text = dosolve.Position.load(file), file.read_text()
+            self.assertEqual("stages" in json.loads(text), position.stages != "regret")
+            for stages in ("regret", "linear"):
+                asked = dataclasses.replace(position, stages=stages)
+                again = json.loads(asked.text())
+                self.assertEqual(again.get("stages"), "linear" if stages == "linear" else None)
+                self.assertEqual(dosolve.Position.read(asked.text()), asked)
+
+    def test_defaults_serve(self):
+        position = dosolve.Position(dosolve.Goofspiel([1, 3], [2, 3], [1, 1]))
+        self.assertEqual((position.gap, position.weight, position.stages), (0, 1_048_576, "linear"))
+        self.assertEqual((position.turns, position.visits), (2**40, 2**40))
+        self.assertEqual(position.workers, min(16, dosolve.processors()))
+        self.assertEqual(position.rows, 2 * position.game.most_states)
+        thirteen = dosolve.Goofspiel(range(1, 14), range(1, 14), range(1, 14))
+        self.assertEqual(dosolve.Position(thirteen).rows, 1_048_576)
+        self.assertEqual(dosolve.Position(dosolve.Goofspiel([], [], [])).rows, 1)
+
+    def test_files_are_loaded_and_saved(self):
+        with tempfile.TemporaryDirectory() as folder:
+            for kind, name in ((dosolve.Position, "tron_corners.json"),
+                               (dosolve.Report, "tron_corners.report")):
+                kept = Path(folder, name)
+                kind.load(TOP / "examples" / name).save(kept)
+                self.assertEqual(kept.read_bytes(), (TOP / "examples" / name).read_bytes())
 
     def test_changed_positions_are_read_and_refused_alike(self):
         source, told = random.Random(12), set()
@@ -112,7 +150,7 @@ class Positions(unittest.TestCase):
                 self.assertEqual(found, run.stdout.decode()[:-1], text)
                 told.add(dosolve.InputRefused(found).code)
             else:
-                self.assertEqual(json.loads(found), json.loads(text))
+                self.assertEqual(whole(found), whole(text))
         self.assertLessEqual({10, 12, 13, 14, 15}, told)
 
     def test_what_is_written_is_what_the_program_reads(self):

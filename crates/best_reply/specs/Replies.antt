@@ -3,27 +3,28 @@ use Rattle.std.specs.Prelude.{◌≡◌, ◌≢◌, ℕ, ◌+◌, ◌*◌, ◌<�
 use Rattle.std.specs.List.{Contains}
 use Rattle.sim_game.specs.declared.Side.{Side}
 use Rattle.sim_game.specs.declared.Side.TheVariants.{One, Two}
+use Rattle.sums.specs.declared.TheConstants.{MOST_BOUND}
 use Rattle.sums.specs.Sums.{sum_below}
 use Rattle.sim_game.specs.Sides.{IsNoTighter, IsTighter}
 
--- the place in a table with so many columns of an own move and a reply: One's moves are the rows
-abbrev pub place_of : Side → ℕ → ℕ → ℕ → ℕ
-place_of One cols own reply = own * cols + reply
-place_of Two cols own reply = reply * cols + own
+-- where the cell of an own move and a reply stands in a table with so many columns: One's moves are the rows
+abbrev pub cell_index : Side → ℕ → ℕ → ℕ → ℕ
+cell_index One cols own reply = own * cols + reply
+cell_index Two cols own reply = reply * cols + own
 
 abbrev pub cell_in : Side → List ℤ → ℕ → ℕ → ℕ → ℤ
-cell_in side cells cols own reply = slice_index_or cells (place_of side cols own reply) (pos 0)
+cell_in side cells cols own reply = slice_index_or cells (cell_index side cols own reply) (pos 0)
 
 -- what the weights of a side are worth against a reply
 abbrev pub worth_in : Side → List ℤ → ℕ → List ℕ → ℕ → ℤ
 worth_in side cells cols weights reply = sum_below (length weights) (λ own. pos (slice_index weights own) *ℤ cell_in side cells cols own reply)
 
 -- the table has a cell for each own move and each reply
-pub record IsTable (side : Side) (cells : List ℤ) (cols owns replies : ℕ) : Type 0 where
+pub record IsPayoffTable (side : Side) (cells : List ℤ) (cols owns replies : ℕ) : Type 0 where
   pub few_owns : owns ≤ 32
   pub few_replies : replies ≤ 32
-  pub each : (own reply : ℕ) → own < owns → reply < replies → place_of side cols own reply < length cells
-  pub small : (own reply : ℕ) → own < owns → reply < replies → unsigned_abs (cell_in side cells cols own reply) ≤ 4000000000
+  pub each : (own reply : ℕ) → own < owns → reply < replies → cell_index side cols own reply < length cells
+  pub small : (own reply : ℕ) → own < owns → reply < replies → unsigned_abs (cell_in side cells cols own reply) ≤ MOST_BOUND
 
 -- of the first n replies none has less worth to the side than the one at the place; a held one comes before the others, and a lesser number before a greater
 pub record IsBestReply (side : Side) (worths : ℕ → ℤ) (n : ℕ) (held : List ℕ) (place : ℕ) (sum : ℤ) (fresh : Bool) : Type 0 where

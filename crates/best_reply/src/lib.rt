@@ -3,7 +3,8 @@
 
 ghost use Rattle.std.specs.Prelude.{◌≡◌, ◌*◌, ◌/◌, ◌<◌, ◌≤◌, All, length, slice_index, pos, ◌*ℤ◌, unsigned_abs, IsTrue, IsFalse, MatchBool};
 ghost use Rattle.std.specs.List.{Contains};
-ghost use Rattle.best_reply.specs.Replies.{IsTable, IsBestReply, IsBefore, IsBehind, place_of, cell_in, worth_in};
+ghost use Rattle.sums.specs.declared.TheConstants.{MOST_WEIGHT, MOST_BOUND};
+ghost use Rattle.best_reply.specs.Replies.{IsPayoffTable, IsBestReply, IsBefore, IsBehind, cell_index, cell_in, worth_in};
 
 use sim_game::Side;
 use sums::weighted;
@@ -13,7 +14,7 @@ use sums::weighted;
 pub struct Reply {
     /// The number of the move, from 0.
     pub place: u32,
-    /// The sum of weight times cell over the moves of the other side.
+    /// The sum of weight times cell, in millionths, over the moves of the other side.
     pub sum: i64,
     pub fresh: bool,
 }
@@ -26,10 +27,11 @@ pub fn reply_two(cells: &[i64], cols: u32, p: &[u32], held: &[u32]) -> Reply
     requires some_col { 1 ≤ cols }
     requires few_cols { cols ≤ 32 }
     requires cells { length cells.now ≡ length p.now * cols }
-    requires small { All (λ x. unsigned_abs x ≤ 4000000000) cells.now }
-    requires light { All (λ x. x ≤ 1048576) p.now }
+    requires small { All (λ x. unsigned_abs x ≤ MOST_BOUND) cells.now }
+    requires light { All (λ x. x ≤ MOST_WEIGHT) p.now }
     requires held { All (λ x. x < cols) held.now }
-    ensures { IsBestReply Side.One (worth_in Side.One cells.now cols p.now) cols held.now result.place result.sum result.fresh }
+    ensures { IsBestReply Side.One (worth_in Side.One cells.now cols p.now) cols
+        held.now result.place result.sum result.fresh }
 {
     find_reply(Side::One, cells, cols, cols, p, held)
 }
@@ -43,26 +45,29 @@ pub fn reply_one(cells: &[i64], cols: u32, v: &[u32], held: &[u32]) -> Reply
     requires some_row { cols ≤ length cells.now }
     requires few_rows { length cells.now ≤ 32 * cols }
     requires cells { length cells.now / cols * cols ≡ length cells.now }
-    requires small { All (λ x. unsigned_abs x ≤ 4000000000) cells.now }
-    requires light { All (λ x. x ≤ 1048576) v.now }
+    requires small { All (λ x. unsigned_abs x ≤ MOST_BOUND) cells.now }
+    requires light { All (λ x. x ≤ MOST_WEIGHT) v.now }
     requires held { All (λ x. x < length cells.now / cols) held.now }
-    ensures { IsBestReply Side.Two (worth_in Side.Two cells.now cols v.now) (length cells.now / cols) held.now result.place result.sum result.fresh }
+    ensures { IsBestReply Side.Two (worth_in Side.Two cells.now cols v.now) (length cells.now / cols)
+        held.now result.place result.sum result.fresh }
 {
     let rows = (cells.len() / cols as usize) as u32;
     find_reply(Side::Two, cells, cols, rows, v, held)
 }
 
-// Whether the place is not in the list.
-fn is_fresh(held: &[u32], place: u32) -> bool
-    ensures old { IsFalse result → Contains held.now place }
-    ensures new { IsTrue result → Contains held.now place → ⊥ }
+// Whether the reply is not in the list.
+fn is_fresh(held: &[u32], reply: u32) -> bool
+    ensures old { IsFalse result → Contains held.now reply }
+    ensures new { IsTrue result → Contains held.now reply → ⊥ }
 {
-    !held.contains(&place)
+    !held.contains(&reply)
 }
 
 // Whether a reply of this worth comes before the best one so far.
 fn comes_before(side: Side, best: Reply, sum: i64, fresh: bool) -> bool
-    ensures { MatchBool result (IsBefore side best.sum best.fresh sum fresh) (IsBehind side best.sum best.fresh sum fresh) }
+    ensures { MatchBool result
+        (IsBefore side best.sum best.fresh sum fresh)
+        (IsBehind side best.sum best.fresh sum fresh) }
 {
     if side.is_tighter(best.sum, sum) {
         return true;
@@ -74,9 +79,9 @@ fn comes_before(side: Side, best: Reply, sum: i64, fresh: bool) -> bool
 }
 
 // Where the cell of an own move and a reply stands.
-fn place_of(side: Side, cols: u32, own: u32, reply: u32) -> usize
+fn cell_index(side: Side, cols: u32, own: u32, reply: u32) -> usize
     requires cols { cols ≤ 32 }
-    ensures { result ≡ place_of side cols own reply }
+    ensures { result ≡ cell_index side cols own reply }
 {
     match side {
         Side::One => own as usize * cols as usize + reply as usize,
@@ -94,24 +99,24 @@ fn part(
     own: u32,
     reply: u32,
 ) -> i64
-    requires table { IsTable side cells.now cols (length weights.now) replies }
+    requires table { IsPayoffTable side cells.now cols (length weights.now) replies }
     requires cols { cols ≤ 32 }
     requires own { own < length weights.now }
     requires reply { reply < replies }
-    requires light { All (λ x. x ≤ 1048576) weights.now }
+    requires light { All (λ x. x ≤ MOST_WEIGHT) weights.now }
     ensures value { result ≡ pos (slice_index weights.now own) *ℤ cell_in side cells.now cols own reply }
     ensures small { unsigned_abs result ≤ 4194304000000000 }
 {
-    let place = place_of(side, cols, own, reply);
-    weighted(weights[own as usize], cells[place])
+    let index = cell_index(side, cols, own, reply);
+    weighted(weights[own as usize], cells[index])
 }
 
 // What the weights are worth against a reply.
 fn worth(side: Side, cells: &[i64], cols: u32, replies: u32, weights: &[u32], reply: u32) -> i64
-    requires table { IsTable side cells.now cols (length weights.now) replies }
+    requires table { IsPayoffTable side cells.now cols (length weights.now) replies }
     requires cols { cols ≤ 32 }
     requires reply { reply < replies }
-    requires light { All (λ x. x ≤ 1048576) weights.now }
+    requires light { All (λ x. x ≤ MOST_WEIGHT) weights.now }
     ensures { result ≡ worth_in side cells.now cols weights.now reply }
 {
     let mut sum = 0;
@@ -130,60 +135,28 @@ fn find_reply(
     weights: &[u32],
     held: &[u32],
 ) -> Reply
-    requires table { IsTable side cells.now cols (length weights.now) replies }
+    requires table { IsPayoffTable side cells.now cols (length weights.now) replies }
     requires cols { cols ≤ 32 }
     requires some { 1 ≤ replies }
-    requires light { All (λ x. x ≤ 1048576) weights.now }
-    ensures { IsBestReply side (worth_in side cells.now cols weights.now) replies held.now result.place result.sum result.fresh }
+    requires light { All (λ x. x ≤ MOST_WEIGHT) weights.now }
+    ensures { IsBestReply side (worth_in side cells.now cols weights.now) replies
+        held.now result.place result.sum result.fresh }
 {
     let mut best = Reply {
         place: 0,
         sum: worth(side, cells, cols, replies, weights, 0),
         fresh: is_fresh(held, 0),
     };
-    for place in 1..replies {
-        let sum = worth(side, cells, cols, replies, weights, place);
-        let fresh = is_fresh(held, place);
+    for reply in 1..replies {
+        let sum = worth(side, cells, cols, replies, weights, reply);
+        let fresh = is_fresh(held, reply);
         if comes_before(side, best, sum, fresh) {
-            best = Reply { place, sum, fresh };
+            best = Reply {
+                place: reply,
+                sum,
+                fresh,
+            };
         }
     }
     best
-}
-
-#[cfg(test)]
-mod tests {
-    use super::*;
-
-    #[test]
-    fn replies_over_all_columns(rt: HostRuntime) {
-        let cells = [-1000000, 0, 0, -1000000];
-        let reply = reply_two(&cells, 2, &[0, 65536], &[0]);
-        assert_eq!(rt;
-            reply,
-            Reply {
-                place: 1,
-                sum: -65536000000,
-                fresh: true
-            }
-        );
-        let reply = reply_two(&cells, 2, &[32768, 32768], &[1]);
-        assert_eq!(rt;
-            reply,
-            Reply {
-                place: 1,
-                sum: -32768000000,
-                fresh: false
-            }
-        );
-        let reply = reply_one(&cells, 2, &[32768, 32768], &[]);
-        assert_eq!(rt;
-            reply,
-            Reply {
-                place: 0,
-                sum: -32768000000,
-                fresh: true
-            }
-        );
-    }
 }

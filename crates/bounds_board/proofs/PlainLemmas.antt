@@ -17,7 +17,7 @@ use Rattle.plan_book.specs.Entries.{IsEntry}
 use Rattle.sim_game.proofs.SideLemmas.{looser_refl, looser_trans, looser_left, looser_right, side_turn, end_range}
 use Rattle.sim_game.proofs.ReachLemmas.{reachable_turn}
 use Rattle.bounds_board.specs.declared.slots.Slot.{Slot}
-use Rattle.bounds_board.specs.Slots.{keys_of, bound_of, IsOther, IsFree, IsMet}
+use Rattle.bounds_board.specs.Slots.{keys_of, slot_bound, IsOther, IsFree, IsMet}
 use Rattle.bounds_board.specs.Plain.{IsPlain, plain_view}
 use Rattle.bounds_board.specs.Views.{BoardView, IsLater, IsInnerKey, IsFull, IsEnclosure, IsSeenNumber, by_end, by_opening, by_seen}
 use Rattle.plan_book.proofs.BookLemmas.{best_backed, best_range, best_push, best_grows, best_has, best_opening, eqb_self, eqb_other, cond_and, cond_and_false}
@@ -44,11 +44,11 @@ module _ {S : Type 0} (m : GameModel S) (game : IsGame m) where
     range : (side other : Side) → IsNoTighter other (opening_bound m other) (best_posted m entries side (m.key s))
     range side other = best_range m total (IsBooked m entries) entries side other (m.key s) game plain.closed
 
-    read_bound : (side : Side) → to_z w64 (of_z w64 (bound_of slot side)) ≡ best_posted m entries side (m.key s)
+    read_bound : (side : Side) → to_z w64 (of_z w64 (slot_bound slot side)) ≡ best_posted m entries side (m.key s)
     read_bound side =
         let inside = row_inside slots row (m.key s) has in
         let own : (get_or slots row slot).key ≡ m.key s = same_Some _ _ (sym (row_key slots row slot inside) ∙ has) in
-        let same : bound_of slot side ≡ best_posted m entries side (m.key s) = ap (λ (z : Slot). bound_of z side) is ∙ plain.bounds row slot inside side ∙ ap (best_posted m entries side) own in
+        let same : slot_bound slot side ≡ best_posted m entries side (m.key s) = ap (λ (z : Slot). slot_bound z side) is ∙ plain.bounds row slot inside side ∙ ap (best_posted m entries side) own in
         ap (λ (z : ℤ). to_z w64 (of_z w64 z)) same ∙ to_z-of_z w64 (best_posted m entries side (m.key s)) (range_fits (best_posted m entries side (m.key s)) (range side One) (range side Two))
 
     pub read_enclosure : IsEnclosure m (to_z w64 (of_z w64 slot.lower)) (to_z w64 (of_z w64 slot.upper)) s
@@ -61,10 +61,12 @@ module _ {S : Type 0} (m : GameModel S) (game : IsGame m) where
           upper_low = range Two One;
           upper_high = range Two Two;
         } in
-        subst (λ (z : ℤ). IsEnclosure m z (to_z w64 (of_z w64 slot.upper)) s) (sym (read_bound One)) (subst (λ (z : ℤ). IsEnclosure m (best_posted m entries One (m.key s)) z s) (sym (read_bound Two)) best)
+        subst (λ (z : ℤ). IsEnclosure m z (to_z w64 (of_z w64 slot.upper)) s) (sym (read_bound One))
+        (subst (λ (z : ℤ). IsEnclosure m (best_posted m entries One (m.key s)) z s) (sym (read_bound Two)) best)
 
 -- a claim that finds no free head
-pub claim_full : {S G : Type 0} (model : G → GameModel S) (g : G) (heads : List ℕ) (slots : List Slot) (total : ℕ) (entries : List Entry) (plain : IsPlain (model g) heads slots total entries) (key : ℕ)
+pub claim_full : {S G : Type 0} (model : G → GameModel S) (g : G) (heads : List ℕ) (slots : List Slot) (total : ℕ) (entries : List Entry)
+    (plain : IsPlain (model g) heads slots total entries) (key : ℕ)
     → IsInnerKey (model g) key → ((head : ℕ) → head < length heads → IsOther heads (keys_of slots) key head)
     → IsFull (model g) (plain_view model (record { game = g; rows = length heads; keys = keys_of slots; total = total; entries = entries })) key
 claim_full model g heads slots total entries plain key inner others = record {
@@ -102,7 +104,8 @@ module _ {S : Type 0} (m : GameModel S) (heads : List ℕ) (slots : List Slot) (
       (All-weaker (λ e. Contains (keys_of slots) e.key) (λ e. e.side ≡ side → e.key ≡ key → e.bound ≡ opening_bound m side)
       (λ e h a k. absurd (no_row heads (keys_of slots) plain.table key head free h.0 (slice_get-get_or (keys_of slots) h.0 e.key h.1 ∙ ap Some (h.2 ∙ k)))) entries plain.held)
 
-  bounds_new : (lower upper : ℤ) → lower ≡ opening_bound m One → upper ≡ opening_bound m Two → (side : Side) → bound_of (record { key = key; lower = lower; upper = upper }) side ≡ best_posted m entries side key
+  bounds_new : (lower upper : ℤ) → lower ≡ opening_bound m One → upper ≡ opening_bound m Two → (side : Side)
+      → slot_bound (record { key = key; lower = lower; upper = upper }) side ≡ best_posted m entries side key
   bounds_new lower upper is_lower is_upper One = is_lower ∙ sym (no_entry One)
   bounds_new lower upper is_lower is_upper Two = is_upper ∙ sym (no_entry Two)
 
@@ -115,8 +118,9 @@ module _ {S : Type 0} (m : GameModel S) (heads : List ℕ) (slots : List Slot) (
         total_high = plain.total_high;
         table = rw (keys, ← length-map slots (λ (s : Slot). s.key)) (table_claims heads (keys_of slots) plain.table key head free);
         inner = rw keys (All-push (IsInnerKey m) (keys_of slots) key plain.inner inner);
-        bounds = All-push (λ slot. (side : Side) → bound_of slot side ≡ best_posted m entries side slot.key) slots new plain.bounds (bounds_new lower upper is_lower is_upper);
-        held = rw keys (All-weaker (λ e. Contains (keys_of slots) e.key) (λ e. Contains (keys_of slots ++ key ∷ []) e.key) (λ e h. Contains-append_left (keys_of slots) (key ∷ []) e.key h) entries plain.held);
+        bounds = All-push (λ slot. (side : Side) → slot_bound slot side ≡ best_posted m entries side slot.key) slots new plain.bounds (bounds_new lower upper is_lower is_upper);
+        held = rw keys (All-weaker (λ e. Contains (keys_of slots) e.key) (λ e. Contains (keys_of slots ++ key ∷ []) e.key)
+            (λ e h. Contains-append_left (keys_of slots) (key ∷ []) e.key h) entries plain.held);
         closed = plain.closed;
       }
 
@@ -157,10 +161,12 @@ module _ {S : Type 0} (m : GameModel S) (game : IsGame m) (total : ℕ) (entries
   booked_grows e side s x h = ⊎_elim
       (λ (z : IsEnd m s). looser_right side x _ _ (at_end_is entries side s z ∙ sym (at_end_is (entries ++ e ∷ []) side s z)) h)
       (λ (z : 1 ≤ m.rank s). looser_right side x _ _ (sym (at_inner_is (entries ++ e ∷ []) side s z))
-      (looser_trans side x (best_posted m entries side (m.key s)) (best_posted m (entries ++ e ∷ []) side (m.key s)) (looser_right side x _ _ (at_inner_is entries side s z) h) (best_grows m entries e side (m.key s))))
+      (looser_trans side x (best_posted m entries side (m.key s)) (best_posted m (entries ++ e ∷ []) side (m.key s))
+      (looser_right side x _ _ (at_inner_is entries side s z) h) (best_grows m entries e side (m.key s))))
       (end_or_not s)
 
-  pub seen_booked : {G N : Type 0} (v : BoardView G N) → ((side : Side) (key : ℕ) → v.seen side key ≡ best_posted m entries side key) → (side : Side) (s : S) (x : ℤ) → Reachable m s → IsSeenNumber m v side s x → IsBooked m entries side s x
+  pub seen_booked : {G N : Type 0} (v : BoardView G N) → ((side : Side) (key : ℕ) → v.seen side key ≡ best_posted m entries side key)
+      → (side : Side) (s : S) (x : ℤ) → Reachable m s → IsSeenNumber m v side s x → IsBooked m entries side s x
   seen_booked v is side s x r (by_end e h) = looser_right side x _ _ (sym (at_end_is entries side s e)) (looser_left side (end_bound m s) x (end_bound m s) (sym h) (looser_refl side (end_bound m s)))
   seen_booked v is side s x r (by_opening h) = looser_left side (opening_bound m side) x _ (sym h) (opening_booked entries side s r)
   seen_booked v is side s x r (by_seen h) =
@@ -170,7 +176,8 @@ module _ {S : Type 0} (m : GameModel S) (game : IsGame m) (total : ℕ) (entries
       (end_or_not s)
 
 -- a child of a reachable state is reachable
-pub child_reachable : {S : Type 0} (m : GameModel S) (side : Side) (s : S) (own reply draw : ℕ) → Reachable m s → own < m.moves side s → reply < m.moves (other_side side) s → draw < draws_of m side s own reply → Reachable m (child_of m side s own reply draw)
+pub child_reachable : {S : Type 0} (m : GameModel S) (side : Side) (s : S) (own reply draw : ℕ) → Reachable m s → own < m.moves side s
+    → reply < m.moves (other_side side) s → draw < draws_of m side s own reply → Reachable m (child_of m side s own reply draw)
 child_reachable m One s own reply draw r p q d = reachable_turn m s (turn_of One own reply draw) r (side_turn m One s own reply draw p q d)
 child_reachable m Two s own reply draw r p q d = reachable_turn m s (turn_of Two own reply draw) r (side_turn m Two s own reply draw p q d)
 
@@ -195,7 +202,8 @@ post_keys slots row old new l is same =
     let key : Slot → ℕ = λ s. s.key in map-set key slots row new ∙ ap (set (keys_of slots) row) (same ∙ ap key is ∙ sym (get_or-map key slots row old 0 l)) ∙ set-get_or (keys_of slots) row 0
 
 pub post_later : {S G : Type 0} (model : G → GameModel S) (g : G) (rows : ℕ) (keys : List ℕ) (total : ℕ) (entries : List Entry) (e : Entry)
-    → IsLater (plain_view model (record { game = g; rows = rows; keys = keys; total = total; entries = entries })) (plain_view model (record { game = g; rows = rows; keys = keys; total = total; entries = entries ++ e ∷ [] }))
+    → IsLater (plain_view model (record { game = g; rows = rows; keys = keys; total = total; entries = entries }))
+    (plain_view model (record { game = g; rows = rows; keys = keys; total = total; entries = entries ++ e ∷ [] }))
 post_later model g rows keys total entries e = record {
   name = refl;
   game = refl;
@@ -217,16 +225,18 @@ module _ {S : Type 0} (m : GameModel S) (game : IsGame m) (heads : List ℕ) (sl
   keys_stay : keys_of (set slots row new) ≡ keys_of slots
   keys_stay = post_keys slots row old new inside is_old met.key
 
-  bounds_there : (side : Side) → bound_of new side ≡ best_posted m (entries ++ e ∷ []) side new.key
+  bounds_there : (side : Side) → slot_bound new side ≡ best_posted m (entries ++ e ∷ []) side new.key
   bounds_there side =
       let own : new.key ≡ e.key = same_key ∙ same_Some _ _ (sym (row_key slots row old inside) ∙ at_row) in
-      let before : bound_of old side ≡ best_posted m entries side new.key = ap (λ (z : Slot). bound_of z side) is_old ∙ plain.bounds row old inside side ∙ ap (best_posted m entries side) (sym same_key) in
+      let before : slot_bound old side ≡ best_posted m entries side new.key =
+      ap (λ (z : Slot). slot_bound z side) is_old ∙ plain.bounds row old inside side ∙ ap (best_posted m entries side) (sym same_key) in
       met.bounds side
       ∙ ap (λ (z : ℤ). cond (same_side e.side side) (better side e.bound z) z) before
       ∙ sym (cond_and (same_side e.side side) (eqb e.key new.key) _ _ (rw own (eqb_self e.key)))
       ∙ sym (best_push m entries e side new.key)
 
-  bounds_elsewhere : (other : ℕ) (d : Slot) → other < length slots → (other ≡ row → ⊥) → (side : Side) → bound_of (get_or slots other d) side ≡ best_posted m (entries ++ e ∷ []) side (get_or slots other d).key
+  bounds_elsewhere : (other : ℕ) (d : Slot) → other < length slots → (other ≡ row → ⊥) → (side : Side)
+      → slot_bound (get_or slots other d) side ≡ best_posted m (entries ++ e ∷ []) side (get_or slots other d).key
   bounds_elsewhere other d l n side =
       let slot : Slot = get_or slots other d in
       let apart : e.key ≡ slot.key → ⊥ = λ same. n (plain.table.apart other row e.key (row_key slots other d l ∙ ap Some (sym same)) at_row) in
@@ -243,7 +253,8 @@ module _ {S : Type 0} (m : GameModel S) (game : IsGame m) (heads : List ℕ) (sl
       | inl same ↦ rw (same, get_or-set_same slots row new d inside) (bounds_there side)
       | inr n ↦ rw (get_or-set_other slots row other new d n) (bounds_elsewhere other d (rw length-set at l) n side)
     ];
-    held = rw keys_stay (All-push (λ f. Contains (keys_of slots) f.key) entries e plain.held (row, slice_get_within (keys_of slots) row e.key at_row, get_or_from_slice_get (keys_of slots) row e.key e.key at_row));
+    held = rw keys_stay (All-push (λ f. Contains (keys_of slots) f.key) entries e plain.held
+        (row, slice_get_within (keys_of slots) row e.key at_row, get_or_from_slice_get (keys_of slots) row e.key e.key at_row));
     closed = All-push (IsEntry m total (IsBooked m (entries ++ e ∷ []))) entries e
         (All-weaker (IsEntry m total (IsBooked m entries)) (IsEntry m total (IsBooked m (entries ++ e ∷ [])))
         (λ f h. entry_weaker m total (IsBooked m entries) (IsBooked m (entries ++ e ∷ [])) f (λ s x r b. booked_grows m game total entries plain.closed e f.side s x b) h) entries plain.closed)

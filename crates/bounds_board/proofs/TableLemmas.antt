@@ -9,7 +9,7 @@ use Rattle.std.proofs.lemmas.Map.Keys.{IsDistinct-from_apart}
 use Rattle.std.specs.List.{IsDistinct}
 use Rattle.plan_book.proofs.BookLemmas.{eqb_other}
 use Rattle.bounds_board.specs.declared.slots.Slot.{Slot}
-use Rattle.bounds_board.specs.Slots.{home, head_after, keys_of, taken, IsOther, IsFree, IsProbed, IsTable}
+use Rattle.bounds_board.specs.Slots.{home, head_after, keys_of, taken, IsOther, IsFree, IsProbed, IsHashTable}
 
 -- ---- how many heads are not free
 taken_all : (heads : List ℕ) → All (λ named. 1 ≤ named) heads → length heads ≤ taken heads
@@ -22,12 +22,13 @@ taken_most heads = omega (arith, sum_by-le (λ named. min named 1) 1 heads (λ k
 taken_more : (heads : List ℕ) (head row : ℕ) → head < length heads → slice_index heads head ≡ 0 → taken (set heads head (row + 1)) ≡ taken heads + 1
 taken_more heads head row l free = omega (arith, sum_by-set (λ named. min named 1) heads head (row + 1) 0 l, ap (λ named. min named 1) free)
 
-pub few_keys : (heads keys : List ℕ) → IsTable heads keys → length keys ≤ length heads
+pub few_keys : (heads keys : List ℕ) → IsHashTable heads keys → length keys ≤ length heads
 few_keys heads keys table = omega (arith, table.one_each, taken_most heads)
 
-pub distinct_keys : (heads keys : List ℕ) → IsTable heads keys → IsDistinct nat_eq keys
+pub distinct_keys : (heads keys : List ℕ) → IsHashTable heads keys → IsDistinct nat_eq keys
 distinct_keys heads keys table = IsDistinct-from_apart nat_eq keys
-    (λ i j d l h. eqb_other (get_or keys i d) (get_or keys j d) (λ e. let same = table.apart i j (get_or keys i d) (slice_get-get_or keys i d (omega arith)) (slice_get-get_or keys j d h ∙ ap Some (sym e)) in omega arith))
+    (λ i j d l h. eqb_other (get_or keys i d) (get_or keys j d)
+    (λ e. let same = table.apart i j (get_or keys i d) (slice_get-get_or keys i d (omega arith)) (slice_get-get_or keys j d h ∙ ap Some (sym e)) in omega arith))
 
 -- ---- one more key
 pub key_before : (keys : List ℕ) (key row k : ℕ) → slice_get keys row ≡ Some k → slice_get (keys ++ key ∷ []) row ≡ Some k
@@ -63,7 +64,7 @@ head_other heads slots key head d some within differs = let row = get_or heads h
   differs = differs;
 }
 
-module _ (heads keys : List ℕ) (table : IsTable heads keys) (key : ℕ) where
+module _ (heads keys : List ℕ) (table : IsHashTable heads keys) (key : ℕ) where
   tried_inside : (tried : ℕ) → head_after (length heads) key tried < length heads
   tried_inside tried = mod-lt (home (length heads) key % length heads + tried) (omega (arith, table.rows_low))
 
@@ -99,7 +100,9 @@ module _ (heads keys : List ℕ) (table : IsTable heads keys) (key : ℕ) where
 
     -- a head that is not free stays as it is
     stays : (place named : ℕ) → 1 ≤ slice_index heads place → slice_index (set heads head named) place ≡ slice_index heads place
-    stays place named l = let apart : place ≢ head = λ e. let same : slice_index heads place ≡ 0 = ap (slice_index heads) e ∙ free.free in omega arith in get_or-set_other heads head place named 0 apart
+    stays place named l =
+        let apart : place ≢ head = λ e. let same : slice_index heads place ≡ 0 = ap (slice_index heads) e ∙ free.free in omega arith in
+        get_or-set_other heads head place named 0 apart
 
     module _ (named row k tried : ℕ) (inside : tried < length heads) (names : slice_index (set heads head named) (head_after (length heads) k tried) ≡ row + 1)
         (passed : (t : ℕ) → t < tried → 1 ≤ slice_index heads (head_after (length heads) k t)) where
@@ -111,7 +114,7 @@ module _ (heads keys : List ℕ) (table : IsTable heads keys) (key : ℕ) where
         passed = λ t l. let still = stays (head_after (length heads) k t) named (passed t l) in rw length-set (omega (arith, still, passed t l));
       }
 
-    pub table_claims : IsTable (set heads head (length keys + 1)) (keys ++ key ∷ [])
+    pub table_claims : IsHashTable (set heads head (length keys + 1)) (keys ++ key ∷ [])
     table_claims = let row = length keys in let named = row + 1 in record {
       rows_low = rw length-set table.rows_low;
       rows_high = rw length-set table.rows_high;

@@ -5,15 +5,15 @@ use Rattle.sim_game.specs.Model.{GameModel}
 use Rattle.plan_book.specs.declared.Entry.{Entry}
 use Rattle.plan_book.specs.Books.{best_posted, IsClosed}
 use Rattle.bounds_board.specs.declared.slots.Slot.{Slot}
-use Rattle.bounds_board.specs.Slots.{keys_of, bound_of, IsTable}
+use Rattle.bounds_board.specs.Slots.{keys_of, slot_bound, IsHashTable}
 use Rattle.bounds_board.specs.Views.{BoardView, IsInnerKey}
 
 pub record IsPlain {S : Type 0} (m : GameModel S) (heads : List ℕ) (slots : List Slot) (total : ℕ) (entries : List Entry) : Type 0 where
   pub total_low : 8192 ≤ total
   pub total_high : total ≤ 1048576
-  pub table : IsTable heads (keys_of slots)
+  pub table : IsHashTable heads (keys_of slots)
   pub inner : All (IsInnerKey m) (keys_of slots)
-  pub bounds : All (λ slot. (side : Side) → bound_of slot side ≡ best_posted m entries side slot.key) slots
+  pub bounds : All (λ slot. (side : Side) → slot_bound slot side ≡ best_posted m entries side slot.key) slots
   pub held : All (λ e. Contains (keys_of slots) e.key) entries
   pub closed : IsClosed m total entries
 

@@ -54,7 +54,7 @@ pub record IsProbed (heads : List ℕ) (key row : ℕ) : Type 0 where
   pub passed : (t : ℕ) → t < tried → 1 ≤ slice_index heads (head_after (length heads) key t)
 
 -- each row is found by its key
-pub record IsTable (heads keys : List ℕ) : Type 0 where
+pub record IsHashTable (heads keys : List ℕ) : Type 0 where
   pub rows_low : 1 ≤ length heads
   pub rows_high : length heads ≤ 1048576
   pub named : All (λ named. named ≤ length keys) heads
@@ -62,11 +62,11 @@ pub record IsTable (heads keys : List ℕ) : Type 0 where
   pub probed : (row key : ℕ) → slice_get keys row ≡ Some key → IsProbed heads key row
   pub apart : (row other key : ℕ) → slice_get keys row ≡ Some key → slice_get keys other ≡ Some key → row ≡ other
 
-abbrev pub bound_of : Slot → Side → ℤ
-bound_of slot One = slot.lower
-bound_of slot Two = slot.upper
+abbrev pub slot_bound : Slot → Side → ℤ
+slot_bound slot One = slot.lower
+slot_bound slot Two = slot.upper
 
 -- one of the bounds of the slot was made at least as tight as a bound
 pub record IsMet (side : Side) (bound : ℤ) (old new : Slot) : Type 0 where
   pub key : new.key ≡ old.key
-  pub bounds : (other : Side) → bound_of new other ≡ cond (same_side side other) (better other bound (bound_of old other)) (bound_of old other)
+  pub bounds : (other : Side) → slot_bound new other ≡ cond (same_side side other) (better other bound (slot_bound old other)) (slot_bound old other)

@@ -49,7 +49,8 @@ pub trait Bounds<G: Game> {
 
     /// A key that the object knows is that of a reachable state that is no end.
     fn knows_inner_keys(&self)
-        ensures { (row key : ℕ) → (view self.now).key_at row ≡ Some key → IsInnerKey (G.model (view self.now).game) key };
+        ensures { (row key : ℕ) → (view self.now).key_at row ≡ Some key
+            → IsInnerKey (G.model (view self.now).game) key };
 
     /// What the weights of each entry sum to.
     fn total(&self) -> u32
@@ -64,10 +65,12 @@ pub trait Bounds<G: Game> {
         ensures entries { (view self.new).entries ≡ (view self.old).entries }
         ensures ok { IfOk result (λ row. (view self.new).key_at row ≡ Some key) }
         ensures alone { IfOk result (λ row. (other : ℕ) → (view self.new).key_at other ≡ Some key → other ≡ row) }
-        ensures opened { OnOk result ((side : Side) → IsNoTighter side (opening_bound (G.model (view self.old).game) side) ((view self.new).seen side key)) }
+        ensures opened { OnOk result ((side : Side)
+            → IsNoTighter side (opening_bound (G.model (view self.old).game) side) ((view self.new).seen side key)) }
 
         // What was seen stays as it was.
-        ensures unseen { OnErr result ((side : Side) (other : ℕ) → (view self.new).seen side other ≡ (view self.old).seen side other) }
+        ensures unseen { OnErr result ((side : Side) (other : ℕ)
+            → (view self.new).seen side other ≡ (view self.old).seen side other) }
         ensures full { OnErr result (IsFull (G.model (view self.old).game) (view self.new) key) };
 
     /// The bounds at a row whose key the object knows. It takes no memory.
@@ -75,8 +78,10 @@ pub trait Bounds<G: Game> {
         requires { IsSome ((view self.old).key_at row) }
         ensures later { IsLater (view self.old) (view self.new) }
         ensures entries { (view self.new).entries ≡ (view self.old).entries }
-        ensures seen { (key : ℕ) → (view self.old).key_at row ≡ Some key → IsRead (view self.new) result.lower result.upper key }
-        ensures backed { (s : G.State) → Reachable (G.model (view self.old).game) s → (view self.old).key_at row ≡ Some ((G.model (view self.old).game).key s)
+        ensures seen { (key : ℕ) → (view self.old).key_at row ≡ Some key
+            → IsRead (view self.new) result.lower result.upper key }
+        ensures backed { (s : G.State) → Reachable (G.model (view self.old).game) s
+            → (view self.old).key_at row ≡ Some ((G.model (view self.old).game).key s)
             → IsEnclosure (G.model (view self.old).game) result.lower result.upper s };
 
     /// Raises the lower or cuts the upper bound by the entry, and keeps the entry.

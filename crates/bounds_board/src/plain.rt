@@ -4,7 +4,7 @@ ghost use Rattle.bounds_board.specs.Plain.{plain_view};
 
 use crate::bounds::{Bounds, Enclosure, Full};
 use crate::row::Row;
-use crate::slots::{ProbeEnd, Slot, met, probe};
+use crate::slots::{ProbeEnd, Slot, probe, tighten};
 use plan_book::{Book, Entry};
 use sim_game::{Game, NoMemory, Side, opening_bound};
 use std::alloc::Global;
@@ -28,17 +28,24 @@ impl<G: Game> Model for PlainBoard<G> {
 
     ghost Value = { PlainValue G };
 
-    ghost view = { λ b. record { game = b.game; rows = length b.heads.items; keys = keys_of b.slots.items; total = b.book.total; entries = b.book.entries } };
+    ghost view = { λ b. record {
+      game = b.game;
+      rows = length b.heads.items;
+      keys = keys_of b.slots.items;
+      total = b.book.total;
+      entries = b.book.entries;
+    } };
 
-    ghost invariant = { λ b. IsPlain (G.model b.game) b.heads.items b.slots.items b.book.total b.book.entries × (length b.heads.items ≤ vec_capacity b.slots) };
+    ghost invariant = { λ b. IsPlain (G.model b.game) b.heads.items b.slots.items b.book.total b.book.entries
+        × (length b.heads.items ≤ vec_capacity b.slots) };
 }
 
 impl<G: Game> PlainBoard<G> {
     ghost use Rattle.std.specs.List.{IsDistinct};
     ghost use Rattle.plan_book.specs.Books.{IsClosed};
 
-    /// A board of free rows. It takes the memory of all of them, but writes only the heads: a slot is written when it is
-    /// claimed.
+    /// A board of free rows. It takes the memory of all of them, but writes only the heads: a slot is written when it
+    /// is claimed.
     pub fn new(alloc: Global, game: G, rows: u32, total: u32) -> Result<PlainBoard<G>, NoMemory>
         requires rows_low { 1 ≤ rows }
         requires rows_high { rows ≤ 1048576 }
@@ -118,7 +125,7 @@ impl<G: Game> Bounds<G> for PlainBoard<G> {
     fn post(&mut self, row: Row, e: Entry) -> Result<(), NoMemory> {
         self.book.reserve(1)?;
         let place = row.place() as usize;
-        let slot = met(self.slots[place], e.side, e.bound);
+        let slot = tighten(self.slots[place], e.side, e.bound);
         self.slots[place] = slot;
         self.book.push(e);
         Ok(())

@@ -24,7 +24,7 @@ pub enum ProbeEnd {
 }
 
 /// The head at which a probe for the key begins. Keys are packed fields, which differ in few bits; the high half of the
-/// product depends on all of them (multiplicative hashing), and a second product brings it into range without a division.
+/// product depends on all of them (multiplicative hashing), and a second product brings it into range with no division.
 #[inline]
 fn home(key: u64, rows: u32) -> u32
     requires low { 1 ≤ rows }
@@ -68,7 +68,7 @@ pub(crate) fn probe(heads: &[u32], slots: &[Slot], key: u64) -> ProbeEnd
 }
 
 /// The slot with the bound of the side at least as tight as this one.
-pub(crate) fn met(slot: Slot, side: Side, bound: i64) -> Slot
+pub(crate) fn tighten(slot: Slot, side: Side, bound: i64) -> Slot
     ensures { IsMet side bound slot result }
 {
     match side {

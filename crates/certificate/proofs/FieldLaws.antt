@@ -14,8 +14,8 @@ use Rattle.certificate.specs.Unread.{Unread}
 use Rattle.certificate.specs.Numbers.{integer_in, Within, Between}
 use Rattle.text.specs.Texts.{line_text}
 use Rattle.certificate.specs.Texts.{row_fields}
-use Rattle.certificate.specs.Readers.{◌>>=◌, or_fault, Reads, ◌followed_by◌, ◌before◌, made_by, first_field, field, spelled, natural, integer, naturals_in, naturals, expected}
-use Rattle.certificate.specs.Reading.{row_of}
+use Rattle.certificate.specs.Readers.{◌>>=◌, or_fault, Reads, ◌followed_by◌, ◌before◌, made_by, first_field, field, spelled, natural, integer, naturals_in, naturals, expected_word}
+use Rattle.certificate.specs.Reading.{read_row}
 use Rattle.certificate.proofs.Spelling.{IsField, Spells, natural_spells, integer_spells, naturals_takes, naturals_again, numbers_clean}
 
 -- A reader of all fields of a line, of which there are at most so many, and what writes them undo each other; the line
@@ -72,7 +72,8 @@ spelled_takes {A} fault value u x e =
     let a = bind_ok (or_fault (value f.0.0) (fault u.number)) _ x f.2 in
     subst (TakesFirst value u) (ok_is (a.0, f.0.1) x a.2) (record { first = f.0.0; here = field_takes u f.0 f.1; is = or_ok (value f.0.0) (fault u.number) a.0 a.1 })
 
-pub spelled_again : {A : Type 0} (fault : ℕ → TextError) (value : List ℕ → Option A) (f : List ℕ) (fs : List (List ℕ)) (n : ℕ) (a : A) → value f ≡ Some a → spelled fault value (record { parts = f ∷ fs; number = n }) ≡ Ok (a, record { parts = fs; number = n })
+pub spelled_again : {A : Type 0} (fault : ℕ → TextError) (value : List ℕ → Option A) (f : List ℕ) (fs : List (List ℕ)) (n : ℕ) (a : A)
+    → value f ≡ Some a → spelled fault value (record { parts = f ∷ fs; number = n }) ≡ Ok (a, record { parts = fs; number = n })
 unfolding field
 spelled_again fault value f fs n a e = rw e refl
 
@@ -111,19 +112,19 @@ module _ {A : Type 0} {wide : ℕ} {value : List ℕ → Option A} {text : A →
 
 -- ---- words and numbers
 
-expected_takes : (word : List ℕ) (u : Unread) (x : Unit {0} × Unread) → expected word u ≡ Ok x → u.parts ≡ word ∷ x.1.parts
-unfolding expected
+expected_takes : (word : List ℕ) (u : Unread) (x : Unit {0} × Unread) → expected_word word u ≡ Ok x → u.parts ≡ word ∷ x.1.parts
+unfolding expected_word
 expected_takes word u x e =
     let f = bind_ok (field u) _ x e in
     let t = test_ok (bytes_eq f.0.0 word) _ _ x f.2 in
     subst (λ x. u.parts ≡ word ∷ x.1.parts) (ok_is (tt, f.0.1) x t.1) (field_takes u f.0 f.1 ∙ ap (λ w. w ∷ f.0.1.parts) ((bytes_eq-Decides f.0.0 word).0 t.0))
 
-expected_again : (word : List ℕ) (fs : List (List ℕ)) (n : ℕ) → expected word (record { parts = word ∷ fs; number = n }) ≡ Ok (tt, record { parts = fs; number = n })
-unfolding expected field
+expected_again : (word : List ℕ) (fs : List (List ℕ)) (n : ℕ) → expected_word word (record { parts = word ∷ fs; number = n }) ≡ Ok (tt, record { parts = fs; number = n })
+unfolding expected_word field
 expected_again word fs n = rw ((bytes_eq-Decides word word).1 refl) refl
 
 -- a word alone
-pub word_law : (word : List ℕ) → IsField word → FieldLaw 1 (length word + 2) (expected word) (λ _. word ∷ []) (λ _. Unit {0})
+pub word_law : (word : List ℕ) → IsField word → FieldLaw 1 (length word + 2) (expected_word word) (λ _. word ∷ []) (λ _. Unit {0})
 word_law word clean = record {
   takes = λ u x e few.
       let here = expected_takes word u x e in
@@ -136,10 +137,10 @@ word_law word clean = record {
 
 -- a word before other fields
 pub before_law : {B : Type 0} {most long : ℕ} {q : Reads B} {fields : B → List (List ℕ)} {Fits : B → Type 0} (word : List ℕ) → IsField word → FieldLaw most long q fields Fits
-    → FieldLaw (suc most) (length word + 1 + long) (expected word before q) (λ b. word ∷ fields b) Fits
+    → FieldLaw (suc most) (length word + 1 + long) (expected_word word before q) (λ b. word ∷ fields b) Fits
 before_law {q = q} {fields = fields} word clean law = record {
   takes = λ u x e few.
-      let w = bind_ok (expected word u) _ x e in
+      let w = bind_ok (expected_word word u) _ x e in
       let here = expected_takes word u w.0 w.1 in
       let l = law.takes w.0.1 x w.2 (omega (arith, ap length here)) in
       (here ∙ ap (λ fs. word ∷ fs) l.0, l.1);
@@ -160,7 +161,13 @@ numbers_short : (digits high : ℕ) (ns : List ℕ) → 0 < digits → high < 10
 numbers_short digits high [] some few wide fits = omega arith
 numbers_short digits high (n ∷ ns) some few wide fits =
     let small = All-head (λ n. n ≤ high) n ns fits in
-    omega (arith, line_more (decimal n) (map decimal ns), length-decimal-le digits n some (omega (arith, few)) (omega (arith, wide)), numbers_short digits high ns some few wide (All-tail (λ n. n ≤ high) n ns fits))
+    omega (
+      arith,
+      line_more (decimal n) (map decimal ns),
+      length-decimal-le digits n some (omega (arith, few))
+          (omega (arith, wide)),
+      numbers_short digits high ns some few wide (All-tail (λ n. n ≤ high) n ns fits),
+    )
 
 pub naturals_law : (most digits high : ℕ) → 0 < digits → high < 10 ^ digits → high < 2 ^ 64 → FieldLaw most (most * (digits + 1) + 1) (naturals 0 high) (map decimal) (All (λ n. n ≤ high))
 unfolding naturals
@@ -198,13 +205,13 @@ pub record RowFits (row : SheetRow) : Type 0 where
   pub bound : unsigned_abs row.bound ≤ 4000000000
   pub weights : All (λ w. w ≤ 1048576) row.weights
 
-pub row_law : FieldLaw 34 299 (made_by row_of (natural 0 9223372036854775807 followed_by integer (neg_ℤ (pos 4000000000)) (pos 4000000000) followed_by naturals 0 1048576)) row_fields RowFits
+pub row_law : FieldLaw 34 299 (made_by read_row (natural 0 9223372036854775807 followed_by integer (neg_ℤ (pos 4000000000)) (pos 4000000000) followed_by naturals 0 1048576)) row_fields RowFits
 unfolding natural integer
 row_law =
     let law = then_law Number (natural_spells 0 9223372036854775807 (omega arith)) (then_law Number bound_spells (naturals_law 32 7 1048576 (omega arith) (omega arith) (omega arith))) in
     record {
       takes = λ u x e few.
-          let m = made_takes row_of _ x e in
+          let m = made_takes read_row _ x e in
           let t = law.takes u m.0 m.1 few in
           subst (λ (x : SheetRow × Unread). (u.parts ≡ row_fields x.0) × RowFits x.0) m.2 (t.0, record { key = t.1.0.1; bound = small_bound m.0.0.1.0 t.1.1.0; weights = t.1.1.1 });
       again = λ n row fits.

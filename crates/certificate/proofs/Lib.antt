@@ -2,6 +2,7 @@ pub mod ReportLaws
 pub mod TextLaws
 pub mod LengthLemmas
 pub mod PositionLaws
+pub mod ValueLaws
 pub mod FieldLaws
 pub mod Spelling
 pub mod RowLemmas

@@ -10,7 +10,7 @@ use Rattle.std.proofs.lemmas.Int.Digits.{digits_value_more}
 use Rattle.std.proofs.lemmas.Slice.Eq.{bytes_eq-Decides}
 use Rattle.std.proofs.lemmas.Str.{digit_value_digit}
 use Rattle.std.proofs.lemmas.Str.Parse.{numerals_by_value, tells_digits, tells_by_index, digits_value-take-le, digit_at}
-use Rattle.certificate.specs.Numbers.{number_in, natural_in, signed_in, Within}
+use Rattle.certificate.specs.Numbers.{numeral_in, natural_in, signed_in, Within}
 
 -- ---- digits
 
@@ -39,21 +39,21 @@ cond_none false x never = refl
 
 -- ---- natural numbers
 
-pub number_takes : (s : List ℕ) (n : ℕ) → number_in s ≡ Some n → (s ≡ decimal n) × n < 2 ^ 64
-unfolding number_in
+pub number_takes : (s : List ℕ) (n : ℕ) → numeral_in s ≡ Some n → (s ≡ decimal n) × n < 2 ^ 64
+unfolding numeral_in
 number_takes s n e =
     let v = digits_value 10 s in
     let found = cond_some (bytes_eq s (decimal v) && ltb v (2 ^ 64)) v n e in
     let parts = written_parts s (decimal v) (ltb v (2 ^ 64)) found.0 in
     (parts.0 ∙ ap decimal found.1, rw (← found.1) (ltb-true _ _ parts.1))
 
-pub number_again : (n : ℕ) → n < 2 ^ 64 → number_in (decimal n) ≡ Some n
-unfolding number_in
+pub number_again : (n : ℕ) → n < 2 ^ 64 → numeral_in (decimal n) ≡ Some n
+unfolding numeral_in
 number_again n small =
     rw ((decimal_is_IsNumeral n small).1, written_test (decimal n) (decimal n) (ltb n (2 ^ 64)) refl (lt-ltb _ _ small)) refl
 
-pub number_none : (s : List ℕ) → ((n : ℕ) → n < 2 ^ 64 → s ≡ decimal n → ⊥) → number_in s ≡ None
-unfolding number_in
+pub number_none : (s : List ℕ) → ((n : ℕ) → n < 2 ^ 64 → s ≡ decimal n → ⊥) → numeral_in s ≡ None
+unfolding numeral_in
 number_none s never = cond_none _ _ (λ e. let parts = written_parts s _ _ e in never (digits_value 10 s) (ltb-true _ _ parts.1) parts.0)
 
 abbrev is_plain : List ℕ → Bool
@@ -75,11 +75,11 @@ lone_zero : (ds : List ℕ) → is_plain ds ≡ true → get_or ds 0 0 ≡ 48 �
 lone_zero [] plain e = absurd cc
 lone_zero (d ∷ ds) plain e = grind arith
 
-pub number-not_plain : (s : List ℕ) → is_plain s ≡ false → number_in s ≡ None
+pub number-not_plain : (s : List ℕ) → is_plain s ≡ false → numeral_in s ≡ None
 number-not_plain s e = number_none s (λ n small same. absurd (let p = is_plain-decimal n small in let q = rw (← same) at p in cc))
 
-pub number-digits : (s : List ℕ) (r : Option ℕ) → is_plain s ≡ true → SomeIff r (AllDigits 10 s × digits_value 10 s < 2 ^ 64) (digits_value 10 s) → r ≡ number_in s
-unfolding number_in
+pub number-digits : (s : List ℕ) (r : Option ℕ) → is_plain s ≡ true → SomeIff r (AllDigits 10 s × digits_value 10 s < 2 ^ 64) (digits_value 10 s) → r ≡ numeral_in s
+unfolding numeral_in
 number-digits s None plain never = sym (number_none s (λ n small same. let d = decimal_is_IsNumeral n small in never (rw same (d.0.1, omega (arith, d.1)))))
 number-digits s (Some n) plain is =
     let same = decimal-digits_value (numerals_by_value _ tells_digits) s is.0.0 (some_byte s plain) (lone_zero s plain) is.0.1 in

@@ -1,5 +1,5 @@
 -- The parts of a text round a separator.
-use Rattle.std.proofs.Common.{◌≡◌, ℕ, ◌+◌, ◌-◌, ◌<◌, ◌≤◌, List, [], ◌∷◌, ◌==◌, length, take, drop, Bool, true, false, cond, Option, Some, None, position, refl, sym, ap, ◌∙◌, arith, ltb, take_all, drop-drop, length-drop, ltb-true, ltb-false, leb, le-leb, not, is_some, MatchOption, Bor}
+use Rattle.std.proofs.Common.{◌≡◌, ℕ, ◌+◌, ◌-◌, ◌<◌, ◌≤◌, List, [], ◌∷◌, ◌==◌, length, take, drop, Bool, true, false, cond, Option, Some, None, position, refl, sym, ap, ◌∙◌, arith, ltb, take_all, drop-drop, length-drop, ltb-true, ltb-false, leb, le-leb, not, is_some, Bor}
 use Rattle.std.specs.List.{slice_split, position_or_len, list_all}
 use Rattle.std.specs.Option.{option_map_or}
 use Rattle.std.proofs.Math.Bool.{and-true}
@@ -23,7 +23,8 @@ pub parts-cut : (c i : ℕ) (text front back : List ℕ) → Some i ≡ position
     → parts_at c text ≡ front ∷ parts_at c (take (length back - 1) (drop 1 back))
 parts-cut c i text front back e f b =
     let p : ℕ → Bool = λ b. b == c in
-    elim (ltb (position_or_len p text) (length text)) as (λ t. ltb (position_or_len p text) (length text) ≡ t → Some i ≡ cond t (Some (position_or_len p text)) None → slice_split p text ≡ front ∷ slice_split p (take (length back - 1) (drop 1 back))) [
+    elim (ltb (position_or_len p text) (length text)) as (λ t. ltb (position_or_len p text) (length text) ≡ t
+    → Some i ≡ cond t (Some (position_or_len p text)) None → slice_split p text ≡ front ∷ slice_split p (take (length back - 1) (drop 1 back))) [
       | true ↦ λ is h.
           let at : position_or_len p text ≡ i = cc in
           slice_split_first p text 0 (ltb-true _ _ is)
@@ -43,11 +44,6 @@ pub parts-none : (c : ℕ) (rest : Option (Bor (List ℕ))) (none : Bool) → is
 parts-none c None none e = not_one _ none e
 parts-none c (Some text) none e = not_one _ none e ∙ sym (parts-some c text.now)
 
--- one part more is gone
-pub drop_more : (i : ℕ) (all left rest : List (List ℕ)) (r : Option (Bor (List ℕ))) → left ≡ drop i all → MatchOption r ((left ≡ []) × (rest ≡ [])) (λ part. left ≡ part.now ∷ rest) → rest ≡ drop (i + 1) all
-drop_more i all left rest None so_far none = none.1 ∙ ap (drop 1) (sym none.0 ∙ so_far) ∙ drop-drop 1 i all
-drop_more i all left rest (Some part) so_far here = ap (drop 1) (sym here ∙ so_far) ∙ drop-drop 1 i all
-
 -- ---- counting the parts
 
 -- some parts of all were counted, and those are left
@@ -56,14 +52,16 @@ pub record Counts (most count : ℕ) (left all : List (List ℕ)) : Type 0 where
   pub len : count + length left ≡ length all
   pub filled : list_all (λ part. not (length part == 0)) left ≡ list_all (λ part. not (length part == 0)) all
 
-pub count_more : (most count : ℕ) (part : List ℕ) (left rest all : List (List ℕ)) → left ≡ part ∷ rest → (length part == 0) ≡ false → ¬ (count ≡ most) → Counts most count left all → Counts most (count + 1) rest all
+pub count_more : (most count : ℕ) (part : List ℕ) (left rest all : List (List ℕ)) → left ≡ part ∷ rest → (length part == 0) ≡ false
+    → ¬ (count ≡ most) → Counts most count left all → Counts most (count + 1) rest all
 count_more most count part left rest all here some other so_far = record {
   few = omega (arith, so_far.few);
   len = omega (arith, so_far.len, ap length here);
   filled = (rw (here, some) at so_far.filled);
 }
 
-pub has_parts-empty : (least most count : ℕ) (part : List ℕ) (left rest all : List (List ℕ)) → left ≡ part ∷ rest → (length part == 0) ≡ true → Counts most count left all → false ≡ has_parts least most all
+pub has_parts-empty : (least most count : ℕ) (part : List ℕ) (left rest all : List (List ℕ)) → left ≡ part ∷ rest → (length part == 0) ≡ true
+    → Counts most count left all → false ≡ has_parts least most all
 unfolding has_parts
 has_parts-empty least most count part left rest all here none so_far = let f = rw (here, none) at so_far.filled in rw (← f) refl
 

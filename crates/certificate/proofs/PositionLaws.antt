@@ -1,189 +1,191 @@
 -- Reading and writing the line of a position undo each other.
-use Rattle.std.proofs.Common.{◌≡◌, ℕ, ◌≤◌, ℤ, pos, neg_ℤ, unsigned_abs, List, [], ◌∷◌, length, drop, true, ◌==◌, Some, Ok, decimal, All, refl, sym, ap, ap₂, subst, ◌∙◌, arith, eqb-true}
-use Rattle.std.specs.Fmt.{signed_decimal}
+use Rattle.std.proofs.Common.{◌≡◌, ℕ, ◌≤◌, ℤ, pos, negsuc, unsigned_abs, List, [], ◌∷◌, ◌++◌, codes, flat_map, length, map, Bool, true, ◌&&◌, ◌==◌, leb, leb-true, Some, refl, sym, ap, ap₂, subst, ◌∙◌, arith, eqb-true}
 use Rattle.std.proofs.lemmas.Int.{ints}
 use Rattle.std.proofs.lemmas.Option.{cond_some, option_and_then_some}
-use Rattle.std.proofs.lemmas.Bool.{eq-eqb}
+use Rattle.std.proofs.lemmas.Bool.{and_parts, eq-eqb}
+use Rattle.std.proofs.lemmas.List.{length-map}
 use Rattle.std.proofs.lemmas.List.Elements.{All-cons}
-use Rattle.text.specs.Texts.{line_text, list_text}
+use Rattle.text.specs.Texts.{line_text}
+use Rattle.text.proofs.TextLemmas.{line_text-numbers}
 use Rattle.goofspiel.specs.declared.Pay.{Pay}
 use Rattle.goofspiel.specs.declared.Pay.TheVariants.{Margin, Win}
-use Rattle.certificate.specs.declared.error.TextError.TheVariants.{Line, Number}
-use Rattle.certificate.specs.declared.report.PositionText.{PositionText}
-use Rattle.certificate.specs.declared.report.PositionText.TheVariants as texts
+use Rattle.certificate.specs.declared.error.TextError.TheVariants.{Line}
+use Rattle.certificate.specs.declared.fields.FieldKind.{FieldKind}
+use Rattle.certificate.specs.declared.fields.FieldKind.TheVariants.{Number as NumberOf, List as ListOf, Word as WordOf}
+use Rattle.certificate.specs.declared.fields.Choices.TheVariants as choices
+use Rattle.certificate.specs.declared.fields.Value.{Value}
+use Rattle.certificate.specs.declared.fields.Value.TheVariants.{Number, List as Numbers, Word}
+use Rattle.certificate.specs.declared.fields.Word.TheVariants as words
+use Rattle.certificate.specs.declared.positions.TheConstants.{GAMES}
+use Rattle.certificate.specs.declared.positions.PositionText.{PositionText}
+use Rattle.certificate.specs.declared.positions.PositionText.TheVariants as texts
+use Rattle.certificate.specs.declared.positions.Shown.{Shown}
 use Rattle.certificate.specs.declared.positions.GameKind.{GameKind}
 use Rattle.certificate.specs.declared.positions.GameKind.TheVariants.{Goofspiel, OshiZumo, Tron, GoofspielDrawn, Pursuit}
-use Rattle.certificate.specs.Unread.{Unread}
-use Rattle.certificate.specs.Numbers.{natural_in, Within, Between, IsByteList}
-use Rattle.certificate.specs.Readers.{Reads, ◌followed_by◌, made_by, field, natural, integer, list}
-use Rattle.certificate.specs.Positions.{kinds, newest_version, game_word, game_version, kind_of, version_of, game_of, game_in, game, pay_word, pay_of, pay, Cards, cards_fields, cards, position_numbers, position_fields, AreCardsInRange, IsPositionInRange, goofspiel_of, goofspiel, oshi_zumo_of, oshi_zumo, tron_of, tron, goofspiel_drawn_of, goofspiel_drawn, pursuit_of, pursuit, numbers_of, position}
-use Rattle.certificate.proofs.Spelling.{IsField, Spells, is_word, word_spells, natural_spells, integer_spells, list_spells}
-use Rattle.certificate.proofs.FieldLaws.{FieldLaw, line_more, bind_ok, made_takes, spelled_takes, spelled_again, last_law, then_law}
+use Rattle.certificate.specs.Numbers.{Within}
+use Rattle.certificate.specs.Fields.{Fits, AllFit, value_text}
+use Rattle.certificate.specs.Positions.{newest_version, game_word, game_version, kinds_of, kind_of, version_of, pay_named, pay_word, number_in_value, list_in_value, word_in_value, shown_value, values_of, position_with, IsPositionInRange, position_numbers, position_fields, game_of, game_in, game, line_values, position}
+use Rattle.certificate.proofs.Spelling.{IsField, Spells, is_word, word_spells}
+use Rattle.certificate.proofs.FieldLaws.{FieldLaw, line_more, bind_ok, ok_is, spelled_takes, spelled_again}
+use Rattle.certificate.proofs.ValueLaws.{are_small, longest_line, as_many, values_law}
 
-pub known_version : (k : GameKind) → Within 1 newest_version (game_version k)
-known_version Goofspiel = (omega arith, omega arith)
-known_version OshiZumo = (omega arith, omega arith)
-known_version Tron = (omega arith, omega arith)
-known_version GoofspielDrawn = (omega arith, omega arith)
-known_version Pursuit = (omega arith, omega arith)
+-- ---- the games, one by one
 
--- ---- words
-game_words : Spells 20 game_of game_word (λ _. Unit {0})
+-- the word is one, the version is known, and the fields are five whose line is not too long
+abbrev is_game : GameKind → Bool
+is_game game =
+    is_word (game_word game) && (leb 1 (game_version game) && (leb (game_version game) newest_version
+    && (are_small (kinds_of game) && (length (kinds_of game) == 5 && leb (longest_line (kinds_of game)) 100000000))))
+
+known_game : (game : GameKind) → (game_of (game_word game) ≡ Some game) × (is_game game ≡ true)
 unfolding game_of
-game_words = word_spells kinds game_word each
-  where
-    each : (k : GameKind) → (game_of (game_word k) ≡ Some k) × (is_word (game_word k) ≡ true)
-    each Goofspiel = (refl, refl)
-    each OshiZumo = (refl, refl)
-    each Tron = (refl, refl)
-    each GoofspielDrawn = (refl, refl)
-    each Pursuit = (refl, refl)
+known_game Goofspiel = (refl, refl)
+known_game OshiZumo = (refl, refl)
+known_game Tron = (refl, refl)
+known_game GoofspielDrawn = (refl, refl)
+known_game Pursuit = (refl, refl)
 
--- the game of a word, in a report of the version
-game_spells : (version : ℕ) → Spells 20 (game_in version) game_word (λ k. game_version k ≡ version)
-unfolding game_in
-game_spells version = record {
-  takes = λ word k e. option_and_then_some _ _ k e (λ j is h.
-      let same = cond_some (game_version j == version) j k h in
-      ((game_words.takes word j is).0 ∙ ap game_word same.1, ap game_version (sym same.1) ∙ eqb-true _ _ same.0));
-  again = λ k fits. rw (game_words.again k tt, eq-eqb _ _ fits) refl;
-  clean = λ k fits. game_words.clean k tt;
-  short = λ k fits. game_words.short k tt;
-}
+list_is : (most : ℕ) (v : Value) → Fits (ListOf most) v → Numbers (list_in_value v) ≡ v
+list_is most (Number z) fits = absurd fits
+list_is most (Numbers ns) fits = refl
+list_is most (Word w) fits = absurd fits
 
-pay_spells : Spells 20 pay_of pay_word (λ _. Unit {0})
-unfolding pay_of
-pay_spells = word_spells (Margin ∷ Win ∷ []) pay_word each
-  where
-    each : (p : Pay) → (pay_of (pay_word p) ≡ Some p) × (is_word (pay_word p) ≡ true)
-    each Margin = (refl, refl)
-    each Win = (refl, refl)
+number_is : (low high : ℤ) (v : Value) → Fits (NumberOf low high) v → Number (number_in_value v) ≡ v
+number_is low high (Number z) fits = refl
+number_is low high (Numbers ns) fits = absurd fits
+number_is low high (Word w) fits = absurd fits
 
-small_score : (z : ℤ) → Between (neg_ℤ (pos 1000000)) (pos 1000000) z → unsigned_abs z ≤ 1000000
-small_score z h = omega (arith, ints, h.0, h.1)
+count_is : (low : ℕ) (high : ℤ) (v : Value) → Fits (NumberOf (pos low) high) v → Number (pos (unsigned_abs (number_in_value v))) ≡ v
+count_is low high (Number (pos n)) fits = refl
+count_is low high (Number (negsuc n)) fits = absurd (omega (arith, ints, fits.0))
+count_is low high (Numbers ns) fits = absurd fits
+count_is low high (Word w) fits = absurd fits
 
-score_between : (z : ℤ) → unsigned_abs z ≤ 1000000 → Between (neg_ℤ (pos 1000000)) (pos 1000000) z
-score_between z h = (omega (arith, ints), omega (arith, ints))
+pay_is : (v : Value) → Fits (WordOf choices.Pay) v → Word (pay_word (pay_named (word_in_value v))) ≡ v
+pay_is (Number z) fits = absurd fits
+pay_is (Numbers ns) fits = absurd fits
+pay_is (Word words.Margin) fits = refl
+pay_is (Word words.Win) fits = refl
+pay_is (Word words.Regret) fits = absurd cc
+pay_is (Word words.Linear) fits = absurd cc
 
-byte_spells : Spells 20 (natural_in 0 255) decimal (Within 0 255)
-byte_spells = natural_spells 0 255 (omega arith)
+word_pay : (pay : Pay) → pay_named (pay_word pay) ≡ pay
+word_pay Margin = refl
+word_pay Win = refl
 
--- ---- the fields of each game as a row
-abbrev FitCards : Cards → Type 0
-FitCards x = IsByteList 255 x.0 × (IsByteList 255 x.1.0 × (IsByteList 255 x.1.1.0 × (Between (neg_ℤ (pos 1000000)) (pos 1000000) x.1.1.1.0 × Unit {0})))
+-- five values are all
+by_five : (ks : List FieldKind) (P : List Value → Type 0) (vs : List Value) → length vs ≡ 5 → AllFit ks vs
+    → ((a b c d e : Value) → AllFit ks (a ∷ b ∷ c ∷ d ∷ e ∷ []) → P (a ∷ b ∷ c ∷ d ∷ e ∷ [])) → P vs
+by_five ks P [] five fits by = absurd (omega (arith, five))
+by_five ks P (a ∷ []) five fits by = absurd (omega (arith, five))
+by_five ks P (a ∷ b ∷ []) five fits by = absurd (omega (arith, five))
+by_five ks P (a ∷ b ∷ c ∷ []) five fits by = absurd (omega (arith, five))
+by_five ks P (a ∷ b ∷ c ∷ d ∷ []) five fits by = absurd (omega (arith, five))
+by_five ks P (a ∷ b ∷ c ∷ d ∷ e ∷ []) five fits by = by a b c d e fits
+by_five ks P (a ∷ b ∷ c ∷ d ∷ e ∷ f ∷ more) five fits by = absurd (omega (arith, five))
 
-numbers_row : FieldLaw 5 3109 (list 255 followed_by list 255 followed_by list 255 followed_by integer (neg_ℤ (pos 1000000)) (pos 1000000) followed_by pay) cards_fields FitCards
-unfolding list integer pay
-numbers_row =
-    then_law Number (list_spells 255) (then_law Number (list_spells 255) (then_law Number (list_spells 255) (
-    then_law Number (integer_spells (neg_ℤ (pos 1000000)) (pos 1000000) (λ z h. omega (arith, ints, h.0, h.1))) (last_law Line pay_spells))))
+same_five : {a b c d e v w x y z : Value} → v ≡ a → w ≡ b → x ≡ c → y ≡ d → z ≡ e → v ∷ w ∷ x ∷ y ∷ z ∷ [] ≡ a ∷ b ∷ c ∷ d ∷ e ∷ []
+same_five p q r s t = rw (p, q, r, s, t) refl
 
--- the same, where the pay is looked at first
-cards_row : FieldLaw 5 3109 cards cards_fields FitCards
-unfolding cards pay field numbers_row
-cards_row = record {
-  takes = λ u x e few. numbers_row.takes u x (bind_ok (pay (record { parts = drop 4 u.parts; number = u.number })) _ x e).2 few;
-  again = λ n x fits. let a = numbers_row.again n x fits in (a.0, rw (pay_spells.again x.1.1.1.1 tt, a.1) refl);
-  clean = numbers_row.clean;
-  short = numbers_row.short;
-}
+-- the position made of values has these values
+abbrev IsMadeOf : GameKind → List Value → Type 0
+IsMadeOf game vs = (kind_of (position_with game vs) ≡ game) × (values_of (position_with game vs) ≡ vs)
 
-cards_fit : (one two prizes : List ℕ) (score : ℤ) (paid : Pay) → AreCardsInRange one two prizes score → FitCards (one, (two, (prizes, (score, paid))))
-cards_fit one two prizes score paid fits = (fits.0, (fits.1, (fits.2, (score_between score fits.3, tt))))
+made_of : (game : GameKind) (vs : List Value) → AllFit (kinds_of game) vs → IsMadeOf game vs
+made_of Goofspiel vs fits = by_five (kinds_of Goofspiel) (IsMadeOf Goofspiel) vs (as_many (kinds_of Goofspiel) vs fits) fits
+    (λ a b c d e f. (refl, same_five (list_is _ a f.0) (list_is _ b f.1.0) (list_is _ c f.1.1.0) (number_is _ _ d f.1.1.1.0) (pay_is e f.1.1.1.1.0)))
+made_of OshiZumo vs fits = by_five (kinds_of OshiZumo) (IsMadeOf OshiZumo) vs (as_many (kinds_of OshiZumo) vs fits) fits
+    (λ a b c d e f. (refl, same_five (count_is _ _ a f.0) (count_is _ _ b f.1.0) (count_is _ _ c f.1.1.0) (count_is _ _ d f.1.1.1.0) (number_is _ _ e f.1.1.1.1.0)))
+made_of Tron vs fits = by_five (kinds_of Tron) (IsMadeOf Tron) vs (as_many (kinds_of Tron) vs fits) fits
+    (λ a b c d e f. (refl, same_five (count_is _ _ a f.0) (count_is _ _ b f.1.0) (list_is _ c f.1.1.0) (count_is _ _ d f.1.1.1.0) (count_is _ _ e f.1.1.1.1.0)))
+made_of GoofspielDrawn vs fits = by_five (kinds_of GoofspielDrawn) (IsMadeOf GoofspielDrawn) vs (as_many (kinds_of GoofspielDrawn) vs fits) fits
+    (λ a b c d e f. (refl, same_five (list_is _ a f.0) (list_is _ b f.1.0) (list_is _ c f.1.1.0) (number_is _ _ d f.1.1.1.0) (pay_is e f.1.1.1.1.0)))
+made_of Pursuit vs fits = by_five (kinds_of Pursuit) (IsMadeOf Pursuit) vs (as_many (kinds_of Pursuit) vs fits) fits
+    (λ a b c d e f. (refl, same_five (count_is _ _ a f.0) (list_is _ b f.1.0) (count_is _ _ c f.1.1.0) (count_is _ _ d f.1.1.1.0) (count_is _ _ e f.1.1.1.1.0)))
 
-fit_cards : (x : Cards) → FitCards x → AreCardsInRange x.0 x.1.0 x.1.1.0 x.1.1.1.0
-fit_cards x fits = (fits.0, fits.1.0, fits.1.1.0, small_score x.1.1.1.0 fits.1.1.1.0)
+-- the position made of its values is the position
+made_again : (text : PositionText) → position_with (kind_of text) (values_of text) ≡ text
+made_again (texts.Goofspiel one two prizes score pay) = ap (texts.Goofspiel one two prizes score) (word_pay pay)
+made_again (texts.OshiZumo size one two least place) = refl
+made_again (texts.Tron height width walls one two) = refl
+made_again (texts.GoofspielDrawn one two prizes score pay) = ap (texts.GoofspielDrawn one two prizes score) (word_pay pay)
+made_again (texts.Pursuit nodes edges one two rounds) = refl
 
-oshi_zumo_row : FieldLaw 5 106 (natural 0 255 followed_by natural 0 255 followed_by natural 0 255 followed_by natural 0 255 followed_by integer (neg_ℤ (pos 128)) (pos 127))
-    (λ x. decimal x.0 ∷ decimal x.1.0 ∷ decimal x.1.1.0 ∷ decimal x.1.1.1.0 ∷ signed_decimal x.1.1.1.1 ∷ [])
-    (λ x. Within 0 255 x.0 × (Within 0 255 x.1.0 × (Within 0 255 x.1.1.0 × (Within 0 255 x.1.1.1.0 × Between (neg_ℤ (pos 128)) (pos 127) x.1.1.1.1))))
-unfolding natural integer
-oshi_zumo_row =
-    then_law Number byte_spells (then_law Number byte_spells (then_law Number byte_spells (then_law Number byte_spells (
-    last_law Number (integer_spells (neg_ℤ (pos 128)) (pos 127) (λ z h. omega (arith, ints, h.0, h.1)))))))
+-- ---- what is written of a position
 
-tron_row : FieldLaw 5 1107 (natural 0 255 followed_by natural 0 255 followed_by list 255 followed_by natural 0 255 followed_by natural 0 255)
-    (λ x. decimal x.0 ∷ decimal x.1.0 ∷ list_text x.1.1.0 ∷ decimal x.1.1.1.0 ∷ decimal x.1.1.1.1 ∷ [])
-    (λ x. Within 0 255 x.0 × (Within 0 255 x.1.0 × (IsByteList 255 x.1.1.0 × (Within 0 255 x.1.1.1.0 × Within 0 255 x.1.1.1.1))))
-unfolding natural list
-tron_row =
-    then_law Number byte_spells (then_law Number byte_spells (then_law Number (list_spells 255) (then_law Number byte_spells (last_law Number byte_spells))))
+texts_of : (vs : List Shown) → map (λ v. value_text (shown_value v)) vs ≡ map value_text (map shown_value vs)
+texts_of [] = refl
+texts_of (v ∷ vs) = ap (λ (ts : List (List ℕ)). value_text (shown_value v) ∷ ts) (texts_of vs)
 
-pursuit_row : FieldLaw 5 4183 (natural 0 255 followed_by list 1024 followed_by natural 0 255 followed_by natural 0 255 followed_by natural 0 255)
-    (λ x. decimal x.0 ∷ list_text x.1.0 ∷ decimal x.1.1.0 ∷ decimal x.1.1.1.0 ∷ decimal x.1.1.1.1 ∷ [])
-    (λ x. Within 0 255 x.0 × (IsByteList 1024 x.1.0 × (Within 0 255 x.1.1.0 × (Within 0 255 x.1.1.1.0 × Within 0 255 x.1.1.1.1))))
-unfolding natural list
-pursuit_row =
-    then_law Number byte_spells (then_law Number (list_spells 1024) (then_law Number byte_spells (then_law Number byte_spells (last_law Number byte_spells))))
+pub line_written : (word : List ℕ) (vs : List Shown) (text : PositionText) → map shown_value vs ≡ values_of text
+    → codes "game " ++ (word ++ (flat_map (λ v. 32 ∷ value_text (shown_value v)) vs ++ 10 ∷ [])) ≡ line_text (codes "game" ∷ word ∷ position_numbers text)
+line_written word vs text are =
+    ap (λ (t : List ℕ). codes "game " ++ t) (line_text-numbers (λ v. value_text (shown_value v)) word vs ∙ ap (λ fs. line_text (word ∷ fs)) (texts_of vs ∙ ap (map value_text) are))
+
+-- ---- what is known of each game
+
+record IsGameLine (game : GameKind) : Type 0 where
+  word : is_word (game_word game) ≡ true
+  version : Within 1 newest_version (game_version game)
+  small : are_small (kinds_of game) ≡ true
+  five : length (kinds_of game) ≡ 5
+  short : longest_line (kinds_of game) ≤ 100000000
+
+game_line : (game : GameKind) → IsGameLine game
+game_line game =
+    let a = and_parts _ _ (known_game game).1 in
+    let b = and_parts _ _ a.1 in
+    let c = and_parts _ _ b.1 in
+    let d = and_parts _ _ c.1 in
+    let e = and_parts _ _ d.1 in
+    record { word = a.0; version = (leb-true _ _ b.0, leb-true _ _ c.0); small = d.0; five = eqb-true _ _ e.0; short = leb-true _ _ e.1 }
+
+pub known_version : (game : GameKind) → Within 1 newest_version (game_version game)
+known_version game = (game_line game).version
 
 -- behind its word each line has five fields
-pub five_numbers : (p : PositionText) → length (position_numbers p) ≡ 5
-five_numbers (texts.Goofspiel one two prizes score paid) = refl
-five_numbers (texts.OshiZumo size one two least place) = refl
-five_numbers (texts.Tron height width walls one two) = refl
-five_numbers (texts.GoofspielDrawn one two prizes score paid) = refl
-five_numbers (texts.Pursuit nodes edges one two rounds) = refl
+pub five_numbers : (text : PositionText) → IsPositionInRange text → length (position_numbers text) ≡ 5
+five_numbers text fits = length-map (values_of text) value_text ∙ as_many (kinds_of (kind_of text)) (values_of text) fits ∙ (game_line (kind_of text)).five
 
--- what is read behind the word of a game
-record TakesNumbers (k : GameKind) (u : Unread) (p : PositionText) : Type 0 where
-  numbers : u.parts ≡ position_numbers p
-  kind : kind_of p ≡ k
-  fits : IsPositionInRange p
+game_words : Spells 20 game_of game_word (λ _. Unit {0})
+unfolding game_of
+game_words = word_spells GAMES game_word (λ game. ((known_game game).0, (game_line game).word))
 
-taken : {A : Type 0} {long : ℕ} {read : Reads A} {fields : A → List (List ℕ)} {Fits : A → Type 0} → FieldLaw 5 long read fields Fits → (k : GameKind) (make : A → PositionText)
-    → ((a : A) → (fields a ≡ position_numbers (make a)) × (kind_of (make a) ≡ k)) → ((a : A) → Fits a → IsPositionInRange (make a))
-    → (u : Unread) (x : PositionText × Unread) → made_by make read u ≡ Ok x → length u.parts ≤ 5 → TakesNumbers k u x.0
-taken law k make is fit u x e few =
-    let m = made_takes make _ x e in
-    let t = law.takes u m.0 m.1 few in
-    subst (λ (x : PositionText × Unread). TakesNumbers k u x.0) m.2 (record { numbers = t.0 ∙ (is m.0.0).0; kind = (is m.0.0).1; fits = fit m.0.0 t.1 })
-
-numbers_takes : (k : GameKind) (u : Unread) (x : PositionText × Unread) → numbers_of k u ≡ Ok x → length u.parts ≤ 5 → TakesNumbers k u x.0
-unfolding numbers_of goofspiel oshi_zumo tron goofspiel_drawn pursuit
-numbers_takes Goofspiel = taken cards_row Goofspiel goofspiel_of (λ a. (refl, refl)) fit_cards
-numbers_takes OshiZumo = taken oshi_zumo_row OshiZumo oshi_zumo_of (λ a. (refl, refl)) (λ a fits. (fits.0.1, fits.1.0.1, fits.1.1.0.1, fits.1.1.1.0.1, fits.1.1.1.1))
-numbers_takes Tron = taken tron_row Tron tron_of (λ a. (refl, refl)) (λ a fits. (fits.0.1, fits.1.0.1, fits.1.1.0, fits.1.1.1.0.1, fits.1.1.1.1.1))
-numbers_takes GoofspielDrawn = taken cards_row GoofspielDrawn goofspiel_drawn_of (λ a. (refl, refl)) fit_cards
-numbers_takes Pursuit = taken pursuit_row Pursuit pursuit_of (λ a. (refl, refl)) (λ a fits. (fits.0.1, fits.1.0, fits.1.1.0.1, fits.1.1.1.0.1, fits.1.1.1.1.1))
-
--- what is written behind the word of a game
-record Written (p : PositionText) : Type 0 where
-  again : (n : ℕ) → (rest : Unread) × (numbers_of (kind_of p) (record { parts = position_numbers p; number = n }) ≡ Ok (p, rest))
-  clean : All IsField (position_numbers p)
-  short : length (line_text (position_numbers p)) ≤ 5000
-
-written : {A : Type 0} {long : ℕ} {read : Reads A} {fields : A → List (List ℕ)} {Fits : A → Type 0} → FieldLaw 5 long read fields Fits → (make : A → PositionText) (a : A) → Fits a → long ≤ 5000
-    → fields a ≡ position_numbers (make a) → numbers_of (kind_of (make a)) ≡ made_by make read → Written (make a)
-written law make a fits few is reads = record {
-  again = λ n. let b = law.again n a fits in (b.0, rw (reads, ← is, b.1) refl);
-  clean = rw (← is) (law.clean a fits);
-  short = rw (← is) (omega (arith, law.short a fits (omega (arith, ap length is, five_numbers (make a))), few));
+-- the game of a word, in a report of the version
+game_spells : (version : ℕ) → Spells 20 (game_in version) game_word (λ game. game_version game ≡ version)
+unfolding game_in
+game_spells version = record {
+  takes = λ word game e. option_and_then_some _ _ game e (λ other is h.
+      let same = cond_some (game_version other == version) other game h in
+      ((game_words.takes word other is).0 ∙ ap game_word same.1, ap game_version (sym same.1) ∙ eqb-true _ _ same.0));
+  again = λ game fits. rw (game_words.again game tt, eq-eqb _ _ fits) refl;
+  clean = λ game fits. game_words.clean game tt;
+  short = λ game fits. game_words.short game tt;
 }
 
-numbers_written : (p : PositionText) → IsPositionInRange p → Written p
-unfolding numbers_of goofspiel oshi_zumo tron goofspiel_drawn pursuit
-numbers_written (texts.Goofspiel one two prizes score paid) fits = written cards_row goofspiel_of (one, (two, (prizes, (score, paid)))) (cards_fit one two prizes score paid fits) (omega arith) refl refl
-numbers_written (texts.OshiZumo size one two least place) fits =
-    written oshi_zumo_row oshi_zumo_of (size, (one, (two, (least, place)))) ((omega arith, fits.0), ((omega arith, fits.1), ((omega arith, fits.2), ((omega arith, fits.3), fits.4)))) (omega arith) refl refl
-numbers_written (texts.Tron height width walls one two) fits =
-    written tron_row tron_of (height, (width, (walls, (one, two)))) ((omega arith, fits.0), ((omega arith, fits.1), (fits.2, ((omega arith, fits.3), (omega arith, fits.4))))) (omega arith) refl refl
-numbers_written (texts.GoofspielDrawn one two prizes score paid) fits = written cards_row goofspiel_drawn_of (one, (two, (prizes, (score, paid)))) (cards_fit one two prizes score paid fits) (omega arith) refl refl
-numbers_written (texts.Pursuit nodes edges one two rounds) fits =
-    written pursuit_row pursuit_of (nodes, (edges, (one, (two, rounds)))) ((omega arith, fits.0), (fits.1, ((omega arith, fits.2), ((omega arith, fits.3), (omega arith, fits.4))))) (omega arith) refl refl
-
 -- ---- the whole
-pub position_law : (version : ℕ) → FieldLaw 6 5021 (position version) position_fields (λ p. IsPositionInRange p × (version_of p ≡ version))
+pub position_law : (version : ℕ) → FieldLaw 6 100000021 (position version) position_fields (λ text. IsPositionInRange text × (version_of text ≡ version))
 unfolding position game
 position_law version = record {
   takes = λ u x e few.
-      let k = bind_ok (game version u) _ x e in
-      let t = spelled_takes Line (game_in version) u k.0 k.1 in
-      let s = (game_spells version).takes t.first k.0.0 t.is in
-      let n = numbers_takes k.0.0 k.0.1 x k.2 (omega (arith, ap length t.here)) in
-      (t.here ∙ ap₂ (λ w fs. w ∷ fs) (s.0 ∙ ap game_word (sym n.kind)) n.numbers, (n.fits, ap game_version n.kind ∙ s.1));
-  again = λ n p fits.
-      let a = (numbers_written p fits.0).again n in
-      (a.0, rw (spelled_again Line (game_in version) (game_word (kind_of p)) (position_numbers p) n (kind_of p) ((game_spells version).again (kind_of p) fits.1), a.1) refl);
-  clean = λ p fits. All-cons IsField _ _ (game_words.clean (kind_of p) tt) (numbers_written p fits.0).clean;
-  short = λ p fits few. omega (arith, line_more (game_word (kind_of p)) (position_numbers p), game_words.short (kind_of p) tt, (numbers_written p fits.0).short);
+      let g = bind_ok (game version u) _ x e in
+      let vs = bind_ok (line_values (kinds_of g.0.0) g.0.1) _ x g.2 in
+      let is = game_line g.0.0 in
+      let t = spelled_takes Line (game_in version) u g.0 g.1 in
+      let s = (game_spells version).takes t.first g.0.0 t.is in
+      let n = (values_law (kinds_of g.0.0) is.small).takes g.0.1 vs.0 vs.1 (omega (arith, few, is.five, ap length t.here)) in
+      let made = made_of g.0.0 vs.0.0 n.1 in
+      subst (λ (x : PositionText × _). (u.parts ≡ position_fields x.0) × (IsPositionInRange x.0 × (version_of x.0 ≡ version))) (ok_is (position_with g.0.0 vs.0.0, vs.0.1) x vs.2) (
+        t.here ∙ ap₂ (λ w fs. w ∷ fs) (s.0 ∙ ap game_word (sym made.0)) (n.0 ∙ ap (map value_text) (sym made.1)),
+        (rw (made.0, made.1) n.1, ap game_version made.0 ∙ s.1),
+      );
+  again = λ n text fits.
+      let kind = kind_of text in
+      let a = (values_law (kinds_of kind) (game_line kind).small).again n (values_of text) fits.0 in
+      (a.0, rw (spelled_again Line (game_in version) (game_word kind) (position_numbers text) n kind ((game_spells version).again kind fits.1), a.1, made_again text) refl);
+  clean = λ text fits. All-cons IsField _ _ (game_words.clean (kind_of text) tt) ((values_law (kinds_of (kind_of text)) (game_line (kind_of text)).small).clean (values_of text) fits.0);
+  short = λ text fits few.
+      let is = game_line (kind_of text) in
+      let values = (values_law (kinds_of (kind_of text)) is.small).short (values_of text) fits.0 (omega (arith, five_numbers text fits.0, is.five)) in
+      omega (arith, line_more (game_word (kind_of text)) (position_numbers text), game_words.short (kind_of text) tt, is.short, values);
 }

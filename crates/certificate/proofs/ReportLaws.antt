@@ -30,29 +30,35 @@ use Rattle.certificate.proofs.TextLaws.{joined, TextLaw, line_law, lines_law, ma
 
 -- ---- the lines
 
-natural_line_law : (word : List ℕ) → IsField word → (low high : ℕ) → high < 2 ^ 64 → TextLaw (length word + 1 + 22) (natural_line word low high) (λ n. line_text (word ∷ decimal n ∷ [])) (Within low high)
+natural_line_law : (word : List ℕ) → IsField word → (low high : ℕ) → high < 2 ^ 64
+    → TextLaw (length word + 1 + 22) (natural_line word low high) (λ n. line_text (word ∷ decimal n ∷ [])) (Within low high)
 unfolding natural_line
 natural_line_law word clean low high wide =
     told_law _ (Within low high) (line_law (before_law word clean (natural_law low high wide)) (omega arith)) (λ n fits. (refl, fits.0)) (λ n fits. (fits, (omega arith, omega arith)))
 
-integer_line_law : (word : List ℕ) → IsField word → (low high : ℤ) → ((z : ℤ) → Between low high z → unsigned_abs z < 2 ^ 63) → TextLaw (length word + 1 + 22) (integer_line word low high) (λ z. line_text (word ∷ signed_decimal z ∷ [])) (Between low high)
+integer_line_law : (word : List ℕ) → IsField word → (low high : ℤ) → ((z : ℤ) → Between low high z → unsigned_abs z < 2 ^ 63)
+    → TextLaw (length word + 1 + 22) (integer_line word low high) (λ z. line_text (word ∷ signed_decimal z ∷ [])) (Between low high)
 unfolding integer_line
 integer_line_law word clean low high small =
     told_law _ (Between low high) (line_law (before_law word clean (integer_law low high small)) (omega arith)) (λ z fits. (refl, fits.0)) (λ z fits. (fits, (omega arith, omega arith)))
 
-bound_line_law : (word : List ℕ) → IsField word → TextLaw (length word + 1 + 22) (integer_line word (neg_ℤ (pos 4000000000)) (pos 4000000000)) (λ z. line_text (word ∷ signed_decimal z ∷ [])) (λ z. unsigned_abs z ≤ 4000000000)
+bound_line_law : (word : List ℕ) → IsField word
+    → TextLaw (length word + 1 + 22) (integer_line word (neg_ℤ (pos 4000000000)) (pos 4000000000)) (λ z. line_text (word ∷ signed_decimal z ∷ [])) (λ z. unsigned_abs z ≤ 4000000000)
 bound_line_law word clean =
     told_law _ _ (integer_line_law word clean (neg_ℤ (pos 4000000000)) (pos 4000000000) (λ z h. omega (arith, ints, h.0, h.1))) (λ z fits. (refl, small_bound z fits)) bound_between
 
 outcome_line_law : TextLaw 30 outcome_line (λ o. line_text (codes "outcome" ∷ outcome_word o ∷ [])) (λ _. Unit {0})
 unfolding outcome_line outcome
 outcome_line_law =
-    told_law _ (λ _. Unit {0}) (line_law (before_law (codes "outcome") (clean_word (codes "outcome") refl) (last_law Line outcome_spells)) (omega arith)) (λ o fits. (refl, tt)) (λ o fits. (tt, (omega arith, omega arith)))
+    told_law _ (λ _. Unit {0})
+    (line_law (before_law (codes "outcome") (clean_word (codes "outcome") refl) (last_law Line outcome_spells)) (omega arith))
+    (λ o fits. (refl, tt)) (λ o fits. (tt, (omega arith, omega arith)))
 
 spent_line_law : TextLaw 343 spent_line (λ ns. line_text (codes "spent" ∷ map decimal ns)) (λ ns. Within 1 16 (length ns) × All (λ n. n ≤ 1099511627776) ns)
 unfolding spent_line
 spent_line_law =
-    told_law _ (λ ns. Within 1 16 (length ns) × All (λ n. n ≤ 1099511627776) ns) (line_law (before_law (codes "spent") (clean_word (codes "spent") refl) (naturals_law 16 20 1099511627776 (omega arith) (omega arith) (omega arith))) (omega arith))
+    told_law _ (λ ns. Within 1 16 (length ns) × All (λ n. n ≤ 1099511627776) ns)
+    (line_law (before_law (codes "spent") (clean_word (codes "spent") refl) (naturals_law 16 20 1099511627776 (omega arith) (omega arith) (omega arith))) (omega arith))
     (λ ns fits. (refl, ((omega (arith, fits.1.0, length-map ns decimal), omega (arith, fits.1.1, length-map ns decimal)), fits.0)))
     (λ ns fits. (fits.1, (omega (arith, fits.0.0, length-map ns decimal), omega (arith, fits.0.1, length-map ns decimal))))
 
@@ -60,16 +66,29 @@ end_line_law : TextLaw 5 end_line (λ _. line_text (codes "end" ∷ [])) (λ _. 
 unfolding end_line
 end_line_law = told_law _ (λ _. Unit {0}) (line_law (word_law (codes "end") (clean_word (codes "end") refl)) (omega arith)) (λ u fits. (refl, tt)) (λ u fits. (tt, (omega arith, omega arith)))
 
-game_line_law : (version : ℕ) → TextLaw 5026 (game_line version) (λ p. line_text (codes "game" ∷ position_fields p)) (λ p. IsPositionInRange p × (version_of p ≡ version))
+game_line_law : (version : ℕ) → TextLaw 100000026 (game_line version) (λ p. line_text (codes "game" ∷ position_fields p)) (λ p. IsPositionInRange p × (version_of p ≡ version))
 unfolding game_line
 game_line_law version = told_law _ (λ p. IsPositionInRange p × (version_of p ≡ version)) (line_law (before_law (codes "game") (clean_word (codes "game") refl) (position_law version)) (omega arith))
-    (λ p fits. (refl, fits.0)) (λ p fits. (fits, (omega (arith, five_numbers p), omega (arith, five_numbers p))))
+    (λ p fits. (refl, fits.0)) (λ p fits. (fits, (omega (arith, five_numbers p fits.0), omega (arith, five_numbers p fits.0))))
 
 row_line_law : TextLaw 299 row_line (λ row. line_text (row_fields row)) IsRowInRange
 unfolding row_line
 row_line_law = told_law _ IsRowInRange (line_law row_law (omega arith))
-    (λ row fits. (refl, record { key = fits.0.key; bound = fits.0.bound; weights = fits.0.weights; moves = (omega (arith, fits.1.0, length-map row.weights decimal), omega (arith, fits.1.1, length-map row.weights decimal)) }))
-    (λ row fits. (record { key = fits.key; bound = fits.bound; weights = fits.weights }, (omega (arith, fits.moves.0, length-map row.weights decimal), omega (arith, fits.moves.1, length-map row.weights decimal))))
+    (λ row fits. (
+      refl,
+      record {
+        key =
+            fits.0.key;
+        bound = fits.0.bound;
+        weights =
+            fits.0.weights;
+        moves = (omega (arith, fits.1.0, length-map row.weights decimal), omega (arith, fits.1.1, length-map row.weights decimal));
+      },
+    ))
+    (λ row fits. (
+      record { key = fits.key; bound = fits.bound; weights = fits.weights },
+      (omega (arith, fits.moves.0, length-map row.weights decimal), omega (arith, fits.moves.1, length-map row.weights decimal)),
+    ))
 
 -- ---- the rows
 
@@ -136,7 +155,13 @@ rows_again last (row ∷ more) n rest fits up =
 rows_short : (rs : List SheetRow) → All IsRowInRange rs → length (text_of (map row_fields rs)) ≤ length rs * 299
 rows_short [] fits = omega arith
 rows_short (row ∷ more) fits =
-    omega (arith, length-append (line_text (row_fields row)) (text_of (map row_fields more)), row_line_law.short row (All-head IsRowInRange row more fits), rows_short more (All-tail IsRowInRange row more fits))
+    omega (
+      arith,
+      length-append (line_text (row_fields row)) (text_of (map row_fields more)),
+      row_line_law.short row
+          (All-head IsRowInRange row more fits),
+      rows_short more (All-tail IsRowInRange row more fits),
+    )
 
 -- the rows of a sheet in range
 record RowsFit (rs : List SheetRow) : Type 0 where
@@ -154,7 +179,9 @@ sheet_law word clean =
           let c = counted.takes u count.0 count.1 in
           let r = rows_takes count.0.0 None count.0.1 x count.2 in
           let front : ℕ → List ℕ = λ n. line_text (word ∷ decimal n ∷ []) in (
-            c.0 ∙ ap (λ (rest : List ℕ). front count.0.0 ++ rest) r.text ∙ ap (λ n. front n ++ (text_of (map row_fields x.0) ++ joined x.1.parts)) (sym r.len) ∙ sym (append_assoc (front (length x.0)) (text_of (map row_fields x.0)) (joined x.1.parts)),
+            c.0 ∙ ap (λ (rest : List ℕ). front count.0.0 ++ rest) r.text
+                ∙ ap (λ n. front n ++ (text_of (map row_fields x.0) ++ joined x.1.parts)) (sym r.len)
+                ∙ sym (append_assoc (front (length x.0)) (text_of (map row_fields x.0)) (joined x.1.parts)),
             record { few = omega (arith, r.len, c.1.1); rows = r.rows; rising = increasing None x.0 r.up },
           );
       again = λ n rs rest fits.
@@ -170,7 +197,9 @@ sheet_law word clean =
 -- ---- the whole
 
 abbrev terms_text : ℕ × ℕ × ℤ × ℤ → List ℕ
-terms_text x = line_text (codes "weight" ∷ decimal x.0 ∷ []) ++ (line_text (codes "turns" ∷ decimal x.1 ∷ []) ++ (line_text (codes "asked" ∷ signed_decimal x.2 ∷ []) ++ line_text (codes "resolution" ∷ signed_decimal x.3 ∷ [])))
+terms_text x =
+    line_text (codes "weight" ∷ decimal x.0 ∷ [])
+    ++ (line_text (codes "turns" ∷ decimal x.1 ∷ []) ++ (line_text (codes "asked" ∷ signed_decimal x.2 ∷ []) ++ line_text (codes "resolution" ∷ signed_decimal x.3 ∷ [])))
 
 abbrev TermsFit : ℕ × ℕ × ℤ × ℤ → Type 0
 TermsFit x = Within 8192 1048576 x.0 × x.1 ≤ 1099511627776 × Between (pos 0) (pos 8000000000) x.2 × Between (pos 0) (pos 99999999999) x.3
@@ -187,7 +216,9 @@ terms_law =
     (λ b fits. ((fits.0, ((omega arith, fits.1), (fits.2, fits.3))), refl))
 
 abbrev findings_text : Outcome × ℤ × ℤ × List ℕ → List ℕ
-findings_text x = line_text (codes "outcome" ∷ outcome_word x.0 ∷ []) ++ (line_text (codes "lower" ∷ signed_decimal x.1 ∷ []) ++ (line_text (codes "upper" ∷ signed_decimal x.2 ∷ []) ++ line_text (codes "spent" ∷ map decimal x.3)))
+findings_text x =
+    line_text (codes "outcome" ∷ outcome_word x.0 ∷ [])
+    ++ (line_text (codes "lower" ∷ signed_decimal x.1 ∷ []) ++ (line_text (codes "upper" ∷ signed_decimal x.2 ∷ []) ++ line_text (codes "spent" ∷ map decimal x.3)))
 
 abbrev FindingsFit : Outcome × ℤ × ℤ × List ℕ → Type 0
 FindingsFit x = unsigned_abs x.1 ≤ 4000000000 × unsigned_abs x.2 ≤ 4000000000 × (Within 1 16 (length x.3) × All (λ n. n ≤ 1099511627776) x.3)
@@ -196,7 +227,8 @@ findings_law : TextLaw 429 findings findings_text FindingsFit
 unfolding findings
 findings_law =
     made_law (λ (x : Outcome × (ℤ × (ℤ × List ℕ))). (x.0, x.1.0, x.1.1.0, x.1.1.1)) (λ (b : Outcome × ℤ × ℤ × List ℕ). (b.0, (b.1, (b.2, b.3)))) findings_text FindingsFit
-    (lines_law outcome_line_law (lines_law (bound_line_law (codes "lower") (clean_word (codes "lower") refl)) (lines_law (bound_line_law (codes "upper") (clean_word (codes "upper") refl)) spent_line_law)))
+    (lines_law outcome_line_law
+    (lines_law (bound_line_law (codes "lower") (clean_word (codes "lower") refl)) (lines_law (bound_line_law (codes "upper") (clean_word (codes "upper") refl)) spent_line_law)))
     (λ x fits. (refl, (fits.1.0, fits.1.1.0, fits.1.1.1)))
     (λ b fits. ((tt, (fits.0, (fits.1, fits.2))), refl))
 
@@ -224,7 +256,7 @@ sheet_is side total s fits = sym (ap₂ (λ (side : Side) (total : ℕ). record 
 abbrev IsInVersion : ℕ → Report → Type 0
 IsInVersion version r = IsInRange r × (version_of r.position ≡ version)
 
-report_law : (version : ℕ) → TextLaw 627205584 (report version) body (IsInVersion version)
+report_law : (version : ℕ) → TextLaw 727200584 (report version) body (IsInVersion version)
 unfolding report
 report_law version =
     made_law report_of (λ r. (r.position, ((r.weight, r.turns, r.asked, r.resolution), ((r.outcome, r.lower, r.upper, r.spent), (r.one.rows, r.two.rows))))) body (IsInVersion version)
@@ -276,10 +308,13 @@ report_text-body r =
     let one = sheet_lines (codes "one") r.one.rows in
     let two = sheet_lines (codes "two") r.two.rows in
     let last = (codes "end" ∷ []) ∷ [] in
-    let both : text_of (one ++ (two ++ last)) ≡ sheets_text (r.one.rows, r.two.rows) = flat_map-append line_text one (two ++ last) ∙ ap (λ (rest : List ℕ). text_of one ++ rest) (flat_map-append line_text two last) in
+    let both : text_of (one ++ (two ++ last)) ≡ sheets_text (r.one.rows, r.two.rows) =
+    flat_map-append line_text one (two ++ last) ∙ ap (λ (rest : List ℕ). text_of one ++ rest) (flat_map-append line_text two last) in
     ap (λ (rest : List ℕ). line_text (head_fields (version_of r.position)) ++ (line_text (codes "game" ∷ position_fields r.position) ++ rest))
-    (grouped (line_text (codes "weight" ∷ decimal r.weight ∷ [])) (line_text (codes "turns" ∷ decimal r.turns ∷ [])) (line_text (codes "asked" ∷ signed_decimal r.asked ∷ [])) (line_text (codes "resolution" ∷ signed_decimal r.resolution ∷ []))
-    (line_text (codes "outcome" ∷ outcome_word r.outcome ∷ [])) (line_text (codes "lower" ∷ signed_decimal r.lower ∷ [])) (line_text (codes "upper" ∷ signed_decimal r.upper ∷ [])) (line_text (codes "spent" ∷ map decimal r.spent)) (text_of (one ++ (two ++ last)))
+    (grouped (line_text (codes "weight" ∷ decimal r.weight ∷ [])) (line_text (codes "turns" ∷ decimal r.turns ∷ []))
+    (line_text (codes "asked" ∷ signed_decimal r.asked ∷ [])) (line_text (codes "resolution" ∷ signed_decimal r.resolution ∷ []))
+    (line_text (codes "outcome" ∷ outcome_word r.outcome ∷ [])) (line_text (codes "lower" ∷ signed_decimal r.lower ∷ []))
+    (line_text (codes "upper" ∷ signed_decimal r.upper ∷ [])) (line_text (codes "spent" ∷ map decimal r.spent)) (text_of (one ++ (two ++ last)))
     ∙ ap (λ (rest : List ℕ). terms_text (r.weight, r.turns, r.asked, r.resolution) ++ (findings_text (r.outcome, r.lower, r.upper, r.spent) ++ rest)) both)
 
 -- ---- the head and the end
@@ -287,7 +322,8 @@ report_text-body r =
 version_line_law : TextLaw 37 version_line (λ v. line_text (head_fields v)) (Within 1 newest_version)
 unfolding version_line
 version_line_law = told_law _ (Within 1 newest_version)
-    (line_law (before_law (codes "dosolve") (clean_word (codes "dosolve") refl) (before_law (codes "report") (clean_word (codes "report") refl) (natural_law 1 newest_version (omega arith)))) (omega arith))
+    (line_law (before_law (codes "dosolve") (clean_word (codes "dosolve") refl)
+    (before_law (codes "report") (clean_word (codes "report") refl) (natural_law 1 newest_version (omega arith)))) (omega arith))
     (λ v fits. (refl, fits.0)) (λ v fits. (fits, (omega arith, omega arith)))
 
 or_head_ok : {A : Type 0} (r : Result A TextError) (x : A) → or_head r ≡ Ok x → r ≡ Ok x
@@ -302,7 +338,8 @@ head_takes : (u : Unread) (x : ℕ × Unread) → head u ≡ Ok x → joined u.p
 unfolding head
 head_takes u x e = (version_line_law.takes u x (or_head_ok (version_line u) x e)).0
 
-head_again : (k : GameKind) (rest : List ℕ) → (m : ℕ) × (head (record { parts = lines_in (line_text (head_fields (game_version k)) ++ rest); number = 1 }) ≡ Ok (game_version k, record { parts = lines_in rest; number = m }))
+head_again : (k : GameKind) (rest : List ℕ)
+    → (m : ℕ) × (head (record { parts = lines_in (line_text (head_fields (game_version k)) ++ rest); number = 1 }) ≡ Ok (game_version k, record { parts = lines_in rest; number = m }))
 unfolding head
 head_again k rest = let a = version_line_law.again 1 (game_version k) rest (known_version k) in (a.0, ap or_head a.1)
 
@@ -341,4 +378,11 @@ read_takes bytes r e =
 pub report_short : (r : Report) → IsInRange r → length (report_text r) ≤ 1073741824
 report_short r fits =
     let version = version_of r.position in
-    omega (arith, ap length (report_text-body r), length-append (line_text (head_fields version)) (body r), version_line_law.short version (known_version (kind_of r.position)), (report_law version).short r (fits, refl))
+    omega (
+      arith,
+      ap length (report_text-body r),
+      length-append (line_text (head_fields version)) (body r),
+      version_line_law.short version
+          (known_version (kind_of r.position)),
+      (report_law version).short r (fits, refl),
+    )

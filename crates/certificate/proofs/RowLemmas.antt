@@ -23,7 +23,8 @@ pub row_more : (front : List SheetRow) (count i : ℕ) (last : Option ℕ) (u af
 unfolding rows
 row_more front count i last u after row whole lt is so_far =
     let k : count - i ≡ suc (count - (i + 1)) = omega arith in
-    let one : behind front (rows (count - i) last u) ≡ behind (front ++ row ∷ []) (rows (count - (i + 1)) (Some row.key) after) = rw (k, is) (regroup front row (rows (count - (i + 1)) (Some row.key) after)) in
+    let one : behind front (rows (count - i) last u) ≡ behind (front ++ row ∷ []) (rows (count - (i + 1)) (Some row.key) after) =
+    rw (k, is) (regroup front row (rows (count - (i + 1)) (Some row.key) after)) in
     sym one ∙ so_far
 
 row_stops : (e : TextError) (front : List SheetRow) (count i : ℕ) (last : Option ℕ) (u : Unread) (whole : Rows) → i < count

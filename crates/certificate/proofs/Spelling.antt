@@ -77,7 +77,7 @@ integer_spells low high small = record {
 
 -- ---- words
 
-find_passes : {A : Type 0} (p : A → Bool) (xs : List A) (a : A) → find p xs ≡ Some a → p a ≡ true
+pub find_passes : {A : Type 0} (p : A → Bool) (xs : List A) (a : A) → find p xs ≡ Some a → p a ≡ true
 find_passes p [] a e = absurd cc
 find_passes p (x ∷ xs) a e =
     elim (p x) as (λ t. p x ≡ t → cond t (Some x) (find p xs) ≡ Some a → p a ≡ true) [
@@ -127,6 +127,10 @@ naturals_again high [] wide fit = refl
 naturals_again high (n ∷ ns) wide fit =
     rw ((natural_spells 0 high wide).again n (omega arith, All-head (λ n. n ≤ high) n ns fit), naturals_again high ns wide (All-tail (λ n. n ≤ high) n ns fit)) refl
 
+pub option_map_some : {A B : Type 0} (f : A → B) (o : Option A) (y : B) → option_map f o ≡ Some y → (x : A) × (o ≡ Some x) × (f x ≡ y)
+option_map_some f None y e = absurd cc
+option_map_some f (Some x) y e = (x, refl, cc)
+
 -- numbers that fields spell
 pub record Spelled (high : ℕ) (fs : List (List ℕ)) (ns : List ℕ) : Type 0 where
   pub text : fs ≡ map decimal ns
@@ -141,10 +145,6 @@ naturals_takes high (f ∷ fs) ns wide e =
     let more = option_map_some (λ ns. n ∷ ns) (naturals_in 0 high fs) ns h in
     let others = naturals_takes high fs more.0 wide more.1 in
     subst (Spelled high (f ∷ fs)) more.2 (record { text = ap₂ (λ f fs. f ∷ fs) here.0 others.text; fits = All-cons (λ n. n ≤ high) n more.0 here.1.1 others.fits }))
-  where
-    option_map_some : {A B : Type 0} (f : A → B) (o : Option A) (y : B) → option_map f o ≡ Some y → (x : A) × (o ≡ Some x) × (f x ≡ y)
-    option_map_some f None y e = absurd cc
-    option_map_some f (Some x) y e = (x, refl, cc)
 
 pub numbers_clean : (high : ℕ) (ns : List ℕ) → high < 2 ^ 64 → All (λ n. n ≤ high) ns → All IsField (map decimal ns)
 numbers_clean high ns wide fit = All-map IsField decimal ns (All-weaker (λ n. n ≤ high) (λ n. IsField (decimal n)) (λ n small. decimal_field n (omega arith)) ns fit)
@@ -155,7 +155,8 @@ pub All-join : (P : ℕ → Type 0) (c : ℕ) (parts : List (List ℕ)) → P c 
 All-join P c [] at fit = All-nil P
 All-join P c (x ∷ []) at fit = All-head (All P) x [] fit
 All-join P c (x ∷ y ∷ more) at fit =
-    All-append P x (c ∷ join_with_byte c (y ∷ more)) (All-head (All P) x (y ∷ more) fit) (All-cons P c (join_with_byte c (y ∷ more)) at (All-join P c (y ∷ more) at (All-tail (All P) x (y ∷ more) fit)))
+    All-append P x (c ∷ join_with_byte c (y ∷ more)) (All-head (All P) x (y ∷ more) fit)
+    (All-cons P c (join_with_byte c (y ∷ more)) at (All-join P c (y ∷ more) at (All-tail (All P) x (y ∷ more) fit)))
 
 differs : (b c : ℕ) → c < b → (b == c) ≡ false
 differs b c h = grind arith
@@ -216,7 +217,8 @@ list_takes : (most : ℕ) (text ns : List ℕ) → list_in most text ≡ Some ns
 unfolding list_in
 list_takes most text ns e =
     let parts = slice_split (λ b. b == 44) text in
-    elim (bytes_eq text (codes "-")) as (λ t. bytes_eq text (codes "-") ≡ t → cond t (Some []) (cond (has_parts 1 most parts) (naturals_in 0 255 parts) None) ≡ Some ns → (text ≡ list_text ns) × IsByteList most ns) [
+    elim (bytes_eq text (codes "-")) as (λ t. bytes_eq text (codes "-") ≡ t
+    → cond t (Some []) (cond (has_parts 1 most parts) (naturals_in 0 255 parts) None) ≡ Some ns → (text ≡ list_text ns) × IsByteList most ns) [
       | true ↦ λ is h.
           let none : ◌≡◌ {A = List ℕ} [] ns = cc in
           subst (λ ns. (text ≡ list_text ns) × IsByteList most ns) none ((bytes_eq-Decides text (codes "-")).0 is, record { few = omega arith; small = All-nil (λ n. n ≤ 255) })
@@ -224,8 +226,11 @@ list_takes most text ns e =
           let form = test_some (has_parts 1 most parts) (naturals_in 0 255 parts) ns h in
           let size = has_parts-bounds 1 most parts form.0 in
           let numbers = naturals_takes 255 parts ns (omega arith) form.1 in
-          let len : length parts ≡ length ns = ap length numbers.text ∙ length-map ns decimal in
-          (sym (join_with_byte-slice_split 44 text) ∙ ap (join_with_byte 44) numbers.text ∙ join-list_text ns (omega (arith, len, size.0)), record { few = omega (arith, len, size.1); small = numbers.fits })
+          let len : length parts ≡ length ns = ap length numbers.text ∙ length-map ns decimal in (
+            sym (join_with_byte-slice_split 44 text) ∙ ap (join_with_byte 44) numbers.text
+                ∙ join-list_text ns (omega (arith, len, size.0)),
+            record { few = omega (arith, len, size.1); small = numbers.fits },
+          )
     ] refl e
 
 list_again : (most : ℕ) (ns : List ℕ) → IsByteList most ns → list_in most (list_text ns) ≡ Some ns
@@ -234,7 +239,8 @@ list_again most [] fit = refl
 list_again most (n ∷ ns) fit =
     let listed = All-join IsInList 44 (map decimal (n ∷ ns)) (omega arith) (numerals IsInList (λ b h e. omega arith) (n ∷ ns) fit.small) in
     let form = has_parts-true 1 most (map decimal (n ∷ ns)) (numbers_clean 255 (n ∷ ns) (omega arith) fit.small) (omega arith, omega (arith, length-map ns decimal, fit.few)) in
-    rw (no_dash _ listed, split-join 44 48 (decimal n) (map decimal ns) (omega arith) (numerals (λ b. 48 ≤ b) (λ b h. h) (n ∷ ns) fit.small), form) (naturals_again 255 (n ∷ ns) (omega arith) fit.small)
+    rw (no_dash _ listed, split-join 44 48 (decimal n) (map decimal ns) (omega arith) (numerals (λ b. 48 ≤ b) (λ b h. h) (n ∷ ns) fit.small), form)
+    (naturals_again 255 (n ∷ ns) (omega arith) fit.small)
 
 list_clean : (most : ℕ) (ns : List ℕ) → IsByteList most ns → IsField (list_text ns)
 list_clean most [] fit = clean_word (codes "-") refl
@@ -247,7 +253,13 @@ join_short : (n : ℕ) (ns : List ℕ) → All (λ n. n ≤ 255) (n ∷ ns) → 
 join_short n [] fit = let small = All-head (λ n. n ≤ 255) n [] fit in length-decimal-le 4 n (omega arith) (omega arith) (omega arith)
 join_short n (m ∷ ms) fit =
     let small = All-head (λ n. n ≤ 255) n (m ∷ ms) fit in
-    omega (arith, length-append (decimal n) (44 ∷ join_with_byte 44 (map decimal (m ∷ ms))), length-decimal-le 3 n (omega arith) (omega arith) (omega arith), join_short m ms (All-tail (λ n. n ≤ 255) n (m ∷ ms) fit))
+    omega (
+      arith,
+      length-append (decimal n) (44 ∷ join_with_byte 44 (map decimal (m ∷ ms))),
+      length-decimal-le 3 n (omega arith) (omega arith)
+          (omega arith),
+      join_short m ms (All-tail (λ n. n ≤ 255) n (m ∷ ms) fit),
+    )
 
 list_short : (most : ℕ) (ns : List ℕ) → IsByteList most ns → length (list_text ns) ≤ most * 4 + 1
 list_short most [] fit = omega arith

@@ -71,7 +71,8 @@ next_line_takes least most u l e =
     let cut = bind_ok (or_fault (first_line u) Short) _ l e in
     let form = test_ok (has_parts least most (fields_in cut.0.0)) _ _ l cut.2 in
     let rest = joined cut.0.1.parts in
-    let spelled : line_text (fields_in cut.0.0) ++ rest ≡ cut.0.0 ++ (10 ∷ rest) = line_text-joined (fields_in cut.0.0) rest ∙ ap (λ line. line ++ (10 ∷ rest)) (join_with_byte-slice_split 32 cut.0.0) in
+    let spelled : line_text (fields_in cut.0.0) ++ rest ≡ cut.0.0 ++ (10 ∷ rest) =
+    line_text-joined (fields_in cut.0.0) rest ∙ ap (λ line. line ++ (10 ∷ rest)) (join_with_byte-slice_split 32 cut.0.0) in
     subst (TakesLine least most u) (ok_is (record { parts = fields_in cut.0.0; number = u.number }, cut.0.1) l form.1)
     (record { text = (first_line_takes u cut.0 (or_ok (first_line u) Short cut.0 cut.1)).text ∙ sym spelled; size = has_parts-bounds least most (fields_in cut.0.0) form.0 })
 

@@ -1,21 +1,25 @@
--- The line of a position, game by game: its words and numbers, their ranges, and how they are read.
-use Rattle.std.specs.Prelude.{ℕ, ◌≤◌, ℤ, pos, neg_ℤ, unsigned_abs, ◌==◌, if◌then◌else◌, List, [], ◌∷◌, drop, codes, decimal, bytes_eq, find, Option, None, Some, option_and_then}
-use Rattle.std.specs.Fmt.{signed_decimal}
-use Rattle.text.specs.Texts.{list_text}
+-- The games, one by one: their words, their fields, and positions as values of these fields. Then the line of a
+-- position, which is read and written by the fields of its game, whatever the game.
+use Rattle.std.specs.Prelude.{ℕ, ℤ, pos, unsigned_abs, ◌==◌, Bool, true, ◌&&◌, if◌then◌else◌, List, [], ◌∷◌, map, drop, get_or, codes, bytes_eq, find, Option, None, Some, option_and_then, Ok, Err}
 use Rattle.goofspiel.specs.declared.Pay.{Pay}
 use Rattle.goofspiel.specs.declared.Pay.TheVariants.{Margin, Win}
 use Rattle.certificate.specs.declared.error.TextError.TheVariants as errors
-use Rattle.certificate.specs.declared.report.PositionText.{PositionText}
-use Rattle.certificate.specs.declared.report.PositionText.TheVariants as texts
+use Rattle.certificate.specs.declared.fields.FieldKind.{FieldKind}
+use Rattle.certificate.specs.declared.fields.Value.{Value}
+use Rattle.certificate.specs.declared.fields.Value.TheVariants as values_are
+use Rattle.certificate.specs.declared.fields.Word.{Word}
+use Rattle.certificate.specs.declared.fields.Word.TheVariants as words
+use Rattle.certificate.specs.declared.positions.TheConstants.{GAMES, GOOFSPIEL, OSHI_ZUMO, TRON, PURSUIT}
+use Rattle.certificate.specs.declared.positions.PositionText.{PositionText}
+use Rattle.certificate.specs.declared.positions.PositionText.TheVariants as texts
+use Rattle.certificate.specs.declared.positions.Shown.{Shown}
+use Rattle.certificate.specs.declared.positions.Shown.TheVariants as shown
 use Rattle.certificate.specs.declared.positions.GameKind.{GameKind}
 use Rattle.certificate.specs.declared.positions.GameKind.TheVariants.{Goofspiel, OshiZumo, Tron, GoofspielDrawn, Pursuit}
-use Rattle.certificate.specs.Numbers.{Between, IsByteList}
-use Rattle.certificate.specs.Readers.{◌>>=◌, Reads, ◌followed_by◌, made_by, spelled, natural, integer, list}
+use Rattle.certificate.specs.Fields.{FieldRow, AllFit, value_text, value_in, has_word}
+use Rattle.certificate.specs.Readers.{◌>>=◌, Reads, spelled}
 
--- ---- the kinds of games
-abbrev pub kinds : List GameKind
-kinds = Goofspiel ∷ OshiZumo ∷ Tron ∷ GoofspielDrawn ∷ Pursuit ∷ []
-
+-- ---- the games
 abbrev pub game_word : GameKind → List ℕ
 game_word Goofspiel = codes "goofspiel"
 game_word OshiZumo = codes "oshi_zumo"
@@ -35,6 +39,17 @@ game_version Pursuit = 2
 abbrev pub newest_version : ℕ
 newest_version = 2
 
+-- the fields of the game, in the order of a line and of refusals
+abbrev pub fields_of : GameKind → List FieldRow
+fields_of Goofspiel = GOOFSPIEL
+fields_of OshiZumo = OSHI_ZUMO
+fields_of Tron = TRON
+fields_of GoofspielDrawn = GOOFSPIEL
+fields_of Pursuit = PURSUIT
+
+abbrev pub kinds_of : GameKind → List FieldKind
+kinds_of game = map (λ (row : FieldRow). row.1) (fields_of game)
+
 abbrev pub kind_of : PositionText → GameKind
 kind_of (texts.Goofspiel one two prizes score pay) = Goofspiel
 kind_of (texts.OshiZumo size one two least place) = OshiZumo
@@ -45,103 +60,111 @@ kind_of (texts.Pursuit nodes edges one two rounds) = Pursuit
 abbrev pub version_of : PositionText → ℕ
 version_of text = game_version (kind_of text)
 
+-- ---- positions as values of their fields
+abbrev pub pay_named : Word → Pay
+pay_named words.Win = Win
+pay_named word = Margin
+
+abbrev pub pay_word : Pay → Word
+pay_word Margin = words.Margin
+pay_word Win = words.Win
+
+abbrev whole : ℕ → Value
+whole n = values_are.Number (pos n)
+
+abbrev pub values_of : PositionText → List Value
+values_of (texts.Goofspiel one two prizes score pay) = values_are.List one ∷ values_are.List two ∷ values_are.List prizes ∷ values_are.Number score ∷ values_are.Word (pay_word pay) ∷ []
+values_of (texts.OshiZumo size one two least place) = whole size ∷ whole one ∷ whole two ∷ whole least ∷ values_are.Number place ∷ []
+values_of (texts.Tron height width walls one two) = whole height ∷ whole width ∷ values_are.List walls ∷ whole one ∷ whole two ∷ []
+values_of (texts.GoofspielDrawn one two prizes score pay) = values_are.List one ∷ values_are.List two ∷ values_are.List prizes ∷ values_are.Number score ∷ values_are.Word (pay_word pay) ∷ []
+values_of (texts.Pursuit nodes edges one two rounds) = whole nodes ∷ values_are.List edges ∷ whole one ∷ whole two ∷ whole rounds ∷ []
+
+abbrev pub number_in_value : Value → ℤ
+number_in_value (values_are.Number z) = z
+number_in_value v = pos 0
+
+abbrev pub list_in_value : Value → List ℕ
+list_in_value (values_are.List ns) = ns
+list_in_value v = []
+
+abbrev pub word_in_value : Value → Word
+word_in_value (values_are.Word w) = w
+word_in_value v = words.Margin
+
+-- the value at a place, from 0
+abbrev pub number_at : ℕ → List Value → ℤ
+number_at i vs = number_in_value (get_or vs i (whole 0))
+
+abbrev pub count_at : ℕ → List Value → ℕ
+count_at i vs = unsigned_abs (number_at i vs)
+
+abbrev pub list_at : ℕ → List Value → List ℕ
+list_at i vs = list_in_value (get_or vs i (whole 0))
+
+abbrev pub word_value_at : ℕ → List Value → Word
+word_value_at i vs = word_in_value (get_or vs i (whole 0))
+
+-- the position of the game with these values
+abbrev pub position_with : GameKind → List Value → PositionText
+position_with Goofspiel vs = texts.Goofspiel (list_at 0 vs) (list_at 1 vs) (list_at 2 vs) (number_at 3 vs) (pay_named (word_value_at 4 vs))
+position_with OshiZumo vs = texts.OshiZumo (count_at 0 vs) (count_at 1 vs) (count_at 2 vs) (count_at 3 vs) (number_at 4 vs)
+position_with Tron vs = texts.Tron (count_at 0 vs) (count_at 1 vs) (list_at 2 vs) (count_at 3 vs) (count_at 4 vs)
+position_with GoofspielDrawn vs = texts.GoofspielDrawn (list_at 0 vs) (list_at 1 vs) (list_at 2 vs) (number_at 3 vs) (pay_named (word_value_at 4 vs))
+position_with Pursuit vs = texts.Pursuit (count_at 0 vs) (list_at 1 vs) (count_at 2 vs) (count_at 3 vs) (count_at 4 vs)
+
+-- the positions that have a line: each value fits its field
+abbrev pub IsPositionInRange : PositionText → Type 0
+IsPositionInRange text = AllFit (kinds_of (kind_of text)) (values_of text)
+
+-- ---- the line
+abbrev pub shown_value : Shown → Value
+shown_value (shown.Number z) = values_are.Number z
+shown_value (shown.List ns) = values_are.List ns.now
+shown_value (shown.Word w) = values_are.Word w
+
+abbrev pub position_numbers : PositionText → List (List ℕ)
+position_numbers text = map value_text (values_of text)
+
+abbrev pub position_fields : PositionText → List (List ℕ)
+position_fields text = game_word (kind_of text) ∷ position_numbers text
+
 -- the game whose word it is
 unfoldable pub game_of : List ℕ → Option GameKind
-game_of word = find (λ k. bytes_eq word (game_word k)) kinds
+game_of word = find (λ k. bytes_eq word (game_word k)) GAMES
 
 -- the same, for a report of a version
 unfoldable pub game_in : ℕ → List ℕ → Option GameKind
 game_in version word = option_and_then (λ k. if game_version k == version then Some k else None) (game_of word)
 
--- ---- the fields of the line behind its word
-abbrev pub pay_word : Pay → List ℕ
-pay_word Margin = codes "margin"
-pay_word Win = codes "win"
-
--- both hands, the prizes, the score and the pay
-abbrev pub Cards : Type 0
-Cards = List ℕ × (List ℕ × (List ℕ × (ℤ × Pay)))
-
-abbrev pub cards_fields : Cards → List (List ℕ)
-cards_fields x = list_text x.0 ∷ list_text x.1.0 ∷ list_text x.1.1.0 ∷ signed_decimal x.1.1.1.0 ∷ pay_word x.1.1.1.1 ∷ []
-
-abbrev pub position_numbers : PositionText → List (List ℕ)
-position_numbers (texts.Goofspiel one two prizes score pay) = cards_fields (one, (two, (prizes, (score, pay))))
-position_numbers (texts.OshiZumo size one two least place) = decimal size ∷ decimal one ∷ decimal two ∷ decimal least ∷ signed_decimal place ∷ []
-position_numbers (texts.Tron height width walls one two) = decimal height ∷ decimal width ∷ list_text walls ∷ decimal one ∷ decimal two ∷ []
-position_numbers (texts.GoofspielDrawn one two prizes score pay) = cards_fields (one, (two, (prizes, (score, pay))))
-position_numbers (texts.Pursuit nodes edges one two rounds) = decimal nodes ∷ list_text edges ∷ decimal one ∷ decimal two ∷ decimal rounds ∷ []
-
-abbrev pub position_fields : PositionText → List (List ℕ)
-position_fields text = game_word (kind_of text) ∷ position_numbers text
-
--- ---- the positions that have a line
-abbrev pub AreCardsInRange : List ℕ → List ℕ → List ℕ → ℤ → Type 0
-AreCardsInRange one two prizes score = IsByteList 255 one × IsByteList 255 two × IsByteList 255 prizes × unsigned_abs score ≤ 1000000
-
-abbrev pub IsPositionInRange : PositionText → Type 0
-IsPositionInRange (texts.Goofspiel one two prizes score pay) = AreCardsInRange one two prizes score
-IsPositionInRange (texts.OshiZumo size one two least place) = size ≤ 255 × one ≤ 255 × two ≤ 255 × least ≤ 255 × Between (neg_ℤ (pos 128)) (pos 127) place
-IsPositionInRange (texts.Tron height width walls one two) = height ≤ 255 × width ≤ 255 × IsByteList 255 walls × one ≤ 255 × two ≤ 255
-IsPositionInRange (texts.GoofspielDrawn one two prizes score pay) = AreCardsInRange one two prizes score
-IsPositionInRange (texts.Pursuit nodes edges one two rounds) = nodes ≤ 255 × IsByteList 1024 edges × one ≤ 255 × two ≤ 255 × rounds ≤ 255
-
--- ---- how the fields are read
--- the pay whose word it is
-unfoldable pub pay_of : List ℕ → Option Pay
-pay_of word = find (λ p. bytes_eq word (pay_word p)) (Margin ∷ Win ∷ [])
-
-unfoldable pub pay : Reads Pay
-pay = spelled errors.Line pay_of
-
--- a word that is no pay is told before a number that is none
-unfoldable pub cards : Reads Cards
-cards u = do
-  _ ← pay (record { parts = drop 4 u.parts; number = u.number })
-  (list 255 followed_by list 255 followed_by list 255 followed_by integer (neg_ℤ (pos 1000000)) (pos 1000000) followed_by pay) u
-
-abbrev pub goofspiel_of : Cards → PositionText
-goofspiel_of (one, (two, (prizes, (score, pay)))) = texts.Goofspiel one two prizes score pay
-
-unfoldable pub goofspiel : Reads PositionText
-goofspiel = made_by goofspiel_of cards
-
-abbrev pub oshi_zumo_of : ℕ × (ℕ × (ℕ × (ℕ × ℤ))) → PositionText
-oshi_zumo_of (size, (one, (two, (least, place)))) = texts.OshiZumo size one two least place
-
-unfoldable pub oshi_zumo : Reads PositionText
-oshi_zumo = made_by oshi_zumo_of (natural 0 255 followed_by natural 0 255 followed_by natural 0 255 followed_by natural 0 255 followed_by integer (neg_ℤ (pos 128)) (pos 127))
-
-abbrev pub tron_of : ℕ × (ℕ × (List ℕ × (ℕ × ℕ))) → PositionText
-tron_of (height, (width, (walls, (one, two)))) = texts.Tron height width walls one two
-
-unfoldable pub tron : Reads PositionText
-tron = made_by tron_of (natural 0 255 followed_by natural 0 255 followed_by list 255 followed_by natural 0 255 followed_by natural 0 255)
-
-abbrev pub goofspiel_drawn_of : Cards → PositionText
-goofspiel_drawn_of (one, (two, (prizes, (score, pay)))) = texts.GoofspielDrawn one two prizes score pay
-
-unfoldable pub goofspiel_drawn : Reads PositionText
-goofspiel_drawn = made_by goofspiel_drawn_of cards
-
-abbrev pub pursuit_of : ℕ × (List ℕ × (ℕ × (ℕ × ℕ))) → PositionText
-pursuit_of (nodes, (edges, (one, (two, rounds)))) = texts.Pursuit nodes edges one two rounds
-
-unfoldable pub pursuit : Reads PositionText
-pursuit = made_by pursuit_of (natural 0 255 followed_by list 1024 followed_by natural 0 255 followed_by natural 0 255 followed_by natural 0 255)
-
-unfoldable pub numbers_of : GameKind → Reads PositionText
-numbers_of Goofspiel = goofspiel
-numbers_of OshiZumo = oshi_zumo
-numbers_of Tron = tron
-numbers_of GoofspielDrawn = goofspiel_drawn
-numbers_of Pursuit = pursuit
-
 unfoldable pub game : ℕ → Reads GameKind
 game version = spelled errors.Line (game_in version)
+
+abbrev pub first_has_word : FieldKind → List (List ℕ) → Bool
+first_has_word kind [] = true
+first_has_word kind (f ∷ fs) = has_word kind f
+
+-- each field that holds a word is one of its words
+unfoldable pub have_words : List FieldKind → List (List ℕ) → Bool
+have_words [] fs = true
+have_words (k ∷ ks) fs = first_has_word k fs && have_words ks (drop 1 fs)
+
+unfoldable pub value : FieldKind → Reads Value
+value kind = spelled errors.Number (value_in kind)
+
+unfoldable pub values : List FieldKind → Reads (List Value)
+values [] u = Ok ([], u)
+values (k ∷ ks) u = do
+  v ← value k u
+  vs ← values ks v.1
+  Ok (v.0 ∷ vs.0, vs.1)
+
+-- a fault of a word is told before one of a number
+unfoldable pub line_values : List FieldKind → Reads (List Value)
+line_values kinds u = if have_words kinds u.parts then values kinds u else Err (errors.Line u.number)
 
 -- the position, in a report of the version
 unfoldable pub position : ℕ → Reads PositionText
 position version u = do
-  kind ← game version u
-  numbers_of kind.0 kind.1
+  game ← game version u
+  vs ← line_values (kinds_of game.0) game.1
+  Ok (position_with game.0 vs.0, vs.1)

@@ -82,12 +82,9 @@ list_in most text =
     let parts = slice_split (λ b. b == 44) text in
     if bytes_eq text (codes "-") then Some [] else (if has_parts 1 most parts then naturals_in 0 255 parts else None)
 
-unfoldable pub list : ℕ → Reads (List ℕ)
-list most = spelled errors.Number (list_in most)
-
 -- this word stands next
-unfoldable pub expected : List ℕ → Reads (Unit {0})
-expected word u = do
+unfoldable pub expected_word : List ℕ → Reads (Unit {0})
+expected_word word u = do
   f ← field u
   if bytes_eq f.0 word then Ok (tt, f.1) else Err (errors.Line u.number)
 

@@ -4,13 +4,13 @@ use Rattle.sim_game.specs.declared.Side.TheVariants as sides
 use Rattle.plan_book.specs.declared.SheetRow.{SheetRow}
 use Rattle.certificate.specs.declared.error.TextError.{TextError}
 use Rattle.certificate.specs.declared.error.TextError.TheVariants as errors
-use Rattle.certificate.specs.declared.report.PositionText.{PositionText}
+use Rattle.certificate.specs.declared.positions.PositionText.{PositionText}
 use Rattle.certificate.specs.declared.report.Outcome.{Outcome}
 use Rattle.certificate.specs.declared.report.Outcome.TheVariants.{Closed, Settled, Spent, Full}
 use Rattle.certificate.specs.declared.report.Report.{Report}
 use Rattle.certificate.specs.Positions.{newest_version, position}
 use Rattle.certificate.specs.Texts.{outcome_word}
-use Rattle.certificate.specs.Readers.{◌>>=◌, Reads, ◌followed_by◌, ◌before◌, made_by, spelled, natural, integer, naturals, expected, lines_in, in_line}
+use Rattle.certificate.specs.Readers.{◌>>=◌, Reads, ◌followed_by◌, ◌before◌, made_by, spelled, natural, integer, naturals, expected_word, lines_in, in_line}
 pub use Rattle.certificate.specs.Readers.{Fails, Gives}
 
 -- ---- the lines
@@ -23,30 +23,30 @@ unfoldable pub outcome : Reads Outcome
 outcome = spelled errors.Line outcome_of
 
 unfoldable pub game_line : ℕ → Reads PositionText
-game_line version = in_line 7 7 (expected (codes "game") before position version)
+game_line version = in_line 7 7 (expected_word (codes "game") before position version)
 
 unfoldable pub natural_line : List ℕ → ℕ → ℕ → Reads ℕ
-natural_line word low high = in_line 2 2 (expected word before natural low high)
+natural_line word low high = in_line 2 2 (expected_word word before natural low high)
 
 unfoldable pub integer_line : List ℕ → ℤ → ℤ → Reads ℤ
-integer_line word low high = in_line 2 2 (expected word before integer low high)
+integer_line word low high = in_line 2 2 (expected_word word before integer low high)
 
 unfoldable pub outcome_line : Reads Outcome
-outcome_line = in_line 2 2 (expected (codes "outcome") before outcome)
+outcome_line = in_line 2 2 (expected_word (codes "outcome") before outcome)
 
 unfoldable pub spent_line : Reads (List ℕ)
-spent_line = in_line 2 17 (expected (codes "spent") before naturals 0 1099511627776)
+spent_line = in_line 2 17 (expected_word (codes "spent") before naturals 0 1099511627776)
 
 unfoldable pub end_line : Reads (Unit {0})
-end_line = in_line 1 1 (expected (codes "end"))
+end_line = in_line 1 1 (expected_word (codes "end"))
 
 -- ---- the sheets
 
-abbrev pub row_of : ℕ × (ℤ × List ℕ) → SheetRow
-row_of (key, (bound, weights)) = record { key = key; bound = bound; weights = weights }
+abbrev pub read_row : ℕ × (ℤ × List ℕ) → SheetRow
+read_row (key, (bound, weights)) = record { key = key; bound = bound; weights = weights }
 
 unfoldable pub row_line : Reads SheetRow
-row_line = in_line 3 34 (made_by row_of (natural 0 9223372036854775807 followed_by integer (neg_ℤ (pos 4000000000)) (pos 4000000000) followed_by naturals 0 1048576))
+row_line = in_line 3 34 (made_by read_row (natural 0 9223372036854775807 followed_by integer (neg_ℤ (pos 4000000000)) (pos 4000000000) followed_by naturals 0 1048576))
 
 -- the key is greater than the one before
 abbrev pub rises : Option ℕ → ℕ → Bool
@@ -75,7 +75,7 @@ sheet word u = do
 
 -- the first line names a version
 unfoldable pub version_line : Reads ℕ
-version_line = in_line 3 3 (expected (codes "dosolve") before expected (codes "report") before natural 1 newest_version)
+version_line = in_line 3 3 (expected_word (codes "dosolve") before expected_word (codes "report") before natural 1 newest_version)
 
 -- any other is a fault of the head
 abbrev pub or_head : {A : Type 0} → Result A TextError → Result A TextError

@@ -2,6 +2,7 @@
 #![tactic(auto)]
 
 mod error;
+mod fields;
 mod lines;
 mod lists;
 mod numbers;
@@ -13,12 +14,10 @@ mod rows;
 mod writing;
 
 pub use error::TextError;
+pub use fields::{Absent, AskRow, Choices, Field, FieldKind, FieldRow, Value, Word};
 pub use goofspiel::Pay;
 pub use numbers::natural;
-pub use positions::GameKind;
+pub use positions::{FIELDS, GameKind, PositionText};
 pub use reading::{read, reading_undoes_writing, texts_are_short};
-pub use report::{Ask, Outcome, PositionText, Report};
+pub use report::{ASK, ASKED, Ask, Outcome, Report, StageMethod};
 pub use writing::write;
-
-#[cfg(test)]
-mod tests;

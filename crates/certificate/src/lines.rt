@@ -1,8 +1,8 @@
 //! The lines of a report, and the fields of a line.
 
-ghost use Rattle.std.specs.Prelude.{◌≡◌, ◌==◌, ◌≤◌, ◌≤ℤ◌, length, drop, option_map, Some, None, IfOk, IfSome};
+ghost use Rattle.std.specs.Prelude.{◌≡◌, ◌==◌, ◌≤◌, ◌≤ℤ◌, length, option_map, Some, None, IfOk, IfSome};
 ghost use Rattle.certificate.specs.declared.error.TextError.TheVariants as errors;
-ghost use Rattle.certificate.specs.Readers.{Gives, lines_in, first_line, next_line, field, expected, natural, integer, list, naturals};
+ghost use Rattle.certificate.specs.Readers.{Gives, lines_in, first_line, next_line, field, expected_word, natural, integer, naturals};
 ghost use Rattle.certificate.specs.Reading.{natural_line, integer_line, ended};
 
 use crate::parts::{Parts, has_parts};
@@ -129,14 +129,11 @@ impl<'a> Line<'a> {
         self.number
     }
 
-    /// The line without its next fields.
-    pub(crate) fn skip(&self, count: usize) -> Line<'a>
-        ensures { result ≡ record { parts = drop count self.now.parts; number = self.now.number } }
+    /// The fields that are still to be read.
+    pub(crate) fn rest(&self) -> Parts<'a>
+        ensures { result ≡ self.now.parts }
     {
-        Line {
-            fields: self.fields.skip(count),
-            number: self.number,
-        }
+        self.fields.copy()
     }
 
     /// The next field.
@@ -149,9 +146,9 @@ impl<'a> Line<'a> {
     }
 
     /// Goes past a field with this word.
-    #[tactic(auto, unfolding(crate::specs::Readers::expected))]
+    #[tactic(auto, unfolding(crate::specs::Readers::expected_word))]
     pub(crate) fn expect(&mut self, word: &[u8]) -> Result<(), TextError>
-        ensures { Gives (λ u. (u, self.new)) result (expected word.now self.old) }
+        ensures { Gives (λ u. (u, self.new)) result (expected_word word.now self.old) }
     {
         let number = self.number;
         if self.field()? != word {
@@ -172,14 +169,6 @@ impl<'a> Line<'a> {
         numbers::natural(field, low, high).ok_or(TextError::Number { number })
     }
 
-    /// A number from 0 to 255.
-    pub(crate) fn byte(&mut self) -> Result<u8, TextError>
-        ensures { Gives (λ n. (n, self.new)) result (natural 0 255 self.old) }
-    {
-        let n = self.natural(0, 255)?;
-        Ok(n as u8)
-    }
-
     /// A whole number from `low` to `high`.
     #[tactic(auto, unfolding(crate::specs::Readers::integer))]
     pub(crate) fn integer(&mut self, low: i64, high: i64) -> Result<i64, TextError>
@@ -190,16 +179,6 @@ impl<'a> Line<'a> {
         let number = self.number;
         let field = self.field()?;
         numbers::integer(field, low, high).ok_or(TextError::Number { number })
-    }
-
-    /// At most `most` numbers from 0 to 255.
-    #[tactic(auto, unfolding(crate::specs::Readers::list))]
-    pub(crate) fn list(&mut self, alloc: Global, most: usize) -> Result<Seq<u8>, TextError>
-        ensures { Gives (λ ns. (ns, self.new)) result (list most self.old) }
-    {
-        let number = self.number;
-        let field = self.field()?;
-        lists::list(alloc, field, most)?.ok_or(TextError::Number { number })
     }
 
     /// The weights that all further fields spell.

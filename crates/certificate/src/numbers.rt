@@ -2,7 +2,7 @@
 
 ghost use Rattle.std.specs.Prelude.{◌≡◌, ◌<◌, ◌≤◌, ◌^◌, ◌-◌, pos, neg_ℤ, ◌≤ℤ◌, ◌&&◌, ◌||◌, ◌==◌, not, length, slice_index, Some, None, option_map, IfSome, SomeIff};
 ghost use Rattle.std.specs.Str.Parse.{AllDigits, digits_value};
-ghost use Rattle.certificate.specs.Numbers.{number_in, natural_in, signed_in, integer_in};
+ghost use Rattle.certificate.specs.Numbers.{numeral_in, natural_in, signed_in, integer_in};
 
 const MAX: u64 = i64::MAX as u64;
 
@@ -29,7 +29,7 @@ fn digits(text: &[u8]) -> Option<u64>
 
 /// The number that is written so, if it fits.
 fn number(text: &[u8]) -> Option<u64>
-    ensures { result ≡ number_in text.now }
+    ensures { result ≡ numeral_in text.now }
 {
     if !is_plain(text) {
         return None;

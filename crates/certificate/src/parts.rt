@@ -1,6 +1,6 @@
 //! The parts of a text round a separator, one after the other.
 
-ghost use Rattle.std.specs.Prelude.{◌≡◌, ◌==◌, ◌<◌, [], ◌∷◌, length, drop, position, MatchOption, IfSome};
+ghost use Rattle.std.specs.Prelude.{◌≡◌, ◌==◌, ◌<◌, [], ◌∷◌, length, position, MatchOption, IfSome};
 ghost use Rattle.std.specs.List.{slice_split};
 ghost use Rattle.certificate.specs.Readers.{has_parts};
 
@@ -49,18 +49,13 @@ impl<'a> Parts<'a> {
         }
     }
 
-    /// The same without the next parts.
-    pub(crate) fn skip(&self, count: usize) -> Parts<'a>
-        ensures { result ≡ drop count self.now }
+    pub(crate) fn copy(&self) -> Parts<'a>
+        ensures { result ≡ self.now }
     {
-        let mut parts = Parts {
+        Parts {
             rest: self.rest,
             at: self.at,
-        };
-        for _i in 0..count {
-            parts.next();
         }
-        parts
     }
 
     pub(crate) fn is_empty(&self) -> bool

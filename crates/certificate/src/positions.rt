@@ -1,13 +1,17 @@
-//! The line of a position, game by game: how it is read and written.
+//! The games, one by one: their words, their fields, and positions as values of these fields. Then the line of a
+//! position, which is read and written by the fields of its game, whatever the game.
 
-ghost use Rattle.std.specs.Prelude.{◌≡◌, ◌∷◌, codes, option_map, drop, OnOk};
+ghost use Rattle.std.specs.Prelude.{◌≡◌, ℕ, pos, ◌∷◌, codes, drop, flat_map, map, IfOk, OnOk};
 ghost use Rattle.text.specs.Texts.{Adds, line_text};
 ghost use Rattle.certificate.specs.Readers.{Gives};
-ghost use Rattle.certificate.specs.Positions.{game_word, game_version, version_of, game_of, game_in, game, pay_word, pay_of, pay, cards_fields, cards, goofspiel, oshi_zumo, tron, goofspiel_drawn, pursuit, numbers_of, position, position_fields};
+ghost use Rattle.certificate.specs.Fields.{spelling, Fits, AllFit, value_text};
+ghost use Rattle.certificate.specs.Positions.{game_word, game_version, fields_of, kinds_of, kind_of, version_of, pay_word, shown_value, values_of, position_with, IsPositionInRange, game_of, game_in, game, first_has_word, have_words, value, values, line_values, position, position_fields};
 ghost use Rattle.certificate.specs.Reading.{game_line};
+ghost use Rattle.certificate.specs.declared.positions.TheConstants.{BYTE, SCORE, PLACE};
 
 use crate::lines::{Line, Lines};
-use crate::{Pay, PositionText, TextError};
+use crate::parts::Parts;
+use crate::{Choices, Field, FieldKind, FieldRow, Pay, TextError, Value, Word};
 use seq::Seq;
 use sim_game::NoMemory;
 use std::alloc::Global;
@@ -15,6 +19,50 @@ use text::Text;
 
 /// The newest version of reports; the first is 1.
 pub(crate) const NEWEST_VERSION: u64 = 2;
+
+/// How many fields each game has.
+pub const FIELDS: usize = 5;
+
+const BYTE: FieldKind = FieldKind::Number(0, 255);
+
+const SCORE: FieldKind = FieldKind::Number(-1_000_000, 1_000_000);
+
+const PLACE: FieldKind = FieldKind::Number(-128, 127);
+
+const BYTES: FieldKind = FieldKind::List(255);
+
+/// The fields of each game, in the order of a line and of refusals.
+pub const GOOFSPIEL: [FieldRow; FIELDS] = [
+    (Field::One, BYTES),
+    (Field::Two, BYTES),
+    (Field::Prizes, BYTES),
+    (Field::Score, SCORE),
+    (Field::Pay, FieldKind::Word(Choices::Pay)),
+];
+
+pub const OSHI_ZUMO: [FieldRow; FIELDS] = [
+    (Field::Size, BYTE),
+    (Field::One, BYTE),
+    (Field::Two, BYTE),
+    (Field::Least, BYTE),
+    (Field::Place, PLACE),
+];
+
+pub const TRON: [FieldRow; FIELDS] = [
+    (Field::Height, BYTE),
+    (Field::Width, BYTE),
+    (Field::Walls, BYTES),
+    (Field::One, BYTE),
+    (Field::Two, BYTE),
+];
+
+pub const PURSUIT: [FieldRow; FIELDS] = [
+    (Field::Nodes, BYTE),
+    (Field::Edges, FieldKind::List(1024)),
+    (Field::One, BYTE),
+    (Field::Two, BYTE),
+    (Field::Rounds, BYTE),
+];
 
 /// The kinds of games.
 #[derive(Clone, Copy, Debug, PartialEq, Eq)]
@@ -26,25 +74,34 @@ pub enum GameKind {
     Pursuit,
 }
 
+const GAMES: [GameKind; 5] = [
+    GameKind::Goofspiel,
+    GameKind::OshiZumo,
+    GameKind::Tron,
+    GameKind::GoofspielDrawn,
+    GameKind::Pursuit,
+];
+
 impl GameKind {
+    /// The word by which positions and reports call the game.
+    pub fn word(self) -> &'static [u8]
+        ensures { result.now ≡ game_word self }
+    {
+        match self {
+            GameKind::Goofspiel => b"goofspiel",
+            GameKind::OshiZumo => b"oshi_zumo",
+            GameKind::Tron => b"tron",
+            GameKind::GoofspielDrawn => b"goofspiel_drawn",
+            GameKind::Pursuit => b"pursuit",
+        }
+    }
+
     /// The game that positions call by this word.
     #[tactic(auto, unfolding(crate::specs::Positions::game_of))]
     pub fn of_word(word: &[u8]) -> Option<GameKind>
         ensures { result ≡ game_of word.now }
     {
-        if word == b"goofspiel".as_slice() {
-            Some(GameKind::Goofspiel)
-        } else if word == b"oshi_zumo".as_slice() {
-            Some(GameKind::OshiZumo)
-        } else if word == b"tron".as_slice() {
-            Some(GameKind::Tron)
-        } else if word == b"goofspiel_drawn".as_slice() {
-            Some(GameKind::GoofspielDrawn)
-        } else if word == b"pursuit".as_slice() {
-            Some(GameKind::Pursuit)
-        } else {
-            None
-        }
+        GAMES.iter().copied().find(|game| word == game.word())
     }
 
     /// The version of the reports of the game.
@@ -58,6 +115,26 @@ impl GameKind {
             GameKind::GoofspielDrawn => 2,
             GameKind::Pursuit => 2,
         }
+    }
+
+    /// The fields of the game.
+    pub fn fields(self) -> &'static [FieldRow; FIELDS]
+        ensures { result.now ≡ fields_of self }
+    {
+        match self {
+            GameKind::Goofspiel => &GOOFSPIEL,
+            GameKind::OshiZumo => &OSHI_ZUMO,
+            GameKind::Tron => &TRON,
+            GameKind::GoofspielDrawn => &GOOFSPIEL,
+            GameKind::Pursuit => &PURSUIT,
+        }
+    }
+
+    fn kinds(self) -> [FieldKind; FIELDS]
+        ensures { result ≡ kinds_of self }
+    {
+        let [a, b, c, d, e] = *self.fields();
+        [a.1, b.1, c.1, d.1, e.1]
     }
 
     /// The game of the word, where its reports have the version.
@@ -74,134 +151,347 @@ impl GameKind {
     }
 }
 
-impl PositionText {
-    /// The version of the reports of the position.
-    pub fn version(&self) -> u32
-        ensures { result ≡ version_of self.now }
+/// A position as it is given, which its game may still refuse.
+#[derive(Debug, Drop)]
+pub enum PositionText {
+    Goofspiel {
+        /// The cards of One.
+        one: Seq<u8>,
+        /// The cards of Two.
+        two: Seq<u8>,
+        /// The prizes in the order of play.
+        prizes: Seq<u8>,
+        /// One's prizes so far less Two's.
+        score: i32,
+        pay: Pay,
+    },
+    OshiZumo {
+        /// How many steps lie between the middle and either side's edge.
+        size: u8,
+        /// The coins of One.
+        one: u8,
+        /// The coins of Two.
+        two: u8,
+        /// The least bid.
+        least: u8,
+        /// The wrestler's place, 0 in the middle.
+        place: i8,
+    },
+    Tron {
+        height: u8,
+        width: u8,
+        /// The cells that are walls, numbered row by row.
+        walls: Seq<u8>,
+        /// The head of One.
+        one: u8,
+        /// The head of Two.
+        two: u8,
+    },
+    /// Goofspiel whose next prize is drawn after each bid.
+    GoofspielDrawn {
+        /// The cards of One.
+        one: Seq<u8>,
+        /// The cards of Two.
+        two: Seq<u8>,
+        /// The prizes, of which the first is bid for first.
+        prizes: Seq<u8>,
+        /// One's prizes so far less Two's.
+        score: i32,
+        pay: Pay,
+    },
+    Pursuit {
+        /// How many nodes the graph has.
+        nodes: u8,
+        /// The edges, each by its two nodes one after the other.
+        edges: Seq<u8>,
+        /// The node of One, the pursuer.
+        one: u8,
+        /// The node of Two.
+        two: u8,
+        /// How many rounds are left.
+        rounds: u8,
+    },
+}
+
+/// A value of a position that is to be written.
+#[derive(Clone, Copy)]
+pub(crate) enum Shown<'a> {
+    Number(i64),
+    List(&'a [u8]),
+    Word(Word),
+}
+
+fn word_for(pay: Pay) -> Word
+    ensures { result ≡ pay_word pay }
+{
+    match pay {
+        Pay::Margin => Word::Margin,
+        Pay::Win => Word::Win,
+    }
+}
+
+impl Value {
+    fn byte(self) -> u8
+        requires { Fits BYTE self }
+        ensures { self ≡ Value.Number (pos result) }
     {
         match self {
-            PositionText::Goofspiel { .. } => GameKind::Goofspiel.version(),
-            PositionText::OshiZumo { .. } => GameKind::OshiZumo.version(),
-            PositionText::Tron { .. } => GameKind::Tron.version(),
-            PositionText::GoofspielDrawn { .. } => GameKind::GoofspielDrawn.version(),
-            PositionText::Pursuit { .. } => GameKind::Pursuit.version(),
+            Value::Number(z) => z as u8,
+            _ => unreachable!(),
+        }
+    }
+
+    fn score(self) -> i32
+        requires { Fits SCORE self }
+        ensures { self ≡ Value.Number result }
+    {
+        match self {
+            Value::Number(z) => z as i32,
+            _ => unreachable!(),
+        }
+    }
+
+    fn place(self) -> i8
+        requires { Fits PLACE self }
+        ensures { self ≡ Value.Number result }
+    {
+        match self {
+            Value::Number(z) => z as i8,
+            _ => unreachable!(),
+        }
+    }
+
+    fn list(self) -> Seq<u8>
+        requires { (most : ℕ) × Fits (FieldKind.List most) self }
+        ensures { self ≡ Value.List result }
+    {
+        match self {
+            Value::List(ns) => ns,
+            _ => unreachable!(),
+        }
+    }
+
+    fn pay(self) -> Pay
+        requires { Fits (FieldKind.Word Choices.Pay) self }
+        ensures { self ≡ Value.Word (pay_word result) }
+    {
+        match self {
+            Value::Word(Word::Margin) => Pay::Margin,
+            Value::Word(Word::Win) => Pay::Win,
+            _ => unreachable!(),
         }
     }
 }
 
-/// The cards of One and of Two, the prizes, the score and the pay.
-type Cards = (Seq<u8>, Seq<u8>, Seq<u8>, i32, Pay);
-
-impl Line<'_> {
-    #[tactic(auto, unfolding(crate::specs::Positions::pay, crate::specs::Positions::pay_of))]
-    fn pay(&mut self) -> Result<Pay, TextError>
-        ensures { Gives (λ p. (p, self.new)) result (pay self.old) }
+impl PositionText {
+    /// The position of the game that has these values in its fields.
+    pub fn with_values(game: GameKind, values: [Value; FIELDS]) -> PositionText
+        requires { AllFit (kinds_of game) values }
+        ensures exact { result ≡ position_with game values }
+        ensures in_range { IsPositionInRange result }
     {
-        let number = self.number();
-        let word = self.field()?;
-        if word == b"margin".as_slice() {
-            Ok(Pay::Margin)
-        } else if word == b"win".as_slice() {
-            Ok(Pay::Win)
-        } else {
-            Err(TextError::Line { number })
+        let [a, b, c, d, e] = values;
+        match game {
+            GameKind::Goofspiel => PositionText::Goofspiel {
+                one: a.list(),
+                two: b.list(),
+                prizes: c.list(),
+                score: d.score(),
+                pay: e.pay(),
+            },
+            GameKind::OshiZumo => PositionText::OshiZumo {
+                size: a.byte(),
+                one: b.byte(),
+                two: c.byte(),
+                least: d.byte(),
+                place: e.place(),
+            },
+            GameKind::Tron => PositionText::Tron {
+                height: a.byte(),
+                width: b.byte(),
+                walls: c.list(),
+                one: d.byte(),
+                two: e.byte(),
+            },
+            GameKind::GoofspielDrawn => PositionText::GoofspielDrawn {
+                one: a.list(),
+                two: b.list(),
+                prizes: c.list(),
+                score: d.score(),
+                pay: e.pay(),
+            },
+            GameKind::Pursuit => PositionText::Pursuit {
+                nodes: a.byte(),
+                edges: b.list(),
+                one: c.byte(),
+                two: d.byte(),
+                rounds: e.byte(),
+            },
         }
     }
 
-    /// Both hands, the prizes, the score and the pay.
-    #[tactic(auto, unfolding(crate::specs::Positions::cards))]
-    fn cards(&mut self, alloc: Global) -> Result<Cards, TextError>
-        ensures { Gives (λ c. ((c.0, (c.1, (c.2, (c.3, c.4)))), self.new)) result (cards self.old) }
+    /// The values of the position's fields.
+    pub(crate) fn values(&self) -> [Shown<'_>; FIELDS]
+        ensures { map shown_value result ≡ values_of self.now }
     {
-        self.skip(4).pay()?;
-        let one = self.list(alloc, 255)?;
-        let two = self.list(alloc, 255)?;
-        let prizes = self.list(alloc, 255)?;
-        let score = self.integer(-1_000_000, 1_000_000)?;
-        let pay = self.pay()?;
-        Ok((one, two, prizes, score as i32, pay))
+        match self {
+            PositionText::Goofspiel {
+                one,
+                two,
+                prizes,
+                score,
+                pay,
+            } => [
+                Shown::List(one.as_slice()),
+                Shown::List(two.as_slice()),
+                Shown::List(prizes.as_slice()),
+                Shown::Number(i64::from(*score)),
+                Shown::Word(word_for(*pay)),
+            ],
+            PositionText::OshiZumo {
+                size,
+                one,
+                two,
+                least,
+                place,
+            } => [
+                Shown::Number(i64::from(*size)),
+                Shown::Number(i64::from(*one)),
+                Shown::Number(i64::from(*two)),
+                Shown::Number(i64::from(*least)),
+                Shown::Number(i64::from(*place)),
+            ],
+            PositionText::Tron {
+                height,
+                width,
+                walls,
+                one,
+                two,
+            } => [
+                Shown::Number(i64::from(*height)),
+                Shown::Number(i64::from(*width)),
+                Shown::List(walls.as_slice()),
+                Shown::Number(i64::from(*one)),
+                Shown::Number(i64::from(*two)),
+            ],
+            PositionText::GoofspielDrawn {
+                one,
+                two,
+                prizes,
+                score,
+                pay,
+            } => [
+                Shown::List(one.as_slice()),
+                Shown::List(two.as_slice()),
+                Shown::List(prizes.as_slice()),
+                Shown::Number(i64::from(*score)),
+                Shown::Word(word_for(*pay)),
+            ],
+            PositionText::Pursuit {
+                nodes,
+                edges,
+                one,
+                two,
+                rounds,
+            } => [
+                Shown::Number(i64::from(*nodes)),
+                Shown::List(edges.as_slice()),
+                Shown::Number(i64::from(*one)),
+                Shown::Number(i64::from(*two)),
+                Shown::Number(i64::from(*rounds)),
+            ],
+        }
     }
 
-    #[tactic(auto, unfolding(crate::specs::Positions::goofspiel))]
-    fn goofspiel(&mut self, alloc: Global) -> Result<PositionText, TextError>
-        ensures { Gives (λ t. (t, self.new)) result (goofspiel self.old) }
+    pub(crate) fn game(&self) -> GameKind
+        ensures { result ≡ kind_of self.now }
     {
-        let (one, two, prizes, score, pay) = self.cards(alloc)?;
-        Ok(PositionText::Goofspiel {
-            one,
-            two,
-            prizes,
-            score,
-            pay,
-        })
+        match self {
+            PositionText::Goofspiel { .. } => GameKind::Goofspiel,
+            PositionText::OshiZumo { .. } => GameKind::OshiZumo,
+            PositionText::Tron { .. } => GameKind::Tron,
+            PositionText::GoofspielDrawn { .. } => GameKind::GoofspielDrawn,
+            PositionText::Pursuit { .. } => GameKind::Pursuit,
+        }
     }
 
-    #[tactic(auto, unfolding(crate::specs::Positions::oshi_zumo))]
-    fn oshi_zumo(&mut self) -> Result<PositionText, TextError>
-        ensures { Gives (λ t. (t, self.new)) result (oshi_zumo self.old) }
+    /// The version of the reports of the position.
+    pub fn version(&self) -> u32
+        ensures { result ≡ version_of self.now }
     {
-        let size = self.byte()?;
-        let one = self.byte()?;
-        let two = self.byte()?;
-        let least = self.byte()?;
-        let place = self.integer(-128, 127)?;
-        Ok(PositionText::OshiZumo {
-            size,
-            one,
-            two,
-            least,
-            place: place as i8,
-        })
+        self.game().version()
+    }
+}
+
+/// Goes past the next field, and says whether it is one of the words that it has to be.
+fn next_has_word(fields: &mut Parts, kind: FieldKind) -> bool
+    ensures word { result ≡ first_has_word kind fields.old }
+    ensures rest { fields.new ≡ drop 1 fields.old }
+{
+    match fields.next() {
+        Some(field) => kind.has_word(field),
+        None => true,
+    }
+}
+
+impl Line<'_> {
+    /// Whether each field that holds a word is one of its words.
+    #[tactic(auto, unfolding(crate::specs::Positions::have_words))]
+    fn have_words(&self, kinds: [FieldKind; FIELDS]) -> bool
+        ensures { result ≡ have_words kinds self.now.parts }
+    {
+        let mut fields = self.rest();
+        let [a, b, c, d, e] = kinds;
+        next_has_word(&mut fields, a)
+            && next_has_word(&mut fields, b)
+            && next_has_word(&mut fields, c)
+            && next_has_word(&mut fields, d)
+            && next_has_word(&mut fields, e)
     }
 
-    #[tactic(auto, unfolding(crate::specs::Positions::tron))]
-    fn tron(&mut self, alloc: Global) -> Result<PositionText, TextError>
-        ensures { Gives (λ t. (t, self.new)) result (tron self.old) }
+    #[tactic(auto, unfolding(crate::specs::Positions::value))]
+    fn value(&mut self, alloc: Global, kind: FieldKind) -> Result<Value, TextError>
+        ensures exact { Gives (λ v. (v, self.new)) result (value kind self.old) }
+        ensures fits { IfOk result (Fits kind) }
     {
-        let height = self.byte()?;
-        let width = self.byte()?;
-        let walls = self.list(alloc, 255)?;
-        let one = self.byte()?;
-        let two = self.byte()?;
-        Ok(PositionText::Tron {
-            height,
-            width,
-            walls,
-            one,
-            two,
-        })
+        let number = self.number();
+        let field = self.field()?;
+        kind.read(alloc, field)?.ok_or(TextError::Number { number })
     }
 
-    #[tactic(auto, unfolding(crate::specs::Positions::goofspiel_drawn))]
-    fn goofspiel_drawn(&mut self, alloc: Global) -> Result<PositionText, TextError>
-        ensures { Gives (λ t. (t, self.new)) result (goofspiel_drawn self.old) }
+    #[tactic(auto, unfolding(crate::specs::Positions::values))]
+    fn values(
+        &mut self,
+        alloc: Global,
+        kinds: [FieldKind; FIELDS],
+    ) -> Result<[Value; FIELDS], TextError>
+        ensures exact { Gives (λ vs. (vs, self.new)) result (values kinds self.old) }
+        ensures fits { IfOk result (AllFit kinds) }
     {
-        let (one, two, prizes, score, pay) = self.cards(alloc)?;
-        Ok(PositionText::GoofspielDrawn {
-            one,
-            two,
-            prizes,
-            score,
-            pay,
-        })
+        let [a, b, c, d, e] = kinds;
+        let a = self.value(alloc, a)?;
+        let b = self.value(alloc, b)?;
+        let c = self.value(alloc, c)?;
+        let d = self.value(alloc, d)?;
+        let e = self.value(alloc, e)?;
+        Ok([a, b, c, d, e])
     }
 
-    #[tactic(auto, unfolding(crate::specs::Positions::pursuit))]
-    fn pursuit(&mut self, alloc: Global) -> Result<PositionText, TextError>
-        ensures { Gives (λ t. (t, self.new)) result (pursuit self.old) }
+    /// The values of all further fields. A fault of a word is told before one of a number.
+    #[tactic(auto, unfolding(crate::specs::Positions::line_values))]
+    fn line_values(
+        &mut self,
+        alloc: Global,
+        kinds: [FieldKind; FIELDS],
+    ) -> Result<[Value; FIELDS], TextError>
+        ensures exact { Gives (λ vs. (vs, self.new)) result (line_values kinds self.old) }
+        ensures fits { IfOk result (AllFit kinds) }
     {
-        let nodes = self.byte()?;
-        let edges = self.list(alloc, 1024)?;
-        let one = self.byte()?;
-        let two = self.byte()?;
-        let rounds = self.byte()?;
-        Ok(PositionText::Pursuit {
-            nodes,
-            edges,
-            one,
-            two,
-            rounds,
-        })
+        let number = self.number();
+        if !self.have_words(kinds) {
+            return Err(TextError::Line { number });
+        }
+        self.values(alloc, kinds)
     }
 
     #[tactic(auto, unfolding(crate::specs::Positions::game))]
@@ -213,25 +503,13 @@ impl Line<'_> {
         GameKind::in_version(word, version).ok_or(TextError::Line { number })
     }
 
-    #[tactic(auto, unfolding(crate::specs::Positions::numbers_of))]
-    fn numbers_of(&mut self, alloc: Global, kind: GameKind) -> Result<PositionText, TextError>
-        ensures { Gives (λ t. (t, self.new)) result (numbers_of kind self.old) }
-    {
-        match kind {
-            GameKind::Goofspiel => self.goofspiel(alloc),
-            GameKind::OshiZumo => self.oshi_zumo(),
-            GameKind::Tron => self.tron(alloc),
-            GameKind::GoofspielDrawn => self.goofspiel_drawn(alloc),
-            GameKind::Pursuit => self.pursuit(alloc),
-        }
-    }
-
     #[tactic(auto, unfolding(crate::specs::Positions::position))]
     fn position(&mut self, alloc: Global, version: u32) -> Result<PositionText, TextError>
         ensures { Gives (λ t. (t, self.new)) result (position version self.old) }
     {
-        let kind = self.game(version)?;
-        self.numbers_of(alloc, kind)
+        let game = self.game(version)?;
+        let values = self.line_values(alloc, game.kinds())?;
+        Ok(PositionText::with_values(game, values))
     }
 }
 
@@ -247,154 +525,39 @@ impl Lines<'_> {
     }
 }
 
-/// A space and the word of the pay.
-fn add_pay(text: &mut Text, pay: Pay) -> Result<(), NoMemory>
-    ensures { OnOk result (Adds text.old text.new (32 ∷ pay_word pay)) }
+/// A space and the value.
+fn add_value(text: &mut Text, value: &Shown) -> Result<(), NoMemory>
+    ensures { OnOk result (Adds text.old text.new (32 ∷ value_text (shown_value value.now))) }
 {
-    match pay {
-        Pay::Margin => text.word(b" margin"),
-        Pay::Win => text.word(b" win"),
+    match value {
+        Shown::Number(z) => text.next(z),
+        Shown::List(ns) => text.next_list(ns),
+        Shown::Word(word) => add_word(text, *word),
     }
 }
 
-/// The word of the game, and the numbers of Goofspiel.
-fn add_cards(
-    text: &mut Text,
-    word: &[u8],
-    one: &[u8],
-    two: &[u8],
-    prizes: &[u8],
-    score: &i32,
-    pay: Pay,
-) -> Result<(), NoMemory>
-    ensures { OnOk result (Adds text.old text.new
-        (line_text (codes "game" ∷ word.now ∷ cards_fields (one.now, (two.now, (prizes.now, (score.now, pay))))))) }
+fn add_word(text: &mut Text, word: Word) -> Result<(), NoMemory>
+    ensures { OnOk result (Adds text.old text.new (32 ∷ spelling word)) }
 {
-    text.word(b"game ")?;
-    text.word(word)?;
-    text.next_list(one)?;
-    text.next_list(two)?;
-    text.next_list(prizes)?;
-    text.next(score)?;
-    add_pay(text, pay)?;
-    text.word(b"\n")
+    text.word(b" ")?;
+    text.word(word.text())
 }
 
-fn add_oshi_zumo(
-    text: &mut Text,
-    size: &u8,
-    one: &u8,
-    two: &u8,
-    least: &u8,
-    place: &i8,
-) -> Result<(), NoMemory>
-    ensures { let position = PositionText.OshiZumo size.now one.now two.now least.now place.now in
-        OnOk result (Adds text.old text.new (line_text (codes "game" ∷ position_fields position))) }
+fn add_values(text: &mut Text, values: &[Shown]) -> Result<(), NoMemory>
+    ensures { OnOk result (Adds text.old text.new (flat_map (λ v. 32 ∷ value_text (shown_value v)) values.now)) }
 {
-    text.word(b"game oshi_zumo")?;
-    text.next(size)?;
-    text.next(one)?;
-    text.next(two)?;
-    text.next(least)?;
-    text.next(place)?;
-    text.word(b"\n")
-}
-
-fn add_tron(
-    text: &mut Text,
-    height: &u8,
-    width: &u8,
-    walls: &[u8],
-    one: &u8,
-    two: &u8,
-) -> Result<(), NoMemory>
-    ensures { let position = PositionText.Tron height.now width.now walls.now one.now two.now in
-        OnOk result (Adds text.old text.new (line_text (codes "game" ∷ position_fields position))) }
-{
-    text.word(b"game tron")?;
-    text.next(height)?;
-    text.next(width)?;
-    text.next_list(walls)?;
-    text.next(one)?;
-    text.next(two)?;
-    text.word(b"\n")
-}
-
-fn add_pursuit(
-    text: &mut Text,
-    nodes: &u8,
-    edges: &[u8],
-    one: &u8,
-    two: &u8,
-    rounds: &u8,
-) -> Result<(), NoMemory>
-    ensures { let position = PositionText.Pursuit nodes.now edges.now one.now two.now rounds.now in
-        OnOk result (Adds text.old text.new (line_text (codes "game" ∷ position_fields position))) }
-{
-    text.word(b"game pursuit")?;
-    text.next(nodes)?;
-    text.next_list(edges)?;
-    text.next(one)?;
-    text.next(two)?;
-    text.next(rounds)?;
-    text.word(b"\n")
+    for value in values {
+        add_value(text, value)?;
+    }
+    Ok(())
 }
 
 /// Adds the line of the position.
 pub(crate) fn add_position(text: &mut Text, position: &PositionText) -> Result<(), NoMemory>
     ensures { OnOk result (Adds text.old text.new (line_text (codes "game" ∷ position_fields position.now))) }
 {
-    match position {
-        PositionText::Goofspiel {
-            one,
-            two,
-            prizes,
-            score,
-            pay,
-        } => add_cards(
-            text,
-            b"goofspiel",
-            one.as_slice(),
-            two.as_slice(),
-            prizes.as_slice(),
-            score,
-            *pay,
-        ),
-        PositionText::OshiZumo {
-            size,
-            one,
-            two,
-            least,
-            place,
-        } => add_oshi_zumo(text, size, one, two, least, place),
-        PositionText::Tron {
-            height,
-            width,
-            walls,
-            one,
-            two,
-        } => add_tron(text, height, width, walls.as_slice(), one, two),
-        PositionText::GoofspielDrawn {
-            one,
-            two,
-            prizes,
-            score,
-            pay,
-        } => add_cards(
-            text,
-            b"goofspiel_drawn",
-            one.as_slice(),
-            two.as_slice(),
-            prizes.as_slice(),
-            score,
-            *pay,
-        ),
-        PositionText::Pursuit {
-            nodes,
-            edges,
-            one,
-            two,
-            rounds,
-        } => add_pursuit(text, nodes, edges.as_slice(), one, two, rounds),
-    }
+    text.word(b"game ")?;
+    text.word(position.game().word())?;
+    add_values(text, &position.values())?;
+    text.word(b"\n")
 }

@@ -1,11 +1,34 @@
 //! What is asked of a search, and what it answers.
 
 ghost use Rattle.std.specs.Prelude.{◌≡◌, ◌≤ℤ◌, ◌<ℤ◌, All, MatchBool};
+ghost use Rattle.certificate.specs.Asks.{method_of, asked_kinds, ask_with};
+ghost use Rattle.certificate.specs.Fields.{AllFit};
+ghost use Rattle.certificate.specs.Ranges.{IsAskInRange};
 ghost use Rattle.certificate.specs.Outcomes.{gap_of, IsWide, IsAllowed};
 
-use goofspiel::Pay;
+use crate::{Absent, AskRow, Choices, Field, FieldKind, PositionText, Value, Word};
 use plan_book::Sheet;
 use seq::Seq;
+
+/// How the matrix game of a state is solved.
+#[derive(Clone, Copy, Debug, PartialEq, Eq)]
+pub enum StageMethod {
+    /// By rounds of regret matching plus, as many as the total of the weights.
+    Regret,
+    /// By a linear program in floats, whose answer is tested in whole numbers, and by rounds where it fails the test.
+    Linear,
+}
+
+impl StageMethod {
+    fn of_word(word: Word) -> StageMethod
+        ensures { result ≡ method_of word }
+    {
+        match word {
+            Word::Linear => StageMethod::Linear,
+            _ => StageMethod::Regret,
+        }
+    }
+}
 
 /// What is asked of the search.
 #[derive(Clone, Copy, Debug, PartialEq, Eq)]
@@ -21,68 +44,77 @@ pub struct Ask {
     /// How many states the board has room for.
     pub rows: u32,
     pub workers: u32,
+    /// How matrix games are solved.
+    pub stages: StageMethod,
 }
 
-/// A position as it is given, which its game may still refuse.
-#[derive(Debug, Drop)]
-pub enum PositionText {
-    Goofspiel {
-        /// The cards of One.
-        one: Seq<u8>,
-        /// The cards of Two.
-        two: Seq<u8>,
-        /// The prizes in the order of play.
-        prizes: Seq<u8>,
-        /// One's prizes so far less Two's.
-        score: i32,
-        pay: Pay,
-    },
-    OshiZumo {
-        /// How many steps lie between the middle and either side's edge.
-        size: u8,
-        /// The coins of One.
-        one: u8,
-        /// The coins of Two.
-        two: u8,
-        /// The least bid.
-        least: u8,
-        /// The wrestler's place, 0 in the middle.
-        place: i8,
-    },
-    Tron {
-        height: u8,
-        width: u8,
-        /// The cells that are walls, numbered row by row.
-        walls: Seq<u8>,
-        /// The head of One.
-        one: u8,
-        /// The head of Two.
-        two: u8,
-    },
-    /// Goofspiel whose next prize is drawn after each bid.
-    GoofspielDrawn {
-        /// The cards of One.
-        one: Seq<u8>,
-        /// The cards of Two.
-        two: Seq<u8>,
-        /// The prizes, of which the first is bid for first.
-        prizes: Seq<u8>,
-        /// One's prizes so far less Two's.
-        score: i32,
-        pay: Pay,
-    },
-    Pursuit {
-        /// How many nodes the graph has.
-        nodes: u8,
-        /// The edges, each by its two nodes one after the other.
-        edges: Seq<u8>,
-        /// The node of One, the pursuer.
-        one: u8,
-        /// The node of Two.
-        two: u8,
-        /// How many rounds are left.
-        rounds: u8,
-    },
+/// How many fields tell what is asked.
+pub const ASKED: usize = 7;
+
+/// These fields, in the order of refusals.
+pub const ASK: [AskRow; ASKED] = [
+    (
+        Field::Gap,
+        FieldKind::Number(0, 8_000_000_000),
+        Absent::Refused,
+    ),
+    (
+        Field::Weight,
+        FieldKind::Number(8192, 1_048_576),
+        Absent::Refused,
+    ),
+    (
+        Field::Turns,
+        FieldKind::Number(0, 1_099_511_627_776),
+        Absent::Refused,
+    ),
+    (
+        Field::Visits,
+        FieldKind::Number(0, 1_099_511_627_776),
+        Absent::Refused,
+    ),
+    (
+        Field::Rows,
+        FieldKind::Number(1, 1_048_576),
+        Absent::Refused,
+    ),
+    (Field::Workers, FieldKind::Number(1, 16), Absent::Refused),
+    (
+        Field::Stages,
+        FieldKind::Word(Choices::Stages),
+        Absent::Word(Word::Regret),
+    ),
+];
+
+impl Ask {
+    /// What these values of the fields ask.
+    pub fn with_values(values: [Value; ASKED]) -> Ask
+        requires { AllFit asked_kinds values }
+        ensures exact { result ≡ ask_with values }
+        ensures in_range { IsAskInRange result }
+    {
+        let [a, b, c, d, e, f, g] = values;
+        match (a, b, c, d, e, f, g) {
+            (
+                Value::Number(gap),
+                Value::Number(weight),
+                Value::Number(turns),
+                Value::Number(visits),
+                Value::Number(rows),
+                Value::Number(workers),
+                Value::Word(stages),
+            ) => Ask {
+                gap,
+                weight: weight as u32,
+                turns: turns as u64,
+                visits: visits as u64,
+                rows: rows as u32,
+                workers: workers as u32,
+                stages: StageMethod::of_word(stages),
+            },
+            _ => unreachable!(),
+        }
+    }
 }
 
 /// How a search ended.

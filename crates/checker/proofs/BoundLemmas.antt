@@ -66,9 +66,11 @@ mean_small : (side : Side) (n : ℕ) (w : ℕ → ℕ) (f : ℕ → ℤ) → cou
 mean_small side n w f whole small =
     let same : (x : ℤ) → sum_below n (λ d. pos (w d) *ℤ x) ≡ pos whole_chance *ℤ x = λ x. sum_weights n w x ∙ ap (λ (k : ℕ). pos k *ℤ x) whole in
     let low : IsNoTighter side (pos whole_chance *ℤ extreme side) (sum_below n (λ d. pos (w d) *ℤ f d)) =
-    looser_left side _ _ _ (same (extreme side)) (looser_sum side n (λ d. pos (w d) *ℤ extreme side) (λ d. pos (w d) *ℤ f d) (λ d u. looser_times side (w d) _ _ (from_worst side (f d) (small d u)))) in
+    looser_left side _ _ _ (same (extreme side))
+    (looser_sum side n (λ d. pos (w d) *ℤ extreme side) (λ d. pos (w d) *ℤ f d) (λ d u. looser_times side (w d) _ _ (from_worst side (f d) (small d u)))) in
     let high : IsNoTighter side (sum_below n (λ d. pos (w d) *ℤ f d)) (pos whole_chance *ℤ extreme (other_side side)) =
-    looser_right side _ _ _ (same (extreme (other_side side))) (looser_sum side n (λ d. pos (w d) *ℤ f d) (λ d. pos (w d) *ℤ extreme (other_side side)) (λ d u. looser_times side (w d) _ _ (to_best side (f d) (small d u)))) in
+    looser_right side _ _ _ (same (extreme (other_side side)))
+    (looser_sum side n (λ d. pos (w d) *ℤ f d) (λ d. pos (w d) *ℤ extreme (other_side side)) (λ d u. looser_times side (w d) _ _ (to_best side (f d) (small d u)))) in
     between side _ (rounded_tightest side _ _ low) (looser_cancel side whole_chance _ _ (omega arith) (looser_trans side _ _ _ (looser_rounded side _) high))
 
 -- ---- a cell, one draw at a time
@@ -77,19 +79,23 @@ module _ {S : Type 0} (m : GameModel S) (side : Side) (s : S) (own reply : ℕ) 
   child_reachable d u = reachable_turn m s (turn_of side own reply d) r (side_turn m side s own reply d at against u)
 
   pub chance_light : IsGame m → (d : ℕ) → d < draws_of m side s own reply → chance_of m side s own reply d ≤ 1048576
-  chance_light game d u = let whole = chances m game side s own reply r at against in let part = count_term (draws_of m side s own reply) (chance_of m side s own reply) d u in omega (arith, whole, part)
+  chance_light game d u = let whole = chances m game side s own reply r at against in
+      let part = count_term (draws_of m side s own reply) (chance_of m side s own reply) d u in omega (arith, whole, part)
 
-pub cell_small : {S : Type 0} (m : GameModel S) → IsGame m → (sheet : Sheet) (s : S) (own reply : ℕ) → IsReadable sheet → Reachable m s → own < m.moves sheet.side s → reply < m.moves (other_side sheet.side) s
+pub cell_small : {S : Type 0} (m : GameModel S) → IsGame m → (sheet : Sheet) (s : S) (own reply : ℕ) → IsReadable sheet → Reachable m s
+    → own < m.moves sheet.side s → reply < m.moves (other_side sheet.side) s
     → IsSmall (cell_of m sheet s own reply)
 cell_small m game sheet s own reply readable r at against =
-    mean_small sheet.side (draws_of m sheet.side s own reply) (chance_of m sheet.side s own reply) (λ d. bound_at m sheet.side sheet.rows (child_of m sheet.side s own reply d)) (chances m game sheet.side s own reply r at against)
+    mean_small sheet.side (draws_of m sheet.side s own reply) (chance_of m sheet.side s own reply)
+    (λ d. bound_at m sheet.side sheet.rows (child_of m sheet.side s own reply d)) (chances m game sheet.side s own reply r at against)
     (λ d u. bound_small m game sheet _ readable (child_reachable m sheet.side s own reply r at against d u))
 
 -- the part of a draw in the sum of a cell
 abbrev pub part_of : {S : Type 0} → GameModel S → Sheet → S → ℕ → ℕ → ℕ → ℤ
 part_of m sheet s own reply d = pos (chance_of m sheet.side s own reply d) *ℤ bound_at m sheet.side sheet.rows (child_of m sheet.side s own reply d)
 
-pub cell_is : {S : Type 0} (m : GameModel S) (sheet : Sheet) (s : S) (own reply count : ℕ) (total result : ℤ) → count ≡ draws_of m sheet.side s own reply → total ≡ sum_below count (part_of m sheet s own reply)
+pub cell_is : {S : Type 0} (m : GameModel S) (sheet : Sheet) (s : S) (own reply count : ℕ) (total result : ℤ)
+    → count ≡ draws_of m sheet.side s own reply → total ≡ sum_below count (part_of m sheet s own reply)
     → result ≡ quotient sheet.side whole_chance total → result ≡ cell_of m sheet s own reply
 cell_is m sheet s own reply count total result all summed divided = rw (divided, summed, all) refl
 

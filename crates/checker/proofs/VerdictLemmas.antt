@@ -19,7 +19,7 @@ use Rattle.checker.specs.declared.verdict.Why.{Why}
 use Rattle.checker.specs.declared.verdict.Why.TheVariants.{Weights, Bound, Idle, Root, Outside, OutcomeWrong, ResolutionWrong}
 use Rattle.checker.specs.declared.verdict.Verdict.{Verdict}
 use Rattle.checker.specs.declared.verdict.Verdict.TheVariants.{Accepted, Refused}
-use Rattle.checker.specs.Faults.{IsUsed, IsWhole, worth_of, need_of, IsRowFault, IsFirstFault, IsReplyFault, IsFirstReply}
+use Rattle.checker.specs.Faults.{IsUsed, HasWholeWeights, worth_of, need_of, IsRowFault, IsFirstFault, IsReplyFault, IsFirstReply}
 use Rattle.checker.specs.Verdicts.{IsRight, IsResolutionFor, IsNumberFault, IsFirstWhy, IsVerdict}
 
 pub same_number : (x y : ℤ) → SFits w64 x → SFits w64 y → of_z w64 x ≡ of_z w64 y → x ≡ y
@@ -34,10 +34,11 @@ stands_item (x ∷ xs) (suc i) r e = let rest = stands_item xs i r e in (omega (
 module _ {S : Type 0} (m : GameModel S) (game : IsGame m) (sheet : Sheet) (r : SheetRow) (lawful : IsLawfulRow m sheet.side sheet.total sheet.rows r) where
   same_state : (s : S) → IsUsed m sheet r.key s → lawful.state ≡ s
   same_state s used =
-      game.same_key lawful.state s (reached_reachable m sheet.side (row_at sheet.rows) lawful.state lawful.reached) (reached_reachable m sheet.side (row_at sheet.rows) s used.reached) (lawful.is_key ∙ sym used.is_key)
+      game.same_key lawful.state s (reached_reachable m sheet.side (row_at sheet.rows) lawful.state lawful.reached)
+      (reached_reachable m sheet.side (row_at sheet.rows) s used.reached) (lawful.is_key ∙ sym used.is_key)
 
-  whole_here : (s : S) → IsUsed m sheet r.key s → IsWhole m sheet r s
-  whole_here s used = subst (IsWhole m sheet r) (same_state s used) (record { one_each = lawful.step.one_each; sums = lawful.step.sums })
+  whole_here : (s : S) → IsUsed m sheet r.key s → HasWholeWeights m sheet r s
+  whole_here s used = subst (HasWholeWeights m sheet r) (same_state s used) (record { one_each = lawful.step.one_each; sums = lawful.step.sums })
 
   reply_here : (s : S) (q : ℕ) → IsUsed m sheet r.key s → q < m.moves (other_side sheet.side) s → IsNoTighter sheet.side (need_of sheet r) (worth_of m sheet r.weights s q)
   reply_here s q used p =
@@ -65,8 +66,8 @@ module _ {S : Type 0} (m : GameModel S) (game : IsGame m) (sheet : Sheet) (r : S
   used_once : (s t : S) → IsUsed m sheet r.key s → IsUsed m sheet r.key t → s ≡ t
   used_once s t p q = game.same_key s t (reached_reachable m sheet.side (row_at sheet.rows) s p.reached) (reached_reachable m sheet.side (row_at sheet.rows) t q.reached) (p.is_key ∙ sym q.is_key)
 
-  whole_too : (s t : S) → IsUsed m sheet r.key s → IsUsed m sheet r.key t → IsWhole m sheet r s → IsWhole m sheet r t
-  whole_too s t p q h = subst (IsWhole m sheet r) (used_once s t p q) h
+  whole_too : (s t : S) → IsUsed m sheet r.key s → IsUsed m sheet r.key t → HasWholeWeights m sheet r s → HasWholeWeights m sheet r t
+  whole_too s t p q h = subst (HasWholeWeights m sheet r) (used_once s t p q) h
 
   reply_once : (s : S) (x y : ℕ) → IsFirstReply m sheet r s x → IsFirstReply m sheet r s y → x ≡ y
   reply_once s x y p q = elim (cases_lt x y) [

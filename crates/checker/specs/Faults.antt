@@ -26,8 +26,8 @@ pub record IsUsed {S : Type 0} (m : GameModel S) (sheet : Sheet) (key : ℕ) (s 
   pub is_key : m.key s ≡ key
 
 -- one weight a move, and the weights sum to the total
-abbrev pub IsWhole : {S : Type 0} → GameModel S → Sheet → SheetRow → S → Type 0
-IsWhole m sheet r s = AreWeights (m.moves sheet.side s) sheet.total r.weights
+abbrev pub HasWholeWeights : {S : Type 0} → GameModel S → Sheet → SheetRow → S → Type 0
+HasWholeWeights m sheet r s = AreWeights (m.moves sheet.side s) sheet.total r.weights
 
 -- the bound lies in the range of payoffs
 pub record IsInside {S : Type 0} (m : GameModel S) (r : SheetRow) : Type 0 where
@@ -64,15 +64,15 @@ IsReplyFault m sheet r s _ = ⊥
 
 -- what is wrong with the row at its state; each fault comes where those before it do not
 abbrev pub IsFaultAt : {S : Type 0} → GameModel S → Sheet → SheetRow → S → Why → Type 0
-IsFaultAt m sheet r s (Weights side key) = (side ≡ sheet.side) × (key ≡ r.key) × ¬ IsWhole m sheet r s
-IsFaultAt m sheet r s (Outside side key) = (side ≡ sheet.side) × (key ≡ r.key) × IsWhole m sheet r s × ¬ IsInside m r
+IsFaultAt m sheet r s (Weights side key) = (side ≡ sheet.side) × (key ≡ r.key) × ¬ HasWholeWeights m sheet r s
+IsFaultAt m sheet r s (Outside side key) = (side ≡ sheet.side) × (key ≡ r.key) × HasWholeWeights m sheet r s × ¬ IsInside m r
 IsFaultAt m sheet r s (Bound side key reply amount need) =
-    IsWhole m sheet r s × IsInside m r × IsReplyFault m sheet r s (Bound side key reply amount need)
+    HasWholeWeights m sheet r s × IsInside m r × IsReplyFault m sheet r s (Bound side key reply amount need)
 IsFaultAt m sheet r s _ = ⊥
 
 -- nothing is wrong with the row at its state
 pub record IsSoundAt {S : Type 0} (m : GameModel S) (sheet : Sheet) (r : SheetRow) (s : S) : Type 0 where
-  pub whole : IsWhole m sheet r s
+  pub whole : HasWholeWeights m sheet r s
   pub inside : IsInside m r
   pub holds : HoldsBelow m sheet r s (m.moves (other_side sheet.side) s)
 

@@ -3,7 +3,7 @@
 ghost use Rattle.std.specs.Prelude.{◌≡◌, ◌<◌, ◌+◌, length, map, None, All, IfOk};
 ghost use Rattle.std.specs.List.Sorted.{IsStrictlyIncreasing};
 ghost use Rattle.plan_book.specs.Sheets.{IsReached, row_at};
-ghost use Rattle.checker.specs.Found.{AreStates, AreReached, IsFollowedAt, IsLater, IsMarked, IsWalked};
+ghost use Rattle.checker.specs.Found.{AreStates, AreReached, IsFollowedAt, FindsMore, IsMarked, IsWalked};
 
 use crate::places::{NUMBERS, Recent, find};
 use plan_book::{Sheet, children};
@@ -12,7 +12,7 @@ use std::alloc::Global;
 
 /// The state of each row, where the rows reach it from the root. Ranks fall with each turn, so that the states of a
 /// rank are all found once those of higher ranks are followed.
-pub(crate) fn reached<G: Game>(
+pub(crate) fn find_states<G: Game>(
     alloc: Global,
     g: G,
     sheet: &Sheet,
@@ -72,8 +72,9 @@ fn follow<G: Game>(
     requires rising { IsStrictlyIncreasing (map (λ r. r.key) sheet.now.rows) }
     requires within { place < length sheet.now.rows }
     requires states { AreStates (G.model g) sheet.now found.old.items }
-    ensures later { IfOk result (λ _. IsLater (G.model g) sheet.now found.old.items found.new.items) }
-    ensures followed { IfOk result (λ _. IsFollowedAt (G.model g) sheet.now found.old.items found.new.items rank place) }
+    ensures later { IfOk result (λ _. FindsMore (G.model g) sheet.now found.old.items found.new.items) }
+    ensures followed { IfOk result (λ _.
+        IsFollowedAt (G.model g) sheet.now found.old.items found.new.items rank place) }
 {
     let s = match found[place] {
         Some(s) => s,
@@ -108,7 +109,7 @@ fn mark<G: Game>(
     requires rising { IsStrictlyIncreasing (map (λ r. r.key) sheet.now.rows) }
     requires reached { IsReached (G.model g) sheet.now.side (row_at sheet.now.rows) s }
     requires states { AreStates (G.model g) sheet.now found.old.items }
-    ensures later { IsLater (G.model g) sheet.now found.old.items found.new.items }
+    ensures later { FindsMore (G.model g) sheet.now found.old.items found.new.items }
     ensures marked { IsMarked sheet.now.rows found.new.items ((G.model g).key s) }
 {
     let place = match find(sheet.rows.as_slice(), g.key(s), recent) {

@@ -5,11 +5,11 @@ ghost use Rattle.sim_game.specs.Model.{Reachable};
 ghost use Rattle.sim_game.specs.Sides.{other_side};
 ghost use Rattle.plan_book.specs.Sheets.{IsLawfulRow};
 ghost use Rattle.certificate.specs.Ranges.{IsRowInRange};
-ghost use Rattle.checker.specs.Faults.{IsReadable, IsWhole, IsInside, HoldsBelow, IsReplyFault, IsSoundAt, IsFaultAt, IsRowFault, IsFirstFaultOrNone};
+ghost use Rattle.checker.specs.Faults.{IsReadable, HasWholeWeights, IsInside, HoldsBelow, IsReplyFault, IsSoundAt, IsFaultAt, IsRowFault, IsFirstFaultOrNone};
 ghost use Rattle.checker.specs.Found.{IsStateOf};
 
 use crate::places::{NUMBERS, Recent};
-use crate::reach::reached;
+use crate::reach::find_states;
 use crate::verdict::Why;
 use crate::worth::worth;
 use plan_book::{Sheet, SheetRow, is_whole};
@@ -27,7 +27,7 @@ pub(crate) fn first_fault<G: Game>(
     ensures { IfOk result (IsFirstFaultOrNone (G.model g) sheet.now) }
 {
     let mut recent: Recent = [0; NUMBERS];
-    let found = reached(alloc, g, sheet, &mut recent)?;
+    let found = find_states(alloc, g, sheet, &mut recent)?;
     let rows = sheet.rows.as_slice();
     for place in 0..rows.len() {
         if let Some(why) = row_fault(g, sheet, &rows[place], found[place], &mut recent) {
@@ -48,7 +48,8 @@ fn row_fault<G: Game>(
     requires readable { IsReadable sheet.now }
     requires in_range { IsRowInRange row.now }
     requires reached { IsStateOf (G.model g) sheet.now row.now.key state }
-    ensures { MatchOption result (IsLawfulRow (G.model g) sheet.now.side sheet.now.total sheet.now.rows row.now) (IsRowFault (G.model g) sheet.now row.now) }
+    ensures { MatchOption result (IsLawfulRow (G.model g) sheet.now.side sheet.now.total sheet.now.rows row.now)
+        (IsRowFault (G.model g) sheet.now row.now) }
 {
     let side = sheet.side;
     let key = row.key;
@@ -70,7 +71,8 @@ fn fault_at<G: Game>(
     requires readable { IsReadable sheet.now }
     requires in_range { IsRowInRange row.now }
     requires reachable { Reachable (G.model g) s }
-    ensures { MatchOption result (IsSoundAt (G.model g) sheet.now row.now s) (IsFaultAt (G.model g) sheet.now row.now s) }
+    ensures { MatchOption result (IsSoundAt (G.model g) sheet.now row.now s)
+        (IsFaultAt (G.model g) sheet.now row.now s) }
 {
     let side = sheet.side;
     let key = row.key;
@@ -101,8 +103,10 @@ fn reply_fault<G: Game>(
     requires readable { IsReadable sheet.now }
     requires in_range { IsRowInRange row.now }
     requires reachable { Reachable (G.model g) s }
-    requires whole { IsWhole (G.model g) sheet.now row.now s }
-    ensures { MatchOption result (HoldsBelow (G.model g) sheet.now row.now s ((G.model g).moves (other_side sheet.now.side) s)) (IsReplyFault (G.model g) sheet.now row.now s) }
+    requires whole { HasWholeWeights (G.model g) sheet.now row.now s }
+    ensures { let m = G.model g in
+        MatchOption result (HoldsBelow m sheet.now row.now s (m.moves (other_side sheet.now.side) s))
+        (IsReplyFault m sheet.now row.now s) }
 {
     let side = sheet.side;
     let weights = row.weights.as_slice();

@@ -9,7 +9,7 @@ use Rattle.checker.specs.Verdicts.{IsVerdict}
 use Rattle.checker.proofs.VerdictLemmas.{verdict_once}
 use Rattle.lazy_workers.specs.Solutions.{IsSolution}
 use Rattle.certificate.specs.declared.report.Ask.{Ask}
-use Rattle.certificate.specs.declared.report.PositionText.{PositionText}
+use Rattle.certificate.specs.declared.positions.PositionText.{PositionText}
 use Rattle.certificate.specs.declared.report.Report.{Report}
 use Rattle.certificate.specs.Ranges.{IsInRange}
 use Rattle.certificate.specs.Texts.{report_text}
@@ -18,7 +18,7 @@ use Rattle.position.proofs.GameLemmas.{of_game_weaker, of_one_game}
 use Rattle.position.specs.Objects.{◌>>=◌, known_at}
 use Rattle.position.specs.Position.{TaskText, object_at, game_at, ask_at, refuse_if, task_of, position_of}
 use Rattle.commands.specs.declared.reports.ReportFault.TheVariants as faults
-use Rattle.position.specs.Games.{fields_of, text_of, fault_of, OfGame}
+use Rattle.position.specs.Games.{position_text_in, fault_of, OfGame}
 use Rattle.commands.specs.Runs.{IsSolved}
 use Rattle.commands.proofs.CheckLemmas.{report_built}
 use Rattle.certificate.proofs.LengthLemmas.{report_short}
@@ -71,8 +71,8 @@ unfolding position_of task_of
 built bytes task is =
     let d = bind_ok (object_at bytes) _ task is in
     let game = bind_ok (game_at d.0) _ task d.2 in
-    let known = bind_ok (known_at (fields_of game.0) d.0) _ task game.2 in
-    let text = bind_ok (text_of game.0 d.0) _ task known.2 in
+    let known = bind_ok (known_at game.0 d.0) _ task game.2 in
+    let text = bind_ok (position_text_in game.0 d.0) _ task known.2 in
     let ask = bind_ok (ask_at d.0) _ task text.2 in
     let rules = bind_ok (refuse_if (fault_of text.0)) _ task ask.2 in
     let same : record { text = text.0; ask = ask.0 } ≡ task = cc (rules.2) in

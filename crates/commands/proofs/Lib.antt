@@ -4,3 +4,5 @@ pub mod MatchLemmas
 pub mod LawLemmas
 pub mod SampleLemmas
 pub mod SizeLemmas
+pub mod AnswerLemmas
+pub mod RootLemmas

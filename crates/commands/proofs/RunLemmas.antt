@@ -19,7 +19,8 @@ run_of command source source' sink sink' bytes answer status taken part is (IsWr
 run_of command source source' sink sink' bytes answer status taken part is (IsWritten.nothing e is_err same) = IsRun.no_memory part same
 
 -- ---- answers of one status and one text
-pub answers : (P : ℕ → List ℕ → Type 0) (status : ℕ) (text : List ℕ) (result : Result Answer NoMemory) → P status text → IfOk result (λ a. (a.status ≡ status) × (a.text ≡ text)) → IfOk result (λ a. P a.status a.text)
+pub answers : (P : ℕ → List ℕ → Type 0) (status : ℕ) (text : List ℕ) (result : Result Answer NoMemory) → P status text
+    → IfOk result (λ a. (a.status ≡ status) × (a.text ≡ text)) → IfOk result (λ a. P a.status a.text)
 answers P status text result is said = IfOk-weaker result _ (λ a. P a.status a.text) (λ a s. rw (s.0, s.1) is) said
 
 -- where an answer shows a fact

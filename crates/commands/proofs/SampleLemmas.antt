@@ -1,6 +1,7 @@
 -- The samples.
 use Rattle.std.proofs.Common.{◌≡◌, ℕ, ◌%◌, ◌<◌, ◌≤◌, pos, List, length, take, drop, leb, leb-true, true, None, Some, ◌⊎◌, inl, inr, refl, ap, arith}
 use Rattle.std.proofs.Math.Nat.{mod-lt}
+use Rattle.std.proofs.lemmas.Int.{ints}
 use Rattle.std.proofs.lemmas.List.Elements.{All-from_recursion, All-append, All-drop, All-take}
 use Rattle.sim_game.specs.Model.{GameModel, HasAtMost}
 use Rattle.plan_book.specs.Serial.{tree_size}
@@ -34,7 +35,7 @@ prizes_below n small = let P : ℕ → Type 0 = λ n. n ≤ 255 in record {
 
 -- a report may have each sample
 pub in_range : (n : ℕ) → IsPositionInRange (sample_position n)
-in_range n = let cards = prizes_below 0 (omega (arith)) in (cards, cards, prizes_below (n % 5) (mod-lt n (omega (arith))), omega (arith))
+in_range n = let cards = prizes_below 0 (omega (arith)) in (cards, (cards, (prizes_below (n % 5) (mod-lt n (omega (arith))), ((omega (arith, ints), omega (arith, ints)), (refl, tt)))))
 
 -- nothing runs out in so small a game
 closed_or_settled : {S : Type 0} (m : GameModel S) (n : ℕ) (r : Report) → HasAtMost m 3682 → m.rank m.root ≡ 5 → IsSolution m (sample_position n) sample_ask r
@@ -44,7 +45,8 @@ closed_or_settled m n r few rank is Settled e = inr e
 closed_or_settled m n r few rank is Spent e = absurd (let turns = is.spent e 3682 few (omega arith) in omega (arith, turns, rank))
 closed_or_settled m n r few rank is Full e = absurd (is.full e (more_states m 3682 65536 few (omega arith)))
 
-pub is_sample_solution : {S : Type 0} (m : GameModel S) (n : ℕ) (r : Report) → HasAtMost m 3682 → m.rank m.root ≡ 5 → tree_size m m.root ≡ 32826 → IsSolution m (sample_position n) sample_ask r → IsSampleSolution m n r
+pub is_sample_solution : {S : Type 0} (m : GameModel S) (n : ℕ) (r : Report) → HasAtMost m 3682 → m.rank m.root ≡ 5 → tree_size m m.root ≡ 32826
+    → IsSolution m (sample_position n) sample_ask r → IsSampleSolution m n r
 is_sample_solution m n r few rank size is =
     let room = more_states m 3682 65536 few (omega arith) in
     let visits : tree_size m m.root ≤ 40000 = omega (arith, size) in

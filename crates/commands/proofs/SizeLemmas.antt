@@ -219,7 +219,8 @@ module _ (g : Setting) (p : IsPosition g) where
   key_in turns s here =
       let is : game.key s ≡ key_of s = rw (cards_packed s.one (omega (arith, here.one_hand.small)), cards_packed s.two (omega (arith, here.two_hand.small))) refl in
       subst (Contains (all_keys game.root prizes)) (sym is)
-      (in_flat_map (keys_after game.root prizes) (range_with_len 0 (length prizes + 1)) turns (key_of s) (in_range (length prizes + 1) turns (omega (arith, here.one_hand.left))) (key_found turns s here))
+      (in_flat_map (keys_after game.root prizes) (range_with_len 0 (length prizes + 1)) turns (key_of s)
+      (in_range (length prizes + 1) turns (omega (arith, here.one_hand.left))) (key_found turns s here))
 
   few_here : IsAfter 0 game.root → HasAtMost game (length (all_keys game.root prizes))
   few_here start =
@@ -257,7 +258,8 @@ all_cards hand small is = let e : hand ≡ 31 = sym (cards_packed hand small) �
 module _ (n : ℕ) (g : Setting) (p : IsPosition g) (is : IsSettingOf sample_cards sample_cards (sample_prizes n) (pos 0) Margin g) where
   prizes_are : prizes_of g ≡ sample_prizes n
   prizes_are =
-      let listed : take (length (sample_prizes n)) g.prizes ≡ sample_prizes n = rw is.prizes_are (take_at (sample_prizes n) (replicate (13 - length (sample_prizes n)) 0) (length (sample_prizes n)) refl) in
+      let listed : take (length (sample_prizes n)) g.prizes ≡ sample_prizes n =
+      rw is.prizes_are (take_at (sample_prizes n) (replicate (13 - length (sample_prizes n)) 0) (length (sample_prizes n)) refl) in
       ap (λ count. take count g.prizes) is.count_is ∙ listed
 
   start : IsAfter g p 0 (goofspiel_game g).root

@@ -38,5 +38,6 @@ IsJudged r v = OfGame r.position (λ S m. IsVerdict m r v)
 -- the status and the text that check answers to the bytes: what is wrong first, or that nothing is
 pub data IsChecked (bytes : List ℕ) : ℕ → List ℕ → Type 0 where
   accepted : (r : Report) → report_in bytes ≡ Ok r → IsJudged r Accepted → IsChecked bytes 0 (accepted_text r)
-  refused : (r : Report) (w : Why) → report_in bytes ≡ Ok r → IsJudged r (Refused w) → IsChecked bytes 9 (fault_text (faults.Refused w))
+  refused : (r : Report) (w : Why) → report_in bytes ≡ Ok r → IsJudged r (Refused w)
+      → IsChecked bytes 9 (fault_text (faults.Refused w))
   unread : (f : ReportFault) → report_in bytes ≡ Err f → IsChecked bytes 9 (fault_text f)

@@ -20,7 +20,8 @@ use Rattle.commands.specs.Checks.{report_in}
 
 -- ---- the line
 abbrev pub worth_words : Worth → List ℕ
-worth_words (Exact amount base power) = codes " exact " ++ (signed_decimal amount ++ 32 ∷ (decimal base ++ 32 ∷ decimal power))
+worth_words (Exact amount base power) =
+    codes " exact " ++ (signed_decimal amount ++ 32 ∷ (decimal base ++ 32 ∷ decimal power))
 worth_words (Between low high) = codes " between " ++ (signed_decimal low ++ 32 ∷ signed_decimal high)
 
 abbrev pub measured_text : Side → Worth → List ℕ
@@ -39,14 +40,17 @@ sheet_of One r = r.one
 sheet_of Two r = r.two
 
 -- the case is the sheet's worst, which no plan of the other side undercuts; or the sheet comes to too many states
-pub record IsMeasured {S : Type 0} (m : GameModel S) (sheet : Sheet) (found : Result WorstCase WorstError) : Type 0 where
+pub record IsMeasured {S : Type 0} (m : GameModel S) (sheet : Sheet)
+    (found : Result WorstCase WorstError) : Type 0 where
   pub case : IfOk found (IsWorstCase m sheet most_states)
   pub fault : IfErr found (IsWorstError m sheet most_states)
   pub worst : IsWorst m sheet
 
 -- the status and the text that exploit answers to the bytes, for the sheet of the side
 pub data IsExploited (side : Side) (bytes : List ℕ) : ℕ → List ℕ → Type 0 where
-  measured : (r : Report) (case : WorstCase) → report_in bytes ≡ Ok r → OfGame r.position (λ S m. IsWorstCase m (sheet_of side r) most_states case × IsWorst m (sheet_of side r))
+  measured : (r : Report) (case : WorstCase) → report_in bytes ≡ Ok r
+      → OfGame r.position (λ S m. IsWorstCase m (sheet_of side r) most_states case × IsWorst m (sheet_of side r))
       → IsExploited side bytes 0 (measured_text side case.worth)
-  full : (r : Report) → report_in bytes ≡ Ok r → OfGame r.position (λ S m. HasMore m (sheet_of side r) most_states) → IsExploited side bytes 5 full_text
+  full : (r : Report) → report_in bytes ≡ Ok r → OfGame r.position (λ S m. HasMore m (sheet_of side r) most_states)
+      → IsExploited side bytes 5 full_text
   unread : (f : ReportFault) → report_in bytes ≡ Err f → IsExploited side bytes 9 (fault_text f)

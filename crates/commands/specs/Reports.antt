@@ -16,7 +16,9 @@ use Rattle.text.specs.Texts.{side_word}
 
 -- the bounds and the outcome of a report that is accepted
 abbrev pub accepted_text : Report → List ℕ
-accepted_text r = codes "accepted " ++ (signed_decimal r.lower ++ 32 ∷ (signed_decimal r.upper ++ 32 ∷ (outcome_word r.outcome ++ 10 ∷ [])))
+accepted_text r =
+    codes "accepted " ++ (signed_decimal r.lower
+    ++ 32 ∷ (signed_decimal r.upper ++ 32 ∷ (outcome_word r.outcome ++ 10 ∷ [])))
 
 -- ---- why a report is refused
 -- want of memory has no text
@@ -39,7 +41,9 @@ row_text side key = side_word side ++ 32 ∷ decimal key
 
 abbrev pub why_text : Why → List ℕ
 why_text (Weights side key) = codes "weights " ++ row_text side key
-why_text (Bound side key reply sum need) = codes "bound " ++ (row_text side key ++ 32 ∷ (decimal reply ++ 32 ∷ (signed_decimal sum ++ 32 ∷ signed_decimal need)))
+why_text (Bound side key reply sum need) =
+    codes "bound " ++ (row_text side key
+    ++ 32 ∷ (decimal reply ++ 32 ∷ (signed_decimal sum ++ 32 ∷ signed_decimal need)))
 why_text (Idle side key) = codes "idle " ++ row_text side key
 why_text (Root side) = codes "root " ++ side_word side
 why_text (Outside side key) = codes "outside " ++ row_text side key

@@ -9,7 +9,7 @@ use Rattle.certificate.specs.Reading.{read_report}
 use Rattle.position.specs.declared.error.InputError.{InputError}
 use Rattle.position.specs.Position.{TaskText, position_of}
 use Rattle.position.specs.Causes.{Rose}
-use Rattle.position.specs.Taken.{SourceState, SinkState, TakesAtMost, AppendsFront}
+use Rattle.position.specs.Taken.{SourceState, SinkState, ConsumesAtMost, AppendsFront}
 use Rattle.lazy_workers.specs.Solutions.{IsSolution}
 use Rattle.sim_game.specs.declared.NoMemory.{NoMemory}
 use Rattle.commands.specs.declared.run.Answer.{Answer}
@@ -35,7 +35,8 @@ status_of Full = 5
 -- the status and the text that solve answers to the bytes of a position
 pub data IsSolved (bytes : List ℕ) : ℕ → List ℕ → Type 0 where
   refused : (e : InputError) → position_of bytes ≡ Err e → IsSolved bytes 2 (input_text e)
-  reported : (task : TaskText) (r : Report) → position_of bytes ≡ Ok task → OfGame task.text (λ S m. IsSolution m task.text task.ask r) → read_report (report_text r) ≡ Ok r
+  reported : (task : TaskText) (r : Report) → position_of bytes ≡ Ok task
+      → OfGame task.text (λ S m. IsSolution m task.text task.ask r) → read_report (report_text r) ≡ Ok r
       → IsSolved bytes (status_of r.outcome) (report_text r)
 
 -- the status and the text that sample answers to a number
@@ -65,39 +66,47 @@ limit_of Bounds = 1048576
 limit_of (Exploit side) = most_report
 limit_of (Play games seed) = most_report
 
--- all that was left, or one byte more than the limit
-pub record IsInput (limit : ℕ) (old new : Option (List ℕ)) (bytes : List ℕ) : Type 0 where
-  pub taken : Consumes old new bytes
-  pub whole : (length bytes ≤ limit × IsAtEnd new) ⊎ (length bytes ≡ limit + 1)
+-- all that was left, or one byte more than the limit, from a source of which no call failed
+pub record IsInput (limit : ℕ) (old new : SourceState) (bytes : List ℕ) : Type 0 where
+  pub taken : Consumes old.left new.left bytes
+  pub whole : (length bytes ≤ limit × IsAtEnd new.left) ⊎ (length bytes ≡ limit + 1)
+  pub calm : new.faults ≡ old.faults
 
 -- words that are no command, and sample, leave the source as it was
 abbrev pub IsTaken : Option Command → SourceState → SourceState → List ℕ → Type 0
 IsTaken None old new bytes = new ≡ old
 IsTaken (Some (Sample number)) old new bytes = new ≡ old
-IsTaken (Some (Reading command)) old new bytes = IsInput (limit_of command) old.left new.left bytes
+IsTaken (Some (Reading command)) old new bytes = IsInput (limit_of command) old new bytes
 
 abbrev pub IsTakenInPart : Option Command → SourceState → SourceState → Type 0
 IsTakenInPart None old new = new ≡ old
 IsTakenInPart (Some (Sample number)) old new = new ≡ old
-IsTakenInPart (Some (Reading command)) old new = TakesAtMost old.left new.left (limit_of command + 1)
+IsTakenInPart (Some (Reading command)) old new =
+    ConsumesAtMost old.left new.left (limit_of command + 1) × (new.faults ≡ old.faults)
 
 -- ---- runs
 -- with a source and a sink, before and after
 pub data IsRun (command : Option Command) (source source' : SourceState) (sink sink' : SinkState) : ℕ → Type 0 where
   -- the whole text of an answer is written
-  answered : (bytes text : List ℕ) (status : ℕ) → IsTaken command source source' bytes → IsAnswer command bytes status text → Appends sink.written sink'.written text
+  answered : (bytes text : List ℕ) (status : ℕ) → IsTaken command source source' bytes
+      → IsAnswer command bytes status text → Appends sink.written sink'.written text
       → IsRun command source source' sink sink' status
   -- the source of a command that reads failed: nothing is written
-  unread : (reading : ReadingCommand) → command ≡ Some (Reading reading) → TakesAtMost source.left source'.left (limit_of reading) → Rose source.faults source'.faults → sink' ≡ sink
+  unread : (reading : ReadingCommand) → command ≡ Some (Reading reading)
+      → ConsumesAtMost source.left source'.left (limit_of reading) → Rose source.faults source'.faults → sink' ≡ sink
       → IsRun command source source' sink sink' 6
   -- the sink failed: a part of an answer's text is written
-  cut_off : (bytes text : List ℕ) (status : ℕ) → IsTaken command source source' bytes → IsAnswer command bytes status text → AppendsFront sink.written sink'.written text
-      → Rose sink.faults sink'.faults → IsRun command source source' sink sink' 7
-  -- want of memory: nothing is written
+  cut_off : (bytes text : List ℕ) (status : ℕ) → IsTaken command source source' bytes
+      → IsAnswer command bytes status text → AppendsFront sink.written sink'.written text
+      → Rose sink.faults sink'.faults
+      → IsRun command source source' sink sink' 7
+  -- want of memory, and no call of the source failed: nothing is written
   no_memory : IsTakenInPart command source source' → sink' ≡ sink → IsRun command source source' sink sink' 8
 
 -- the answer was written, whole or in part, or there was no memory for it
 pub data IsWritten (answer : Result Answer NoMemory) (sink sink' : SinkState) : ℕ → Type 0 where
-  whole : (a : Answer) → answer ≡ Ok a → Appends sink.written sink'.written a.text → IsWritten answer sink sink' a.status
-  part : (a : Answer) → answer ≡ Ok a → AppendsFront sink.written sink'.written a.text → Rose sink.faults sink'.faults → IsWritten answer sink sink' 7
+  whole : (a : Answer) → answer ≡ Ok a → Appends sink.written sink'.written a.text
+      → IsWritten answer sink sink' a.status
+  part : (a : Answer) → answer ≡ Ok a → AppendsFront sink.written sink'.written a.text → Rose sink.faults sink'.faults
+      → IsWritten answer sink sink' 7
   nothing : (e : NoMemory) → answer ≡ Err e → sink' ≡ sink → IsWritten answer sink sink' 8

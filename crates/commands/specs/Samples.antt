@@ -6,9 +6,10 @@ use Rattle.sim_game.specs.Model.{GameModel}
 use Rattle.plan_book.specs.Serial.{serial_bound}
 use Rattle.goofspiel.specs.declared.Pay.TheVariants.{Margin}
 use Rattle.certificate.specs.declared.report.Ask.{Ask}
+use Rattle.certificate.specs.declared.report.StageMethod.TheVariants.{Regret}
 use Rattle.certificate.specs.declared.report.Outcome.TheVariants.{Closed, Settled}
-use Rattle.certificate.specs.declared.report.PositionText.{PositionText}
-use Rattle.certificate.specs.declared.report.PositionText.TheVariants.{Goofspiel}
+use Rattle.certificate.specs.declared.positions.PositionText.{PositionText}
+use Rattle.certificate.specs.declared.positions.PositionText.TheVariants.{Goofspiel}
 use Rattle.certificate.specs.declared.report.Report.{Report}
 use Rattle.certificate.specs.Outcomes.{gap_of}
 use Rattle.text.specs.Texts.{line_text}
@@ -33,16 +34,21 @@ sample_position n = Goofspiel sample_cards sample_cards (sample_prizes n) (pos 0
 
 -- what is asked for each sample
 abbrev pub sample_ask : Ask
-sample_ask = record { gap = pos 0; weight = 8192; turns = 262144; visits = 40000; rows = 65536; workers = 1 }
+sample_ask =
+    record { gap = pos 0; weight = 8192; turns = 262144; visits = 40000; rows = 65536; workers = 1; stages = Regret }
 
 -- ---- what is found
 -- both bounds and the gap between them
 abbrev pub bounds_words : Report → List ℕ
-bounds_words r = codes "lower " ++ (signed_decimal r.lower ++ (codes " upper " ++ (signed_decimal r.upper ++ (codes " gap " ++ signed_decimal (gap_of r)))))
+bounds_words r =
+    codes "lower " ++ (signed_decimal r.lower
+    ++ (codes " upper " ++ (signed_decimal r.upper ++ (codes " gap " ++ signed_decimal (gap_of r)))))
 
 -- the line of the number and the report
 abbrev pub sample_line : ℕ → Report → List ℕ
-sample_line n r = line_text (codes "sample" ∷ decimal n ∷ bounds_words r ∷ outcome_word r.outcome ∷ codes "spent" ∷ map decimal r.spent)
+sample_line n r =
+    line_text (codes "sample" ∷ decimal n ∷ bounds_words r
+    ∷ outcome_word r.outcome ∷ codes "spent" ∷ map decimal r.spent)
 
 -- the report is what solve would report of the sample; the turns, the visits and the rows that are asked for it suffice
 pub record IsSampleSolution {S : Type 0} (m : GameModel S) (n : ℕ) (r : Report) : Type 0 where

@@ -10,7 +10,8 @@ use Rattle.commands.specs.declared.words.Command.TheVariants.{Reading, Sample}
 
 -- the side whose plan is measured
 abbrev pub side_of : List ℕ → Option Side
-side_of word = if bytes_eq word (codes "one") then Some One else (if bytes_eq word (codes "two") then Some Two else None)
+side_of word =
+    if bytes_eq word (codes "one") then Some One else (if bytes_eq word (codes "two") then Some Two else None)
 
 abbrev pub play_of : Option ℕ → Option ℕ → Option Command
 play_of None seed = None
@@ -26,9 +27,15 @@ seed_in word = natural_in 0 18446744073709551615 word
 
 abbrev pub command_of : List (List ℕ) → Option Command
 command_of [] = None
-command_of (word ∷ []) = if bytes_eq word (codes "solve") then Some (Reading Solve) else (if bytes_eq word (codes "check") then Some (Reading Check) else (if bytes_eq word (codes "bounds") then Some (Reading Bounds) else None))
-command_of (word ∷ next ∷ []) = if bytes_eq word (codes "sample") then option_map Sample (natural_in 0 1000000 next) else (if bytes_eq word (codes "exploit") then option_map (λ side. Reading (Exploit side)) (side_of next) else None)
-command_of (word ∷ games ∷ seed ∷ []) = if bytes_eq word (codes "play") then play_of (games_in games) (seed_in seed) else None
+command_of (word ∷ []) =
+    if bytes_eq word (codes "solve") then Some (Reading Solve)
+    else (if bytes_eq word (codes "check") then Some (Reading Check)
+    else (if bytes_eq word (codes "bounds") then Some (Reading Bounds) else None))
+command_of (word ∷ next ∷ []) =
+    if bytes_eq word (codes "sample") then option_map Sample (natural_in 0 1000000 next)
+    else (if bytes_eq word (codes "exploit") then option_map (λ side. Reading (Exploit side)) (side_of next) else None)
+command_of (word ∷ games ∷ seed ∷ []) =
+    if bytes_eq word (codes "play") then play_of (games_in games) (seed_in seed) else None
 command_of (word ∷ games ∷ seed ∷ next ∷ more) = None
 
 -- as many games as can be played

@@ -27,18 +27,21 @@ impl GameVisitor for RootSearcher {
 
     ghost says = { λ v _ m answer. IfOk answer (IsSearchedRoot m v.ask) };
 
+    #[tactic(auto, using(crate::proofs::RootLemmas::searched_root))]
     fn visit<G: Game + Send + Sync>(self, game: G) -> Result<RootEnd, NoMemory>
     where
         G::State: Send + Sync,
     {
         let mut visits = Visits::new(self.ask.visits);
-        root_bounds(
+        let end = root_bounds(
             self.alloc,
             game,
             self.ask.rows,
             self.ask.weight,
             &mut visits,
-        )
+        );
+        visits.keep_limit();
+        end
     }
 }
 

@@ -2,9 +2,10 @@
 
 ghost use Rattle.std.specs.Prelude.{◌≡◌, ◌≢◌, ◌⊎◌, ℕ, List};
 ghost use Rattle.sim_game.specs.Model.{HasAtMost};
+ghost use Rattle.sim_game.specs.declared.Side.{Side};
 ghost use Rattle.plan_book.specs.Serial.{tree_size};
 ghost use Rattle.certificate.specs.declared.report.Ask.{Ask};
-ghost use Rattle.certificate.specs.declared.report.PositionText.{PositionText};
+ghost use Rattle.certificate.specs.declared.positions.PositionText.{PositionText};
 ghost use Rattle.checker.specs.declared.verdict.Verdict.{Verdict};
 ghost use Rattle.checker.specs.declared.verdict.Verdict.TheVariants.{Accepted};
 ghost use Rattle.checker.specs.Verdicts.{IsVerdict};
@@ -12,6 +13,8 @@ ghost use Rattle.lazy_workers.specs.Solutions.{IsSolution};
 ghost use Rattle.certificate.specs.Texts.{report_text};
 ghost use Rattle.certificate.specs.declared.report.Report.{Report};
 ghost use Rattle.commands.specs.Checks.{IsChecked};
+ghost use Rattle.commands.specs.Measured.{IsExploited};
+ghost use Rattle.commands.specs.Matches.{IsPlayedMatch};
 ghost use Rattle.commands.specs.Reports.{accepted_text};
 ghost use Rattle.position.specs.Games.{OfGame};
 ghost use Rattle.commands.specs.Runs.{IsSolved, IsSampled};
@@ -26,6 +29,21 @@ use sim_game::Game;
 #[tactic(auto, using(crate::proofs::LawLemmas::one_answer))]
 pub fn check_has_one_answer()
     ensures { (bytes text other : List ℕ) (status state : ℕ) → IsChecked bytes status text → IsChecked bytes state other
+        → (status ≡ state) × (text ≡ other) }
+{}
+
+/// `exploit` has at most one answer to the bytes of a report.
+#[tactic(auto, using(crate::proofs::AnswerLemmas::one_exploited))]
+pub fn exploit_has_one_answer()
+    ensures { (side : Side) (bytes text other : List ℕ) (status state : ℕ) → IsExploited side bytes status text
+        → IsExploited side bytes state other → (status ≡ state) × (text ≡ other) }
+{}
+
+/// `play` has at most one answer to the bytes of a report.
+#[tactic(auto, using(crate::proofs::AnswerLemmas::one_match))]
+pub fn play_has_one_answer()
+    ensures { (games seed : ℕ) (bytes text other : List ℕ) (status state : ℕ)
+        → IsPlayedMatch games seed bytes status text → IsPlayedMatch games seed bytes state other
         → (status ≡ state) × (text ≡ other) }
 {}
 

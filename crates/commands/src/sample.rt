@@ -11,7 +11,7 @@ ghost use Rattle.commands.specs.Samples.{sample_cards, sample_prizes, sample_pos
 use crate::reports::outcome;
 use crate::run::{Answer, written};
 use crate::solve::status_of;
-use certificate::{Ask, Pay, PositionText, Report};
+use certificate::{Ask, Pay, PositionText, Report, StageMethod};
 use goofspiel::Goofspiel;
 use lazy_workers::solve;
 use oracle_search::Gate;
@@ -32,6 +32,7 @@ const ASK: Ask = Ask {
     visits: 40_000,
     rows: 65_536,
     workers: 1,
+    stages: StageMethod::Regret,
 };
 
 /// The answer to the number of a sample.

@@ -3,13 +3,20 @@
 
 mod progress;
 
+ghost use Rattle.std.specs.Prelude.{None, map, string_bytes, IfOk, OnErr};
+ghost use Rattle.std.specs.Process.{exit_status};
+ghost use Rattle.commands.specs.Runs.{IsRun};
+ghost use Rattle.commands.specs.Words.{command_of};
+
 use crate::progress::Progress;
 use commands::run::run;
-use position::{StdSink, StdSource};
+use oracle_search::Gate;
+use position::{Sink, Source, StdSink, StdSource};
 use std::alloc::Global;
 use std::env::Env;
 use std::io::ErrorKind;
 use std::process::ExitCode;
+use std::thread::Threads;
 use std::{env, io};
 
 /// The words behind the program's name. Fails for want of memory, or where one is not UTF-8.
@@ -21,15 +28,32 @@ fn arguments<R: Env + Alloc<A = Global>>(rt: &R) -> io::Result<Vec<String>> {
     Ok(words)
 }
 
+/// The end of a run over the words, where they were read. No command is run by words that were not.
+fn ended<R: Threads + Sync, S: Source, K: Sink, T: Gate + Sync>(
+    rt: &R,
+    alloc: Global,
+    words: &io::Result<Vec<String>>,
+    source: &mut S,
+    sink: &mut K,
+    gate: &T,
+) -> ExitCode
+    ensures read { IfOk words.now (λ all. IsRun (command_of (map string_bytes all.items))
+        (S.state source.old) (S.state source.new) (K.state sink.old) (K.state sink.new) (exit_status result)) }
+    ensures unread { OnErr words.now (IsRun None
+        (S.state source.old) (S.state source.new) (K.state sink.old) (K.state sink.new) (exit_status result)) }
+{
+    match words {
+        Ok(words) => ExitCode::from(run(rt, alloc, words, source, sink, gate)),
+        Err(error) if error.kind() == ErrorKind::OutOfMemory => ExitCode::from(8),
+        // A word that is not UTF-8 is no command.
+        Err(_) => ExitCode::from(run(rt, alloc, &[], source, sink, gate)),
+    }
+}
+
 fn main(rt: HostRuntime) -> ExitCode {
     let progress = Progress::new(&rt);
     let mut source = StdSource::new(rt.stdin());
     let mut sink = StdSink::new(rt.stdout());
-    let status = match arguments(&rt) {
-        Ok(words) => run(&rt, rt.alloc(), &words, &mut source, &mut sink, &progress),
-        Err(error) if error.kind() == ErrorKind::OutOfMemory => 8,
-        // A word that is not UTF-8 is no command.
-        Err(_) => run(&rt, rt.alloc(), &[], &mut source, &mut sink, &progress),
-    };
-    ExitCode::from(status)
+    let words = arguments(&rt);
+    ended(&rt, rt.alloc(), &words, &mut source, &mut sink, &progress)
 }

@@ -7,24 +7,24 @@ use Rattle.goofspiel.specs.declared.GoofspielError.TheVariants.{CardRange, CardT
 use Rattle.goofspiel.specs.Cards.{rising}
 use Rattle.goofspiel.specs.DrawnRules.{DrawnDeal, after_draw, draw_count, drawn_key_of, first_deal}
 use Rattle.goofspiel.specs.Position.{first_fault}
-use Rattle.goofspiel.specs.Rules.{Deal, after_bids, key_of}
+use Rattle.goofspiel.specs.Rules.{Deal, after_bids, goofspiel_key}
 
 abbrev start : Deal
 start = record { one = 1 ∷ 3 ∷ []; two = 2 ∷ 3 ∷ []; score = pos 0 }
 
-start_key : key_of start ≡ 335595772
+start_key : goofspiel_key start ≡ 335595772
 start_key = refl
 
-key_after_1_2 : key_of (after_bids 1 start 0 0) ≡ 268470523
+key_after_1_2 : goofspiel_key (after_bids 1 start 0 0) ≡ 268470523
 key_after_1_2 = refl
 
-key_after_1_3 : key_of (after_bids 1 start 0 1) ≡ 268454139
+key_after_1_3 : goofspiel_key (after_bids 1 start 0 1) ≡ 268454139
 key_after_1_3 = refl
 
-key_after_3_2 : key_of (after_bids 1 start 1 0) ≡ 67143933
+key_after_3_2 : goofspiel_key (after_bids 1 start 1 0) ≡ 67143933
 key_after_3_2 = refl
 
-key_after_3_3 : key_of (after_bids 1 start 1 1) ≡ 67127548
+key_after_3_3 : goofspiel_key (after_bids 1 start 1 1) ≡ 67127548
 key_after_3_3 = refl
 
 range_before_repeat : first_fault (1 ∷ 1 ∷ []) (2 ∷ 14 ∷ []) [] (pos 0) ≡ Some (CardRange Two 1)

@@ -17,7 +17,8 @@ use Rattle.state_key.proofs.SetLemmas.{bit_clear, filter_agrees, in_with, member
 use Rattle.goofspiel.specs.Cards.{cards, members, rising}
 use Rattle.goofspiel.specs.CardLaws.{few_cards}
 use Rattle.goofspiel.specs.declared.Setting.{Setting}
-use Rattle.goofspiel.specs.Position.{is_outside, repeat_after, prizes_of, IsHandOf, IsPosition}
+use Rattle.text.specs.Faults.{is_outside}
+use Rattle.goofspiel.specs.Position.{repeat_after, prizes_of, IsHandOf, IsPosition}
 
 -- ---- numbers within a range
 pub none_fails : (p : ℕ → Bool) (xs : List ℕ) (i : ℕ) → position p xs ≡ None → i < length xs → p (get_or xs i 0) ≡ false
@@ -75,7 +76,8 @@ gathered_more hand i packed l low high free g =
     let before : list_any (λ other. eqb other card) (take i hand) ≡ false = sym (g.bits card low high) ∙ free in
     record {
       small = with_below 13 packed (card - 1) (omega arith) g.small;
-      bits = λ other a b. in_with packed (card - 1) (other - 1) ∙ ap₂ (λ (x y : Bool). x || y) (g.bits other a b) (same_bits card other low a) ∙ sym (list_any_more (λ third. eqb third other) hand i 0 l);
+      bits = λ other a b. in_with packed (card - 1) (other - 1) ∙ ap₂ (λ (x y : Bool). x || y) (g.bits other a b) (same_bits card other low a)
+          ∙ sym (list_any_more (λ third. eqb third other) hand i 0 l);
       size = ones_with packed (card - 1) (bit_clear packed (card - 1) free) ∙ ap (λ (n : ℕ). n + 1) g.size;
       repeat = g.repeat ∙ repeat_step hand i l ∙ ap (λ (b : Bool). cond b (Some card) (repeat_after (take (i + 1) hand) (drop (i + 1) hand))) before;
     }

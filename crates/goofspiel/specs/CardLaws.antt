@@ -22,7 +22,7 @@ few_cards hand h = few_members 1 hand h
 
 -- ---- a number is taken out
 -- what holds of the number at place `i` of the list `xs` of a packed set
-pub record IsTaken (n low m i : ℕ) (xs : List ℕ) : Type 0 where
+pub record IsTakenOut (n low m i : ℕ) (xs : List ℕ) : Type 0 where
   pub first : low ≤ get_or xs i 0
   pub last : get_or xs i 0 < low + n
   pub held : 2 ^ (get_or xs i 0 - low) ≤ m
@@ -38,7 +38,7 @@ one_bit low =
     let e : low - low ≡ 0 = omega arith in
     ap (λ (k : ℕ). 2 ^ k) e
 
-taken_even : (n low half i : ℕ) (xs : List ℕ) → IsTaken n (suc low) half i xs → IsTaken (suc n) low (2 * half) i xs
+taken_even : (n low half i : ℕ) (xs : List ℕ) → IsTakenOut n (suc low) half i xs → IsTakenOut (suc n) low (2 * half) i xs
 taken_even n low half i xs t =
     let x = get_or xs i 0 in
     let d = double low x t.first in
@@ -50,8 +50,8 @@ taken_even n low half i xs t =
       left = ap (members (suc n) low) e ∙ members_even n low (half - 2 ^ (x - suc low)) ∙ t.left;
     }
 
-taken_odd : (n low half : ℕ) (xs : List ℕ) → xs ≡ members n (suc low) half → ((i : ℕ) → i < length xs → IsTaken n (suc low) half i xs)
-    → (i : ℕ) → i < length (low ∷ xs) → IsTaken (suc n) low (2 * half + 1) i (low ∷ xs)
+taken_odd : (n low half : ℕ) (xs : List ℕ) → xs ≡ members n (suc low) half → ((i : ℕ) → i < length xs → IsTakenOut n (suc low) half i xs)
+    → (i : ℕ) → i < length (low ∷ xs) → IsTakenOut (suc n) low (2 * half + 1) i (low ∷ xs)
 taken_odd n low half xs is more zero l =
     let d = one_bit low in
     let e : 2 * half + 1 - 2 ^ (low - low) ≡ 2 * half = omega (arith, d) in
@@ -73,8 +73,8 @@ taken_odd n low half xs is more (suc i) l =
       left = ap (members (suc n) low) e ∙ members_odd n low (half - 2 ^ (x - suc low)) ∙ ap (λ (ys : List ℕ). low ∷ ys) t.left;
     }
 
-pub members_taken : (n low m : ℕ) → m < 2 ^ n → (i : ℕ) → i < length (members n low m) → IsTaken n low m i (members n low m)
-members_taken = members_induction (λ n low m xs. (i : ℕ) → i < length xs → IsTaken n low m i xs) (λ low i l. absurd (omega arith))
+pub members_taken : (n low m : ℕ) → m < 2 ^ n → (i : ℕ) → i < length (members n low m) → IsTakenOut n low m i (members n low m)
+members_taken = members_induction (λ n low m xs. (i : ℕ) → i < length xs → IsTakenOut n low m i xs) (λ low i l. absurd (omega arith))
     (λ n low h more i l. taken_even n low h i (members n (suc low) h) (more i l))
     (λ n low h more. taken_odd n low h (members n (suc low) h) refl more)
 

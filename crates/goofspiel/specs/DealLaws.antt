@@ -13,17 +13,19 @@ use Rattle.goofspiel.specs.declared.State.{State}
 use Rattle.goofspiel.specs.Cards.{cards}
 use Rattle.goofspiel.specs.CardLaws.{few_cards, cards_packed, members_increase, cards_hand, card_bid}
 use Rattle.goofspiel.specs.Position.{prizes_of, IsPosition}
-use Rattle.goofspiel.specs.Rules.{Deal, IsDeal, deal_of, state_of, first_state, after_bids, hand_of, won, pay_of, low_of, high_of, key_of}
+use Rattle.goofspiel.specs.Rules.{Deal, IsDeal, deal_of, state_of, goofspiel_root, after_bids, hand_of, won, pay_of, low_of, high_of, goofspiel_key}
 
 -- ---- scores and payoffs
 pub won_small : (one two prize : ℕ) → (neg_ℤ (pos prize) ≤ℤ won one two prize) × (won one two prize ≤ℤ pos prize)
-won_small one two prize = elim (ltb two one) as (λ b. (neg_ℤ (pos prize) ≤ℤ cond b (pos prize) (cond (ltb one two) (neg_ℤ (pos prize)) (pos 0))) × (cond b (pos prize) (cond (ltb one two) (neg_ℤ (pos prize)) (pos 0)) ≤ℤ pos prize)) [
-  | true ↦ (omega (arith, ints), omega (arith, ints))
-  | false ↦ elim (ltb one two) as (λ b. (neg_ℤ (pos prize) ≤ℤ cond b (neg_ℤ (pos prize)) (pos 0)) × (cond b (neg_ℤ (pos prize)) (pos 0) ≤ℤ pos prize)) [
-    | true ↦ (omega (arith, ints), omega (arith, ints))
-    | false ↦ (omega (arith, ints), omega (arith, ints))
-  ]
-]
+won_small one two prize =
+    elim (ltb two one) as (λ b. (neg_ℤ (pos prize) ≤ℤ cond b (pos prize) (cond (ltb one two) (neg_ℤ (pos prize)) (pos 0)))
+    × (cond b (pos prize) (cond (ltb one two) (neg_ℤ (pos prize)) (pos 0)) ≤ℤ pos prize)) [
+      | true ↦ (omega (arith, ints), omega (arith, ints))
+      | false ↦ elim (ltb one two) as (λ b. (neg_ℤ (pos prize) ≤ℤ cond b (neg_ℤ (pos prize)) (pos 0)) × (cond b (neg_ℤ (pos prize)) (pos 0) ≤ℤ pos prize)) [
+        | true ↦ (omega (arith, ints), omega (arith, ints))
+        | false ↦ (omega (arith, ints), omega (arith, ints))
+      ]
+    ]
 
 sign_small : (z : ℤ) → (negsuc 0 ≤ℤ int_signum z) × (int_signum z ≤ℤ pos 1)
 sign_small (pos n) = (omega (arith, ints), omega (arith, ints))
@@ -37,39 +39,40 @@ pub pay_high : (pay : Pay) (score first : ℤ) (total : ℕ) → score ≤ℤ (f
 pay_high Margin score first total h = h
 pay_high Win score first total h = (sign_small score).1
 
-pub record IsRange (pay : Pay) (first : ℤ) (total : ℕ) : Type 0 where
+pub record IsPayRange (pay : Pay) (first : ℤ) (total : ℕ) : Type 0 where
   pub low_least : neg_ℤ (pos 2300) ≤ℤ low_of pay first total
   pub low_high : low_of pay first total ≤ℤ high_of pay first total
   pub high_most : high_of pay first total ≤ℤ pos 2300
 
-pub pay_range : (pay : Pay) (first : ℤ) (total : ℕ) → total ≤ 1300 → unsigned_abs first ≤ 1000 → IsRange pay first total
+pub pay_range : (pay : Pay) (first : ℤ) (total : ℕ) → total ≤ 1300 → unsigned_abs first ≤ 1000 → IsPayRange pay first total
 pay_range Margin first total h small = record { low_least = omega (arith, ints); low_high = omega (arith, ints); high_most = omega (arith, ints) }
 pay_range Win first total h small = record { low_least = omega (arith, ints); low_high = omega (arith, ints); high_most = omega (arith, ints) }
 
 -- ---- states
-pub same_state : (s t : State) → s.one ≡ t.one → s.two ≡ t.two → s.score ≡ t.score → s ≡ t
-same_state s t p q r = λ i. record { one = p i; two = q i; score = r i }
+pub same_goofspiel_state : (s t : State) → s.one ≡ t.one → s.two ≡ t.two → s.score ≡ t.score → s ≡ t
+same_goofspiel_state s t p q r = λ i. record { one = p i; two = q i; score = r i }
 
 pub same_hands : (d e : Deal) → d.one ≡ e.one → d.two ≡ e.two → d.score ≡ e.score → d ≡ e
 same_hands d e p q r = λ i. record { one = p i; two = q i; score = r i }
 
 -- ---- the hands and the score in bits
-pub record IsSmall (s : State) : Type 0 where
+pub record FitsKey (s : State) : Type 0 where
   pub one : s.one < 2 ^ 13
   pub two : s.two < 2 ^ 13
   pub score : unsigned_abs s.score ≤ 2300
 
-pub key_is : (s : State) → IsSmall s → key_of (deal_of s) ≡ (s.one * 2 ^ 13 + s.two) * 2 ^ 13 + unsigned_abs (s.score +ℤ pos 2300)
-key_is s here = rw (cards_packed s.one here.one, cards_packed s.two here.two) refl
+pub hands_key_is : (s : State) → FitsKey s → goofspiel_key (deal_of s) ≡ (s.one * 2 ^ 13 + s.two) * 2 ^ 13 + unsigned_abs (s.score +ℤ pos 2300)
+hands_key_is s here = rw (cards_packed s.one here.one, cards_packed s.two here.two) refl
 
-pub key_small : (s : State) → IsSmall s → key_of (deal_of s) < 2 ^ 39
-key_small s here = rw (key_is s here) (omega (arith, ints, here.score, here.one, here.two))
+pub key_small : (s : State) → FitsKey s → goofspiel_key (deal_of s) < 2 ^ 39
+key_small s here = rw (hands_key_is s here) (omega (arith, ints, here.score, here.one, here.two))
 
-pub keys_apart : (s t : State) → IsSmall s → IsSmall t → key_of (deal_of s) ≡ key_of (deal_of t) → s ≡ t
+pub keys_apart : (s t : State) → FitsKey s → FitsKey t → goofspiel_key (deal_of s) ≡ goofspiel_key (deal_of t) → s ≡ t
 keys_apart s t here there e =
-    let same : (s.one * 2 ^ 13 + s.two) * 2 ^ 13 + unsigned_abs (s.score +ℤ pos 2300) ≡ (t.one * 2 ^ 13 + t.two) * 2 ^ 13 + unsigned_abs (t.score +ℤ pos 2300) = sym (key_is s here) ∙ e ∙ key_is t there in
+    let same : (s.one * 2 ^ 13 + s.two) * 2 ^ 13 + unsigned_abs (s.score +ℤ pos 2300) ≡ (t.one * 2 ^ 13 + t.two) * 2 ^ 13 + unsigned_abs (t.score +ℤ pos 2300) =
+    sym (hands_key_is s here) ∙ e ∙ hands_key_is t there in
     let a = here.score in let b = there.score in let c = here.two in let d = there.two in
-    same_state s t (omega (arith, ints, same)) (omega (arith, ints, same)) (omega (arith, ints, same))
+    same_goofspiel_state s t (omega (arith, ints, same)) (omega (arith, ints, same)) (omega (arith, ints, same))
 
 -- ---- what holds of the hands and the score where the prizes that were bid for have the sum `spent`
 pub record IsDealt (g : Setting) (spent : ℕ) (s : State) : Type 0 where
@@ -104,7 +107,7 @@ module _ (g : Setting) (p : IsPosition g) where
   pub total_high : sum (prizes_of g) ≤ 1300
   total_high = omega (arith, sum_by-le (λ prize. prize) 100 (prizes_of g) p.prize_high, p.prize_count, few_prizes)
 
-  pub dealt_first : IsDealt g 0 (first_state g)
+  pub dealt_first : IsDealt g 0 (goofspiel_root g)
   dealt_first = record {
     one_small = p.one_small;
     two_small = p.two_small;
@@ -114,7 +117,7 @@ module _ (g : Setting) (p : IsPosition g) where
     score_high = omega (arith, ints);
   }
 
-  pub small_score : (spent : ℕ) (s : State) → spent ≤ 1300 → IsDealt g spent s → IsSmall s
+  pub small_score : (spent : ℕ) (s : State) → spent ≤ 1300 → IsDealt g spent s → FitsKey s
   small_score spent s few here = record {
     one = here.one_small;
     two = here.two_small;

@@ -17,10 +17,10 @@ use Rattle.goofspiel.specs.declared.Setting.{Setting}
 use Rattle.goofspiel.specs.Cards.{members, cards, places, packed_from}
 use Rattle.state_key.proofs.SetLemmas.{members_none, members_even, members_odd}
 use Rattle.goofspiel.specs.CardLaws.{few_members, few_cards, set_packed, taken_out}
-use Rattle.goofspiel.specs.DealLaws.{IsSmall, IsDealt, IsBidFor, pay_low, pay_high, pay_range, key_small, keys_apart, hand_count, few_prizes, total_high, dealt_first, small_score, bid_for}
+use Rattle.goofspiel.specs.DealLaws.{FitsKey, IsDealt, IsBidFor, pay_low, pay_high, pay_range, key_small, keys_apart, hand_count, few_prizes, total_high, dealt_first, small_score, bid_for}
 use Rattle.goofspiel.specs.DrawnRules.{DrawnDeal, after_draw, drawn_deal_of, draw_count, drawn_key_of, drawn_game}
 use Rattle.goofspiel.specs.Position.{prizes_of, IsPosition}
-use Rattle.goofspiel.specs.Rules.{deal_of, key_of}
+use Rattle.goofspiel.specs.Rules.{deal_of, goofspiel_key}
 
 -- ---- equal weights
 -- so many equal weights sum to the whole
@@ -157,7 +157,8 @@ module _ (g : Setting) (p : IsPosition g) where
     | inr past ↦ let e : get_or (places s.undrawn) t.draw 0 ≡ 0 = get_or_past (places s.undrawn) t.draw 0 past in omega (arith, e)
   ]
 
-  still_below : (s : DrawnState) (draw : ℕ) → IsDrawnSound g s → draw < max 1 (length (places s.undrawn)) → (i : ℕ) → i < length (places s.undrawn) - 1 → get_or (remove (places s.undrawn) draw) i 0 < g.count
+  still_below : (s : DrawnState) (draw : ℕ) → IsDrawnSound g s → draw < max 1 (length (places s.undrawn)) → (i : ℕ)
+      → i < length (places s.undrawn) - 1 → get_or (remove (places s.undrawn) draw) i 0 < g.count
   still_below s draw here below i h =
       let xs = places s.undrawn in
       let place : draw < length xs = omega arith in
@@ -190,7 +191,7 @@ module _ (g : Setting) (p : IsPosition g) where
   pub drawn_sound : (s : DrawnState) → Reachable (drawn_game g) s → IsDrawnSound g s
   drawn_sound = reachable_induction (drawn_game g) (IsDrawnSound g) sound_root (λ s t _ here turn. sound_turn s t here turn)
 
-  pub hands_small : (s : DrawnState) → IsDrawnSound g s → IsSmall s.hands
+  pub hands_small : (s : DrawnState) → IsDrawnSound g s → FitsKey s.hands
   hands_small s here = small_score g p here.spent s.hands (omega (arith, here.spent_high, total_high g p)) here.hands
 
   pub place_small : (s : DrawnState) → IsDrawnSound g s → s.place < 13
@@ -201,15 +202,15 @@ module _ (g : Setting) (p : IsPosition g) where
   drawn_prize_is s here some = sym (get_or-take g.count g.prizes s.place 0 (omega (arith, here.place_below, here.hands.few, some)))
 
   -- ---- keys
-  pub drawn_key_is : (s : DrawnState) → IsDrawnSound g s → drawn_key_of (drawn_deal_of s) ≡ (key_of (deal_of s.hands) * 2 ^ 13 + s.undrawn) * 2 ^ 4 + s.place
-  drawn_key_is s here = ap (λ (m : ℕ). (key_of (deal_of s.hands) * 2 ^ 13 + m) * 2 ^ 4 + s.place) (set_packed 0 s.undrawn here.undrawn_small)
+  pub drawn_key_is : (s : DrawnState) → IsDrawnSound g s → drawn_key_of (drawn_deal_of s) ≡ (goofspiel_key (deal_of s.hands) * 2 ^ 13 + s.undrawn) * 2 ^ 4 + s.place
+  drawn_key_is s here = ap (λ (m : ℕ). (goofspiel_key (deal_of s.hands) * 2 ^ 13 + m) * 2 ^ 4 + s.place) (set_packed 0 s.undrawn here.undrawn_small)
 
   split_key : (a b c a' b' c' : ℕ) → b < 2 ^ 13 → b' < 2 ^ 13 → c < 16 → c' < 16 → (a * 2 ^ 13 + b) * 2 ^ 4 + c ≡ (a' * 2 ^ 13 + b') * 2 ^ 4 + c' → (a ≡ a') × (b ≡ b') × (c ≡ c')
   split_key a b c a' b' c' h h' k k' e = (omega (arith, e), omega (arith, e), omega (arith, e))
 
   drawn_keys_apart : (s t : DrawnState) → IsDrawnSound g s → IsDrawnSound g t → drawn_key_of (drawn_deal_of s) ≡ drawn_key_of (drawn_deal_of t) → s ≡ t
   drawn_keys_apart s t here there e =
-      let parts = split_key (key_of (deal_of s.hands)) s.undrawn s.place (key_of (deal_of t.hands)) t.undrawn t.place here.undrawn_small there.undrawn_small
+      let parts = split_key (goofspiel_key (deal_of s.hands)) s.undrawn s.place (goofspiel_key (deal_of t.hands)) t.undrawn t.place here.undrawn_small there.undrawn_small
       (omega (arith, place_small s here)) (omega (arith, place_small t there)) (sym (drawn_key_is s here) ∙ e ∙ drawn_key_is t there) in
       same_drawn_state s t (keys_apart s.hands t.hands (hands_small s here) (hands_small t there) parts.0) parts.1 parts.2
 

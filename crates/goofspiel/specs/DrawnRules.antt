@@ -9,7 +9,7 @@ use Rattle.goofspiel.specs.declared.Pay.{Pay}
 use Rattle.goofspiel.specs.declared.Setting.{Setting}
 use Rattle.goofspiel.specs.Cards.{cards, places, packed_from, rising}
 use Rattle.goofspiel.specs.Position.{prizes_of, IsSettingOf}
-use Rattle.goofspiel.specs.Rules.{Deal, IsDeal, deal_of, state_of, first_state, hand_of, after_bids, pay_of, low_of, high_of, key_of}
+use Rattle.goofspiel.specs.Rules.{Deal, IsDeal, deal_of, state_of, goofspiel_root, hand_of, after_bids, pay_of, low_of, high_of, goofspiel_key}
 
 -- ---- the rules
 -- the hands and the score, the places of the prizes that are not drawn yet, rising, and that of the prize that is bid for
@@ -50,7 +50,7 @@ after_draw prizes d one two draw = record {
 
 -- the key of the hands and the score, the undrawn places in 13 bits and the current place in 4
 abbrev pub drawn_key_of : DrawnDeal → ℕ
-drawn_key_of d = (key_of d.hands * 2 ^ 13 + packed_from 0 d.undrawn) * 2 ^ 4 + d.place
+drawn_key_of d = (goofspiel_key d.hands * 2 ^ 13 + packed_from 0 d.undrawn) * 2 ^ 4 + d.place
 
 -- ---- the game
 -- the deal that a state stands for
@@ -61,12 +61,12 @@ drawn_deal_of s = record { hands = deal_of s.hands; undrawn = places s.undrawn; 
 abbrev pub drawn_state_of : DrawnDeal → DrawnState
 drawn_state_of d = record { hands = state_of d.hands; undrawn = packed_from 0 d.undrawn; place = d.place }
 
-abbrev pub first_drawn_state : Setting → DrawnState
-first_drawn_state g = record { hands = first_state g; undrawn = packed_from 0 (range_with_len 1 (g.count - 1)); place = 0 }
+abbrev pub drawn_root : Setting → DrawnState
+drawn_root g = record { hands = goofspiel_root g; undrawn = packed_from 0 (range_with_len 1 (g.count - 1)); place = 0 }
 
 abbrev pub drawn_game : Setting → GameModel DrawnState
 drawn_game g = record {
-  root = first_drawn_state g;
+  root = drawn_root g;
   moves = λ side s. length (hand_of side (deal_of s.hands));
   draws = λ s one two. draw_count (drawn_deal_of s);
   chance = λ s one two draw. whole_chance / draw_count (drawn_deal_of s);

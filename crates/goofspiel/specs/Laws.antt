@@ -9,7 +9,7 @@ use Rattle.goofspiel.specs.declared.Setting.{Setting}
 use Rattle.goofspiel.specs.declared.State.{State}
 use Rattle.goofspiel.specs.Cards.{cards}
 use Rattle.goofspiel.specs.CardLaws.{few_cards}
-use Rattle.goofspiel.specs.DealLaws.{IsSmall, IsDealt, IsBidFor, pay_low, pay_high, pay_range, key_small, keys_apart, hand_count, total_high, dealt_first, small_score, bid_for}
+use Rattle.goofspiel.specs.DealLaws.{FitsKey, IsDealt, IsBidFor, pay_low, pay_high, pay_range, key_small, keys_apart, hand_count, total_high, dealt_first, small_score, bid_for}
 use Rattle.goofspiel.specs.Position.{prizes_of, IsPosition}
 use Rattle.goofspiel.specs.Rules.{deal_of, next_prize, goofspiel_game}
 
@@ -18,24 +18,24 @@ abbrev pub gone : Setting → State → ℕ
 gone g s = sum (take (g.count - length (cards s.one)) (prizes_of g))
 
 -- what holds of each reachable state
-abbrev pub IsSound : Setting → State → Type 0
-IsSound g s = IsDealt g (gone g s) s
+abbrev pub IsGoofspielSound : Setting → State → Type 0
+IsGoofspielSound g s = IsDealt g (gone g s) s
 
 module _ (g : Setting) (p : IsPosition g) where
   gone_high : (s : State) → gone g s ≤ 1300
   gone_high s = omega (arith, sum_by-take-le (λ prize. prize) (prizes_of g) (g.count - length (cards s.one)), total_high g p)
 
-  sound_root : IsSound g (goofspiel_game g).root
+  sound_root : IsGoofspielSound g (goofspiel_game g).root
   sound_root =
       let none : g.count - length (cards g.one) ≡ 0 = omega (arith, p.one_count) in
       let nothing : gone g (goofspiel_game g).root ≡ 0 = ap (λ (n : ℕ). sum (take n (prizes_of g))) none in
       subst (λ (n : ℕ). IsDealt g n (goofspiel_game g).root) (sym nothing) (dealt_first g p)
 
-  pub bids_for : (s : State) (t : Turn) → IsSound g s → IsTurn (goofspiel_game g) s t → IsBidFor g (gone g s) (next_prize (prizes_of g) (deal_of s)) s t.one t.two
+  pub bids_for : (s : State) (t : Turn) → IsGoofspielSound g s → IsTurn (goofspiel_game g) s t → IsBidFor g (gone g s) (next_prize (prizes_of g) (deal_of s)) s t.one t.two
   bids_for s t here turn = bid_for g p (gone g s) (next_prize (prizes_of g) (deal_of s)) s t.one t.two here turn.one_below turn.two_below
 
   -- one more prize is gone
-  gone_more : (s : State) (t : Turn) → IsSound g s → IsTurn (goofspiel_game g) s t → gone g (after_turn (goofspiel_game g) s t) ≡ gone g s + next_prize (prizes_of g) (deal_of s)
+  gone_more : (s : State) (t : Turn) → IsGoofspielSound g s → IsTurn (goofspiel_game g) s t → gone g (after_turn (goofspiel_game g) s t) ≡ gone g s + next_prize (prizes_of g) (deal_of s)
   gone_more s t here turn =
       let before = g.count - length (cards s.one) in
       let fewer = (bids_for s t here turn).fewer in
@@ -44,17 +44,17 @@ module _ (g : Setting) (p : IsPosition g) where
       ap (λ (n : ℕ). sum (take n (prizes_of g))) more ∙ sum_by_more (λ prize. prize) (prizes_of g) before 0 within
       ∙ ap (λ (n : ℕ). gone g s + get_or (prizes_of g) (n - length (cards s.one)) 0) (sym p.prize_count)
 
-  sound_turn : (s : State) (t : Turn) → IsSound g s → IsTurn (goofspiel_game g) s t → IsSound g (after_turn (goofspiel_game g) s t)
+  sound_turn : (s : State) (t : Turn) → IsGoofspielSound g s → IsTurn (goofspiel_game g) s t → IsGoofspielSound g (after_turn (goofspiel_game g) s t)
   sound_turn s t here turn = subst (λ (n : ℕ). IsDealt g n (after_turn (goofspiel_game g) s t)) (sym (gone_more s t here turn)) (bids_for s t here turn).dealt
 
-  pub sound : (s : State) → Reachable (goofspiel_game g) s → IsSound g s
-  sound = reachable_induction (goofspiel_game g) (IsSound g) sound_root (λ s t _ here turn. sound_turn s t here turn)
+  pub goofspiel_sound : (s : State) → Reachable (goofspiel_game g) s → IsGoofspielSound g s
+  goofspiel_sound = reachable_induction (goofspiel_game g) (IsGoofspielSound g) sound_root (λ s t _ here turn. sound_turn s t here turn)
 
-  pub small : (s : State) → Reachable (goofspiel_game g) s → IsSmall s
-  small s r = small_score g p (gone g s) s (gone_high s) (sound s r)
+  pub small : (s : State) → Reachable (goofspiel_game g) s → FitsKey s
+  small s r = small_score g p (gone g s) s (gone_high s) (goofspiel_sound s r)
 
   -- the prize that is bid for, in the array
-  pub prize_is : (s : State) → IsSound g s → 1 ≤ length (cards s.one) → get_or g.prizes (g.count - length (cards s.one)) 0 ≡ next_prize (prizes_of g) (deal_of s)
+  pub prize_is : (s : State) → IsGoofspielSound g s → 1 ≤ length (cards s.one) → get_or g.prizes (g.count - length (cards s.one)) 0 ≡ next_prize (prizes_of g) (deal_of s)
   prize_is s here some =
       let within : g.count - length (cards s.one) < g.count = omega (arith, here.few) in
       sym (get_or-take g.count g.prizes (g.count - length (cards s.one)) 0 within) ∙ ap (λ (n : ℕ). get_or (prizes_of g) (n - length (cards s.one)) 0) (sym p.prize_count)
@@ -72,13 +72,13 @@ module _ (g : Setting) (p : IsPosition g) where
         low_least = omega (arith, ints, range.low_least);
         low_high = range.low_high;
         high_most = omega (arith, ints, range.high_most);
-        end_moves = λ side s r h. hand_count g (gone g s) side s (sound s r) ∙ h;
-        other_moves = λ side s r h. omega (arith, hand_count g (gone g s) side s (sound s r), h);
-        moves_high = λ side s r. omega (arith, hand_count g (gone g s) side s (sound s r), (sound s r).few, p.one_count);
-        rank_high = λ s r. omega (arith, few_cards s.one (sound s r).one_small);
-        rank_falls = λ s t r turn. let fewer = (bids_for s t (sound s r) turn).fewer in omega (arith, fewer);
-        payoff_low = λ s r h. pay_low g.pay s.score g.score (sum (prizes_of g)) (omega (arith, ints, all_gone s h, (sound s r).score_low));
-        payoff_high = λ s r h. pay_high g.pay s.score g.score (sum (prizes_of g)) (omega (arith, ints, all_gone s h, (sound s r).score_high));
+        end_moves = λ side s r h. hand_count g (gone g s) side s (goofspiel_sound s r) ∙ h;
+        other_moves = λ side s r h. omega (arith, hand_count g (gone g s) side s (goofspiel_sound s r), h);
+        moves_high = λ side s r. omega (arith, hand_count g (gone g s) side s (goofspiel_sound s r), (goofspiel_sound s r).few, p.one_count);
+        rank_high = λ s r. omega (arith, few_cards s.one (goofspiel_sound s r).one_small);
+        rank_falls = λ s t r turn. let fewer = (bids_for s t (goofspiel_sound s r) turn).fewer in omega (arith, fewer);
+        payoff_low = λ s r h. pay_low g.pay s.score g.score (sum (prizes_of g)) (omega (arith, ints, all_gone s h, (goofspiel_sound s r).score_low));
+        payoff_high = λ s r h. pay_high g.pay s.score g.score (sum (prizes_of g)) (omega (arith, ints, all_gone s h, (goofspiel_sound s r).score_high));
         same_key = λ s t r r' e. keys_apart s t (small s r) (small t r') e;
         key_high = λ s r. let key = key_small s (small s r) in omega (arith, key);
         draws_low = λ s a b r h h'. omega arith;

@@ -1,9 +1,9 @@
 -- Which lists of cards and prizes make a position, and the first fault of the others.
-use Rattle.std.specs.Prelude.{◌≡◌, ℕ, ◌-◌, ◌<◌, ◌≤◌, ◌^◌, ℤ, unsigned_abs, Bool, ◌&&◌, ◌||◌, if◌then◌else◌, ◌==◌, nat_lt, List, [], ◌∷◌, ◌++◌, length, take, replicate, position, All, Option, Some, None, option_map}
-use Rattle.std.specs.Option.{option_or}
+use Rattle.std.specs.Prelude.{◌≡◌, ℕ, ◌-◌, ◌<◌, ◌≤◌, ◌^◌, ℤ, unsigned_abs, ◌&&◌, if◌then◌else◌, ◌==◌, nat_lt, List, [], ◌∷◌, ◌++◌, length, take, replicate, position, All, Option, Some, None, option_map}
 use Rattle.std.specs.List.{list_any}
 use Rattle.sim_game.specs.declared.Side.{Side}
 use Rattle.sim_game.specs.declared.Side.TheVariants.{One, Two}
+use Rattle.text.specs.Faults.{is_outside, first_some}
 use Rattle.goofspiel.specs.declared.GoofspielError.{GoofspielError}
 use Rattle.goofspiel.specs.declared.GoofspielError.TheVariants.{CardRange, CardTwice, Lengths, PrizeRange, ScoreRange}
 use Rattle.goofspiel.specs.declared.Pay.{Pay}
@@ -11,10 +11,6 @@ use Rattle.goofspiel.specs.declared.Setting.{Setting}
 use Rattle.goofspiel.specs.Cards.{cards, rising}
 
 -- ---- the rules, each with what is said where it is broken
--- the number is not `low` to `high`
-abbrev pub is_outside : ℕ → ℕ → ℕ → Bool
-is_outside low high number = nat_lt number low || nat_lt high number
-
 -- the first card that is not 1 to 13
 abbrev pub card_range : Side → List ℕ → Option GoofspielError
 card_range side hand = option_map (CardRange side) (position (is_outside 1 13) hand)
@@ -39,11 +35,6 @@ prize_range prizes = option_map PrizeRange (position (is_outside 1 100) prizes)
 -- the score is not -1000 to 1000
 abbrev pub score_range : ℤ → Option GoofspielError
 score_range score = if nat_lt 1000 (unsigned_abs score) then Some ScoreRange else None
-
--- the first that there is
-abbrev pub first_some : {T : Type 0} → List (Option T) → Option T
-first_some [] = None
-first_some (option ∷ options) = option_or option (first_some options)
 
 -- the first rule that is broken
 abbrev pub first_fault : List ℕ → List ℕ → List ℕ → ℤ → Option GoofspielError

@@ -65,8 +65,8 @@ high_of Margin score total = score +ℤ pos total
 high_of Win score total = pos 1
 
 -- One's hand, Two's hand and the score plus 2300, in 13 bits each
-abbrev pub key_of : Deal → ℕ
-key_of d = (packed d.one * 2 ^ 13 + packed d.two) * 2 ^ 13 + unsigned_abs (d.score +ℤ pos 2300)
+abbrev pub goofspiel_key : Deal → ℕ
+goofspiel_key d = (packed d.one * 2 ^ 13 + packed d.two) * 2 ^ 13 + unsigned_abs (d.score +ℤ pos 2300)
 
 -- ---- the game
 -- the deal that a state stands for
@@ -77,19 +77,19 @@ deal_of s = record { one = cards s.one; two = cards s.two; score = s.score }
 abbrev pub state_of : Deal → State
 state_of d = record { one = packed d.one; two = packed d.two; score = d.score }
 
-abbrev pub first_state : Setting → State
-first_state g = record { one = g.one; two = g.two; score = g.score }
+abbrev pub goofspiel_root : Setting → State
+goofspiel_root g = record { one = g.one; two = g.two; score = g.score }
 
 abbrev pub goofspiel_game : Setting → GameModel State
 goofspiel_game g = record {
-  root = first_state g;
+  root = goofspiel_root g;
   moves = λ side s. length (hand_of side (deal_of s));
   draws = λ s one two. 1;
   chance = λ s one two draw. whole_chance;
   drawn = λ s one two draw. state_of (after_bids (next_prize (prizes_of g) (deal_of s)) (deal_of s) one two);
   payoff = λ s. pay_of g.pay s.score;
   rank = λ s. length (deal_of s).one;
-  key = λ s. key_of (deal_of s);
+  key = λ s. goofspiel_key (deal_of s);
   label = λ side s i. slice_index (hand_of side (deal_of s)) i;
   low = low_of g.pay g.score (sum (prizes_of g));
   high = high_of g.pay g.score (sum (prizes_of g));
@@ -105,13 +105,18 @@ pub record KeepsRules (g : Setting) : Type 0 where
   pub is_deal : (s : State) → Reachable (goofspiel_game g) s → IsDeal (deal_of s)
   pub follows : (s : State) (t : Turn) → Reachable (goofspiel_game g) s → IsTurn (goofspiel_game g) s t
       → deal_of (after_turn (goofspiel_game g) s t) ≡ after_bids (next_prize (prizes_of g) (deal_of s)) (deal_of s) t.one t.two
+  -- each pair of moves has one draw, of the whole weight
+  pub draws : (s : State) (one two : ℕ) → (goofspiel_game g).draws s one two ≡ 1
+  pub chance : (s : State) (one two draw : ℕ) → (goofspiel_game g).chance s one two draw ≡ whole_chance
   pub moves : (side : Side) (s : State) → (goofspiel_game g).moves side s ≡ length (hand_of side (deal_of s))
   pub label : (side : Side) (s : State) (i : ℕ) → (goofspiel_game g).label side s i ≡ slice_index (hand_of side (deal_of s)) i
   pub rank : (s : State) → (goofspiel_game g).rank s ≡ length (deal_of s).one
   pub ends : (s : State) → IsEnd (goofspiel_game g) s ↔ ((deal_of s).one ≡ [])
   pub payoff : (s : State) → (goofspiel_game g).payoff s ≡ pay_of g.pay (deal_of s).score
+  pub key : (s : State) → (goofspiel_game g).key s ≡ goofspiel_key (deal_of s)
   pub low : (goofspiel_game g).low ≡ low_of g.pay g.score (sum (prizes_of g))
   pub high : (goofspiel_game g).high ≡ high_of g.pay g.score (sum (prizes_of g))
   pub width : (goofspiel_game g).width ≡ max 1 (length (cards g.one))
+  pub chance_free : (goofspiel_game g).chance_free ≡ true
   pub same_deal : (s t : State) → Reachable (goofspiel_game g) s → Reachable (goofspiel_game g) t
       → (goofspiel_game g).key s ≡ (goofspiel_game g).key t → deal_of s ≡ deal_of t

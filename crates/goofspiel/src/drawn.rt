@@ -7,7 +7,7 @@ ghost use Rattle.goofspiel.specs.DrawnRules.{drawn_game, KeepsDrawnRules};
 ghost use Rattle.goofspiel.specs.Position.{first_fault, prizes_of, IsPosition, IsSettingOf};
 ghost use Rattle.goofspiel.specs.Rules.{high_of, low_of};
 
-use crate::hands::{hands_key, played};
+use crate::hands::{hands_key, play};
 use crate::sets::{number_at, size, take_out};
 use crate::{Goofspiel, GoofspielError, Pay, Setting, State};
 use sim_game::{CHANCE, Game, Side};
@@ -149,7 +149,7 @@ impl Game for GoofspielDrawn {
 
     #[inline]
     fn drawn(&self, s: DrawnState, a: u32, b: u32, d: u32) -> DrawnState {
-        let hands = played(s.hands, a, b, self.setting.prizes[s.place as usize]);
+        let hands = play(s.hands, a, b, self.setting.prizes[s.place as usize]);
         if s.undrawn == 0 {
             return DrawnState {
                 hands,

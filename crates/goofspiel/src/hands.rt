@@ -1,8 +1,8 @@
 //! The hands of both sides and the score, as both games have them.
 ghost use Rattle.std.specs.Prelude.{◌≡◌, ◌<◌, ◌≤◌, ◌^◌, length, unsigned_abs};
 ghost use Rattle.goofspiel.specs.Cards.{cards};
-ghost use Rattle.goofspiel.specs.Rules.{after_bids, deal_of, key_of, state_of, won};
-ghost use Rattle.goofspiel.specs.DealLaws.{IsSmall};
+ghost use Rattle.goofspiel.specs.Rules.{after_bids, deal_of, goofspiel_key, state_of, won};
+ghost use Rattle.goofspiel.specs.DealLaws.{FitsKey};
 
 use crate::State;
 use crate::sets::take_out;
@@ -25,8 +25,8 @@ fn change(one: u8, two: u8, prize: u8) -> i32
 
 /// The hands and the score after both bids for a prize.
 #[inline]
-pub(crate) fn played(s: State, a: u32, b: u32, prize: u8) -> State
-    requires small { IsSmall s }
+pub(crate) fn play(s: State, a: u32, b: u32, prize: u8) -> State
+    requires small { FitsKey s }
     requires one { a < length (cards s.one) }
     requires two { b < length (cards s.two) }
     ensures { result ≡ state_of (after_bids prize (deal_of s) a b) }
@@ -43,8 +43,8 @@ pub(crate) fn played(s: State, a: u32, b: u32, prize: u8) -> State
 /// The key of the hands and the score.
 #[inline]
 pub(crate) fn hands_key(s: State) -> Key
-    requires { IsSmall s }
-    ensures is { result.0 ≡ key_of (deal_of s) }
+    requires { FitsKey s }
+    ensures is { result.0 ≡ goofspiel_key (deal_of s) }
     ensures small { result.0 < 2 ^ 39 }
 {
     let hands = put(put(Key(0), s.one as u64, 13), s.two as u64, 13);

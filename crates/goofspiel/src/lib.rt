@@ -13,7 +13,7 @@ mod refusals;
 mod sets;
 
 pub use drawn::{DrawnState, GoofspielDrawn, drawn_position_has_one_game, keeps_drawn_rules};
-use hands::{hands_key, played};
+use hands::{hands_key, play};
 pub use position::position_has_one_game;
 use position::{
     check_cards, check_lengths, check_prizes, check_score, hand_of, prize_array, prize_sum,
@@ -169,7 +169,7 @@ impl Game for Goofspiel {
     #[inline]
     fn next(&self, s: State, a: u32, b: u32) -> State {
         let gone = self.setting.count as u32 - self.rank(s);
-        played(s, a, b, self.setting.prizes[gone as usize])
+        play(s, a, b, self.setting.prizes[gone as usize])
     }
 
     #[inline]

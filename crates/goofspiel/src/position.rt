@@ -1,7 +1,8 @@
 //! The rules that the lists of a position keep, tried one by one.
 ghost use Rattle.std.specs.Prelude.{◌≡◌, ℕ, ℤ, List, ◌<◌, ◌≤◌, ◌^◌, ◌-◌, ◌++◌, IfSome, length, replicate, sum, unsigned_abs, MatchResult, position};
 ghost use Rattle.state_key.specs.Sets.{is_in, with_number};
-ghost use Rattle.goofspiel.specs.Position.{is_outside, card_range, card_twice, lengths, prize_range, score_range, IsHandOf, IsSettingOf};
+ghost use Rattle.text.specs.Faults.{is_outside};
+ghost use Rattle.goofspiel.specs.Position.{card_range, card_twice, lengths, prize_range, score_range, IsHandOf, IsSettingOf};
 ghost use Rattle.goofspiel.specs.declared.Pay.{Pay};
 ghost use Rattle.goofspiel.specs.declared.Setting.{Setting};
 

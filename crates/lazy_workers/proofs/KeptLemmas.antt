@@ -1,5 +1,5 @@
 -- What the rows of the closed board show.
-use Rattle.std.proofs.Common.{◌≡◌, ◌≢◌, ⊎_elim, inl, inr, ℕ, suc, ◌+◌, ◌*◌, ◌<◌, ◌≤◌, ℤ, pos, ◌-ℤ◌, ◌*ℤ◌, ◌≤ℤ◌, Bool, cond, Some, List, [], ◌∷◌, length, get_or, slice_index, Contains, refl, sym, ap, subst, ◌∙◌, arith}
+use Rattle.std.proofs.Common.{◌≡◌, ◌≢◌, ⊎_elim, inl, inr, ℕ, suc, ◌+◌, ◌*◌, ◌<◌, ◌≤◌, ℤ, pos, ◌-ℤ◌, ◌*ℤ◌, ◌≤ℤ◌, Bool, true, cond, Some, List, [], ◌∷◌, length, get_or, slice_index, All, Contains, refl, sym, ap, subst, ◌∙◌, arith}
 use Rattle.std.specs.List.{AllByRecursion}
 use Rattle.std.proofs.lemmas.Int.{ints}
 use Rattle.std.proofs.lemmas.List.Elements.{All-weaker, All-contains, All-from_recursion, recursion_from_All, at_from_Contains}
@@ -11,22 +11,22 @@ use Rattle.sim_game.specs.Sides.{IsNoTighter}
 use Rattle.sim_game.specs.Resolution.{IsResolution}
 use Rattle.plan_book.specs.declared.Entry.{Entry}
 use Rattle.plan_book.specs.Books.{IsClosed, IsBooked, best_posted, book_bound}
-use Rattle.plan_book.specs.Serial.{serial_bound}
 use Rattle.plan_book.proofs.BookLemmas.{best_backed, best_range}
 use Rattle.plan_book.proofs.ExpectedLemmas.{is_other}
 use Rattle.bounds_board.specs.Views.{IsEnclosure}
+use Rattle.serial_ab.specs.Searches.{IsPureEntry}
 use Rattle.matrix_game.specs.Budget.{Budget}
 use Rattle.shared_board.specs.Rule.{Has}
 use Rattle.shared_board.specs.Passes.{seen_by}
-use Rattle.shared_board.specs.Closing.{IsKept, IsKeptRow, IsDistinct, HasKey, kept_bound}
+use Rattle.shared_board.specs.Closing.{AreKeptRows, IsKeptRow, IsDistinct, HasKey, kept_bound}
 use Rattle.shared_board.specs.declared.view.View.{View}
 use Rattle.shared_board.specs.declared.close.Kept.{Kept}
 use Rattle.oracle_search.specs.Finished.{AreApart, rank_gap}
 use Rattle.certificate.specs.declared.report.Ask.{Ask}
 use Rattle.lazy_workers.specs.Keeping.{IsKeptState, IsFinishedRow, AreOwed, AreRows}
-use Rattle.lazy_workers.specs.Searched.{HasKeysIn, IsFar, IsSearched}
-use Rattle.lazy_workers.specs.Workers.{rows_of, KnowsEach, IsFinishedKey, AreOwedTo, IsSpent, AreJoined}
-use Rattle.lazy_workers.proofs.JoinLemmas.{joined_later}
+use Rattle.lazy_workers.specs.Searched.{HasKeysIn, IsOwed, IsRooted, IsSearched}
+use Rattle.lazy_workers.specs.Workers.{rows_of, KnowsEach, IsFinishedKey, AreOwedTo, IsDueTo, HasView}
+use Rattle.lazy_workers.proofs.JoinLemmas.{found_later}
 
 nothing_kept : Kept
 nothing_kept = record { key = 0; lower = pos 0; upper = pos 0 }
@@ -50,7 +50,8 @@ apart_by_recursion (k ∷ ks) apart = (
   apart_by_recursion ks (λ i j l h. apart (suc i) (suc j) (omega arith) (omega arith)),
 )
 
-module _ {S G : Type 0} (m : GameModel S) (game : IsGame m) (ask : Ask) (v : View G) (entries : List Entry) (kept : List Kept) (is : IsKept m ask.rows v entries kept) (closed : IsClosed m ask.weight entries) where
+module _ {S G : Type 0} (m : GameModel S) (game : IsGame m) (ask : Ask) (v : View G) (entries : List Entry) (kept : List Kept)
+    (is : AreKeptRows m ask.rows v entries kept) (closed : IsClosed m ask.weight entries) where
   -- each entry's key has a row
   pub kept_keys : HasKeysIn ask.rows entries
   kept_keys = record {
@@ -78,7 +79,11 @@ module _ {S G : Type 0} (m : GameModel S) (game : IsGame m) (ask : Ask) (v : Vie
         upper_low = best_range m ask.weight (IsBooked m entries) entries Two One (m.key s) game closed;
         upper_high = best_range m ask.weight (IsBooked m entries) entries Two Two (m.key s) game closed;
       } in
-      record { named = row.named; bounds = subst (λ (z : ℤ). IsEnclosure m z x.upper s) (sym (at One)) (subst (λ (z : ℤ). IsEnclosure m (best_posted m entries One (m.key s)) z s) (sym (at Two)) best) }
+      record {
+        named = row.named;
+        bounds =
+            subst (λ (z : ℤ). IsEnclosure m z x.upper s) (sym (at One)) (subst (λ (z : ℤ). IsEnclosure m (best_posted m entries One (m.key s)) z s) (sym (at Two)) best);
+      }
 
   rows_kept : 1 ≤ m.rank m.root → AreRows m ask.rows kept
   rows_kept goes_on = record { none = λ end. absurd (omega arith); few = is.few; distinct = is.distinct; each = All-weaker (IsKeptRow m entries) (IsKeptState m) kept_state kept is.each }
@@ -96,7 +101,8 @@ module _ {S G : Type 0} (m : GameModel S) (game : IsGame m) (ask : Ask) (v : Vie
     rows_count [] each = refl
     rows_count (key ∷ keys) each = ap suc (rows_count keys each.1)
 
-    rows_all : (P : Kept → Type 0) → ((key : ℕ) (f : IsFinishedKey m ask (seen_by m v) (rows_of v) key) → P (row_of key f).row) → (keys : List ℕ) (each : AllByRecursion (IsFinishedKey m ask (seen_by m v) (rows_of v)) keys) → AllByRecursion P (rows keys each)
+    rows_all : (P : Kept → Type 0) → ((key : ℕ) (f : IsFinishedKey m ask (seen_by m v) (rows_of v) key) → P (row_of key f).row)
+        → (keys : List ℕ) (each : AllByRecursion (IsFinishedKey m ask (seen_by m v) (rows_of v)) keys) → AllByRecursion P (rows keys each)
     rows_all P here [] each = tt
     rows_all P here (key ∷ keys) each = (here key each.0, rows_all P here keys each.1)
 
@@ -114,7 +120,7 @@ module _ {S G : Type 0} (m : GameModel S) (game : IsGame m) (ask : Ask) (v : Vie
       rows_distinct keys each.1 apart.1,
     )
 
-    finished_row : (key : ℕ) (f : IsFinishedKey m ask (seen_by m v) (rows_of v) key) → IsFinishedRow m (pos n) (row_of key f).row
+    finished_row : (key : ℕ) (f : IsFinishedKey m ask (seen_by m v) (rows_of v) key) → IsFinishedRow m ask (pos n) (row_of key f).row
     finished_row key f =
         let here = row_of key f in
         let row : IsKeptRow m entries here.row = All-contains (IsKeptRow m entries) kept here.row is.each here.is_kept in
@@ -122,56 +128,56 @@ module _ {S G : Type 0} (m : GameModel S) (game : IsGame m) (ask : Ask) (v : Vie
         subst (IsNoTighter side (seen_by m v side key)) (sym (row.best side ∙ ap (best_posted m entries side) here.is_key)) (is.no_looser side key) in
         let low : seen_by m v One key ≤ℤ here.row.lower = best One in
         let high : here.row.upper ≤ℤ seen_by m v Two key = best Two in
-        let near = f.close resolution.gap resolution.is_gap in
-        let apart : (here.row.upper -ℤ here.row.lower) ≤ℤ pos (rank_gap m resolution.gap (m.rank f.named.state)) = omega (arith, ints) in
         record {
           named = record { state = f.named.state; reachable = f.named.reachable; goes_on = f.named.goes_on; is_key = f.named.is_key ∙ sym here.is_key };
-          close = share (m.rank m.root) (m.rank f.named.state) (resolution.gap + 1 + cond m.chance_free 0 1) n (here.row.upper -ℤ here.row.lower) resolution.sums apart;
+          close = λ regret.
+              let near = f.close regret resolution.gap resolution.is_gap in
+              let apart : (here.row.upper -ℤ here.row.lower) ≤ℤ pos (rank_gap m resolution.gap (m.rank f.named.state)) = omega (arith, ints) in
+              share (m.rank m.root) (m.rank f.named.state) (resolution.gap + 1 + cond m.chance_free 0 1) n (here.row.upper -ℤ here.row.lower) resolution.sums apart;
         } where
           share : (root rank each n : ℕ) (gap : ℤ) → n ≡ root * each → gap ≤ℤ pos (rank * each) → (pos root *ℤ gap) ≤ℤ (pos rank *ℤ pos n)
           share root rank each n gap is near =
               let times : root * (rank * each) ≡ rank * n = rw is (omega arith) in
               subst (λ (k : ℕ). (pos root *ℤ gap) ≤ℤ pos k) times (times_mono root gap (pos (rank * each)) near)
 
-    owed_rows : AreOwed m ask.turns (pos n) kept
+    owed_rows : AreOwed m ask (pos n) kept
     owed_rows =
         let each = recursion_from_All (IsFinishedKey m ask (seen_by m v) (rows_of v)) owed.keys owed.each in
         let list = rows owed.keys each in record {
           finished = list;
           among = All-from_recursion (Contains kept) list (rows_all (Contains kept) (λ key f. (row_of key f).is_kept) owed.keys each);
           distinct = rows_distinct owed.keys each (apart_by_recursion owed.keys owed.apart);
-          each = All-from_recursion (IsFinishedRow m (pos n)) list (rows_all (IsFinishedRow m (pos n)) finished_row owed.keys each);
+          each = All-from_recursion (IsFinishedRow m ask (pos n)) list (rows_all (IsFinishedRow m ask (pos n)) finished_row owed.keys each);
           few = omega (arith, owed.few, rows_count owed.keys each);
         }
 
   -- a board on which a row is left is none of which each row's key is known
-  rows_left : IsSpent m ask (seen_by m v) (rows_of v) → (n : ℕ) → IsResolution m ask.weight n → length kept < ask.rows → AreOwed m ask.turns (pos n) kept
-  rows_left spent n resolution left = ⊎_elim
+  rows_left : IsDueTo m ask (seen_by m v) (rows_of v) → IsOwed m ask kept
+  rows_left due n resolution left = ⊎_elim
       (λ (each : KnowsEach ask.rows (rows_of v)). let all = is.full each in absurd (omega arith))
       (λ (owed : AreOwedTo m ask (seen_by m v) (rows_of v)). owed_rows owed n resolution)
-      spent.1
+      due
 
-  pub joined_searched : (turns : List Budget) (was_full : Bool) → AreJoined m ask (seen_by m v) (rows_of v) turns was_full → length turns ≡ ask.workers → 1 ≤ ask.workers → 1 ≤ m.rank m.root → IsSearched m ask entries kept turns was_full
-  joined_searched turns was_full j count some goes_on =
-      let some_turns : 1 ≤ length turns = omega arith in
-      let on = is_other (m.rank m.root) 0 (λ e. absurd (omega arith)) in
-      let at : (side : Side) → book_bound m entries side m.root ≡ best_posted m entries side (m.key m.root) = λ side. rw on refl in
-      let k = joined_later m ask (seen_by m v) (best_posted m entries) (rows_of v) (rows_of v) is.no_looser (λ row key h. h) turns was_full j in
-      let low = is.no_looser One (m.key m.root) in let high = is.no_looser Two (m.key m.root) in
-      record {
-        closed = closed;
-        held = kept_keys;
-        rows = rows_kept goes_on;
-        entered = is.entered;
-        best = is.each;
-        workers = count;
-        within = k.within;
-        full = λ e. (is.full (j.full e).0, (j.full e).1);
-        all_spent = λ e far.
-            let near : IsFar m ask (best_posted m entries Two (m.key m.root) -ℤ best_posted m entries One (m.key m.root)) = rw (at Two, at One) at far in
-            let wide : IsFar m ask (seen_by m v Two (m.key m.root) -ℤ seen_by m v One (m.key m.root)) = record { asked = let asked = near.asked in omega (arith, ints); resolution = λ n is. let over = near.resolution n is in omega (arith, ints) } in
-            let all = j.all_spent e wide in let spent = all.1 some_turns in
-            (all.0, spent.0, rows_left spent);
-        pure = λ has many side. subst (IsNoTighter side (serial_bound m side m.root)) (sym (at side)) (k.pure has many some_turns side);
-        at_once = k.at_once;
-      }
+  -- of a root that is no end, the bound of the book is that of its key
+  module _ (goes_on : 1 ≤ m.rank m.root) where
+    root_posted : (side : Side) → book_bound m entries side m.root ≡ best_posted m entries side (m.key m.root)
+    root_posted side = let on = is_other (m.rank m.root) 0 (λ e. absurd (omega arith)) in rw on refl
+
+    -- it is no looser than what the pass has seen
+    pub root_tighter : (side : Side) → IsNoTighter side (seen_by m v side (m.key m.root)) (book_bound m entries side m.root)
+    root_tighter side = subst (IsNoTighter side (seen_by m v side (m.key m.root))) (sym (root_posted side)) (is.no_looser side (m.key m.root))
+
+    pub joined_searched : (turns : List Budget) (was_full : Bool) → HasView m ask v (was_full ≡ true) turns → length turns ≡ ask.workers
+        → (All (λ t. t.spent ≡ 0) turns → All (IsPureEntry m ask.weight) entries) → IsSearched m ask entries kept turns was_full
+    joined_searched turns was_full j count alone = record {
+      closed = closed;
+      held = kept_keys;
+      rows = rows_kept goes_on;
+      entered = is.entered;
+      best = is.each;
+      workers = count;
+      found = found_later m ask (λ side. seen_by m v side (m.key m.root)) (λ side. book_bound m entries side m.root) (KnowsEach ask.rows (rows_of v))
+          (length kept ≡ ask.rows) (IsDueTo m ask (seen_by m v) (rows_of v)) (IsOwed m ask kept)
+          ((row : ℕ) × rows_of v row (m.key m.root)) (IsRooted m kept) (was_full ≡ true) turns root_tighter is.full rows_left (λ it _. is.known it.0 (m.key m.root) it.1) j;
+      alone = alone;
+    }

@@ -48,9 +48,14 @@ module _ (most : ℕ) (key_at : ℕ → Option ℕ) where
     first true is rest h = subst (λ (p : ℕ). p < most) (sym (eqb-true place kept.0.0 is)) kept.0.1
     first false is rest h = rest h
 
-  others : (key place : ℕ) → key_at place ≡ Some key → (keys : List ℕ) (kept : AllByRecursion IsKept keys) → AllByRecursion (λ k. eqb key k ≡ false) keys → AllByRecursion (λ p. eqb place p ≡ false) (places keys kept)
+  others : (key place : ℕ) → key_at place ≡ Some key → (keys : List ℕ) (kept : AllByRecursion IsKept keys) → AllByRecursion (λ k. eqb key k ≡ false) keys
+      → AllByRecursion (λ p. eqb place p ≡ false) (places keys kept)
   others key place is [] kept apart = tt
-  others key place is (k ∷ keys) kept apart = (is_other place kept.0.0 (λ e. let found : key_at place ≡ Some k = ap key_at e ∙ kept.0.2 in let both : key ≡ k = cc in eqb-false key k apart.0 both), others key place is keys kept.1 apart.1)
+  others key place is (k ∷ keys) kept apart = (
+    is_other place kept.0.0
+        (λ e. let found : key_at place ≡ Some k = ap key_at e ∙ kept.0.2 in let both : key ≡ k = cc in eqb-false key k apart.0 both),
+    others key place is keys kept.1 apart.1,
+  )
 
   places_apart : (keys : List ℕ) (kept : AllByRecursion IsKept keys) → IsDistinct eqb keys → IsDistinct eqb (places keys kept)
   unfolding IsDistinct
@@ -65,7 +70,8 @@ module _ (most : ℕ) (key_at : ℕ → Option ℕ) where
       subst (λ (n : ℕ). n ≤ most) (places_count keys kept)
       (length-le_from_distinct_below (places keys kept) most (places_apart keys kept apart) (places_below keys kept))
 
-module _ {S : Type 0} (m : GameModel S) (game : IsGame m) (total : ℕ) (entries : List Entry) (closed : IsClosed m total entries) (sheet : Sheet) (best : IsBestSheet m sheet.side entries sheet.rows) where
+module _ {S : Type 0} (m : GameModel S) (game : IsGame m) (total : ℕ) (entries : List Entry) (closed : IsClosed m total entries) (sheet : Sheet)
+    (best : IsBestSheet m sheet.side entries sheet.rows) where
   -- the bound at the root is the book's
   pub root_is : root_bound m sheet ≡ book_bound m entries sheet.side m.root
   root_is = ap (bound_or m sheet.side m.root) (best.kept m.root (reached_root m sheet.side _)) ∙ sym (book_row m game total (IsBooked m entries) entries closed sheet.side m.root (reachable_root m))
@@ -73,7 +79,8 @@ module _ {S : Type 0} (m : GameModel S) (game : IsGame m) (total : ℕ) (entries
   -- there are no more rows than the board has
   pub rows_few : (rows : ℕ) → HasKeysIn rows entries → length sheet.rows ≤ rows
   rows_few rows held = subst (λ (n : ℕ). n ≤ rows) (length-map sheet.rows (λ (r : SheetRow). r.key))
-      (kept_few rows held.key_at (map (λ r. r.key) sheet.rows) (All-map (IsKept rows held.key_at) (λ r. r.key) sheet.rows (All-weaker _ (λ r. IsKept rows held.key_at r.key) kept sheet.rows best.only)) best.rising) where
+      (kept_few rows held.key_at (map (λ r. r.key) sheet.rows)
+      (All-map (IsKept rows held.key_at) (λ r. r.key) sheet.rows (All-weaker _ (λ r. IsKept rows held.key_at r.key) kept sheet.rows best.only)) best.rising) where
         kept : (r : SheetRow) → (s : S) × IsReached m sheet.side (best_row sheet.side entries) s × (m.key s ≡ r.key) × (best_row sheet.side entries r.key ≡ Some r) → IsKept rows held.key_at r.key
         kept r only =
             let behind = row_entry (λ e. IsKept rows held.key_at e.key) sheet.side entries r.key r held.held only.3 in

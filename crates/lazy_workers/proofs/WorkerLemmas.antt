@@ -1,8 +1,8 @@
 -- What the search of one worker shows of the game.
-use Rattle.std.proofs.Common.{◌≡◌, ◌⊎◌, ⊎_elim, inl, inr, ℕ, ◌+◌, ◌*◌, ◌<◌, ◌≤◌, pos, ◌-ℤ◌, ◌≤ℤ◌, Bool, true, false, None, Some, List, [], length, get_or, slice_index, All, refl, sym, ap, subst, ◌∙◌, arith}
+use Rattle.std.proofs.Common.{◌≡◌, ◌⊎◌, ⊎_elim, inl, inr, ℕ, ◌+◌, ◌*◌, ◌<◌, ◌≤◌, pos, ◌-ℤ◌, ◌≤ℤ◌, Bool, true, false, None, Some, List, [], ◌∷◌, ◌++◌, length, get_or, slice_index, All, refl, sym, ap, subst, ◌∙◌, arith}
 use Rattle.std.proofs.lemmas.Int.{ints}
 use Rattle.std.proofs.lemmas.Bool.{cases_lt}
-use Rattle.std.proofs.lemmas.List.Elements.{All-get_or, All-nil, All-weaker}
+use Rattle.std.proofs.lemmas.List.Elements.{All-cons, All-get_or, All-nil, All-weaker}
 use Rattle.sim_game.specs.declared.Side.{Side}
 use Rattle.sim_game.specs.declared.Side.TheVariants.{One, Two}
 use Rattle.sim_game.specs.Model.{GameModel, IsGame, IsEnd, Reachable, HasAtMost}
@@ -10,41 +10,71 @@ use Rattle.sim_game.specs.Resolution.{IsStageGap, payoff_range}
 use Rattle.sim_game.specs.Sides.{end_bound}
 use Rattle.sim_game.proofs.SideLemmas.{looser_refl}
 use Rattle.sim_game.proofs.ResolutionLemmas.{least_exists}
+use Rattle.plan_book.specs.declared.Entry.{Entry}
 use Rattle.plan_book.specs.Books.{book_bound}
+use Rattle.serial_ab.specs.Searches.{IsPureEntry}
 use Rattle.plan_book.specs.Serial.{tree_size}
 use Rattle.plan_book.proofs.ExpectedLemmas.{is_same}
 use Rattle.serial_ab.proofs.ValueLemmas.{serial_end}
 use Rattle.matrix_game.specs.Budget.{Budget, left_of}
-use Rattle.bounds_board.specs.Views.{BoardView}
+use Rattle.matrix_game.specs.declared.solver.SolverKind.{SolverKind}
+use Rattle.matrix_game.specs.Solvers.{solver_of}
+use Rattle.bounds_board.specs.Views.{BoardView, IsInnerKey}
 use Rattle.bounds_board.proofs.FullLemmas.{rows_too_few}
 use Rattle.serial_ab.specs.Counts.{VisitsView, left_on}
 use Rattle.oracle_search.specs.declared.ends.SearchEnd.{SearchEnd}
 use Rattle.oracle_search.specs.declared.ends.SearchEnd.TheVariants.{Reached, Settled, Spent, Full}
-use Rattle.oracle_search.specs.Finished.{FinishedView, IsFinished, AreFinished, IsWithin, rank_gap}
-use Rattle.oracle_search.specs.Searches.{IsWorked, IsBoardFull, Ends, TakesTurns, HasTaken, IsPureTight, HasVisits as Whole}
-use Rattle.oracle_search.specs.Workers.{WorkView}
+use Rattle.oracle_search.specs.Finished.{FinishedView, IsFinished, AreApart, IsWithin, rank_gap}
+use Rattle.oracle_search.specs.Passes.{IsPassedKey, TakesPasses}
+use Rattle.oracle_search.specs.declared.worker.MemoryLimits.{MemoryLimits}
+use Rattle.oracle_search.specs.Searches.{IsWorked, IsBoardFull, Ends, TakesTurns, HasTaken, IsPureTight, HasVisitsBelow as Whole}
+use Rattle.oracle_search.specs.Workers.{WorkView, is_linear}
 use Rattle.certificate.specs.declared.report.Ask.{Ask}
-use Rattle.lazy_workers.specs.Workers.{Rows, KnowsEach, IsFinishedKey, AreOwedTo, IsSpent, HasFound}
+use Rattle.certificate.specs.declared.report.StageMethod.{StageMethod}
+use Rattle.certificate.specs.declared.report.StageMethod.TheVariants.{Regret}
+use Rattle.certificate.specs.declared.report.StageMethod.TheVariants as methods
+use Rattle.lazy_workers.specs.Solvers.{solver_kind}
+use Rattle.lazy_workers.specs.Workers.{Rows, KnowsEach, IsFinishedKey, AreOwedTo, IsDueTo, HaveFound}
 use Rattle.lazy_workers.specs.Keeping.{HasLimit}
-use Rattle.lazy_workers.specs.Searched.{root_gap, IsFar, HasRoom, HasVisits, IsPureClose, TooFewTurns, IsSearched}
+use Rattle.lazy_workers.specs.Searched.{IsFar, HasRoom, HasVisits, IsPureClose, TooFewTurns, IsSearched}
+
+-- the turns of a search that ended so: 63 to a state with regret matching, a turn of each of three passes with linear stages
+abbrev pub AreTaken : {S G N : Type 0} → GameModel S → Ask → SearchEnd → WorkView G N → WorkView G N → Type 0
+AreTaken m ask end start last = HasTaken m m.root end start last
+    ⊎ ((ask.stages ≡ Regret → ⊥) × (last.settled.was_full ≡ false → TakesPasses m 3 last.board (m.rank m.root) start.turns.spent last.turns.spent))
+
+-- whether the solver of a method makes passes
+abbrev IsOfKind : StageMethod → SolverKind → Type 0
+IsOfKind stages kind = (is_linear (solver_of kind) ≡ false) ⊎ ((stages ≡ Regret → ⊥) × (is_linear (solver_of kind) ≡ true))
+
+of_kind : (stages : StageMethod) (kept : ℕ) → IsOfKind stages (solver_kind stages kept)
+of_kind methods.Regret kept = inl refl
+of_kind methods.Linear kept = inr (λ e. absurd (cc), refl)
+
+pub of_limits : (workers : ℕ) (stages : StageMethod) (limits : MemoryLimits) → (workers ≤ 4 → limits ≡ record { searches = 262144; stages = solver_kind stages 65536 })
+    → (4 < workers → limits ≡ record { searches = 65536; stages = solver_kind stages 16384 }) → IsOfKind stages limits.stages
+of_limits workers stages limits few many = ⊎_elim
+    (λ (l : 4 < workers). subst (λ (x : MemoryLimits). IsOfKind stages x.stages) (sym (many l)) (of_kind stages 16384))
+    (λ (g : workers ≤ 4). subst (λ (x : MemoryLimits). IsOfKind stages x.stages) (sym (few g)) (of_kind stages 65536))
+    (cases_lt 4 workers)
 
 module _ {S : Type 0} (m : GameModel S) (game : IsGame m) where
   -- distinct keys of reachable states are no more than there are states
-  module _ {G N : Type 0} (total : ℕ) (v : BoardView G N) (keys : List ℕ) (finished : AreFinished m total v keys) where
+  module _ (keys : List ℕ) (apart : AreApart keys) (each : All (IsInnerKey m) keys) where
     known : (i : ℕ) → (s : S) × (i < length keys → Reachable m s × (m.key s ≡ slice_index keys i))
     known i = ⊎_elim
-        (λ (l : i < length keys). let f : IsFinished m total v 32 (get_or keys i 0) = All-get_or (IsFinished m total v 32) keys i 0 l finished.each in (f.state, λ _. (f.reachable, f.is_key)))
+        (λ (l : i < length keys). let f : IsInnerKey m (get_or keys i 0) = All-get_or (IsInnerKey m) keys i 0 l each in (f.state, λ _. (f.reachable, f.is_key)))
         (λ (g : length keys ≤ i). (m.root, λ l. absurd (omega arith)))
         (cases_lt i (length keys))
 
-    pub keys_few : (most : ℕ) → HasAtMost m most → length keys ≤ most
+    keys_few : (most : ℕ) → HasAtMost m most → length keys ≤ most
     keys_few most has = has.few (length keys) (λ i. (known i).0) (λ i l. ((known i).1 l).0)
-        (λ i j l h e. finished.apart i j l h (sym ((known i).1 (omega arith)).1 ∙ ap m.key e ∙ ((known j).1 h).1))
+        (λ i j l h e. apart i j l h (sym ((known i).1 (omega arith)).1 ∙ ap m.key e ∙ ((known j).1 h).1))
 
   module _ {G N : Type 0} (ask : Ask) (start last : WorkView G N) (end : SearchEnd)
       (rows : last.board.rows ≡ ask.rows) (total : last.board.total ≡ ask.weight) (weight : 1 ≤ ask.weight) (goes_on : 1 ≤ m.rank m.root)
       (none : start.settled ≡ record { keys = []; was_full = false }) (turns : start.turns ≡ record { limit = ask.turns; spent = 0 })
-      (worked : IsWorked m m.root start last) (ends : Ends m m.root ask.gap last end) (takes : HasTaken m m.root end start last) where
+      (worked : IsWorked m m.root start last) (ends : Ends m m.root ask.gap last end) (takes : AreTaken m ask end start last) where
     abbrev has_row : Rows
     has_row row key = last.board.key_at row ≡ Some key
 
@@ -64,12 +94,24 @@ module _ {S : Type 0} (m : GameModel S) (game : IsGame m) where
       by true e = absurd ((full_board e).1 has)
       by false e = e
 
+    -- where no turn was spent, what was posted over no entries is pure
+    pub pure_alone : start.board.entries ≡ [] → last.turns.spent ≡ 0 → All (IsPureEntry m ask.weight) last.board.entries
+    pure_alone none unspent =
+        let limit : last.turns.limit ≡ start.turns.limit = worked.turns.limit in
+        let spent : last.turns.spent ≡ start.turns.spent = unspent ∙ sym (ap (λ (t : Budget). t.spent) turns) in
+        let same : last.turns ≡ start.turns = λ i. record { limit = limit i; spent = spent i } in
+        let grows = worked.pure_alone same in
+        let joins : last.board.entries ≡ grows.more = grows.joins ∙ ap (λ (l : List Entry). l ++ grows.more) none in
+        let weight_is : start.board.total ≡ ask.weight = sym worked.board.later.total ∙ total in
+        subst (All (IsPureEntry m ask.weight)) (sym joins) (subst (λ (w : ℕ). All (IsPureEntry m w) grows.more) weight_is grows.each)
+
     within : last.turns.spent ≤ last.turns.limit
     within = worked.turns.within (rw turns (omega arith))
 
     -- bounds further apart than was asked and than the resolution, and no full board
     module _ (far : IsFar m ask (last.board.seen Two (m.key m.root) -ℤ last.board.seen One (m.key m.root))) where
-      spent_by : (e : SearchEnd) → (e ≡ Full → ⊥) → Ends m m.root ask.gap last e → HasTaken m m.root e start last → (last.turns.spent ≡ ask.turns) × IsSpent m ask last.board.seen has_row
+      spent_by : (e : SearchEnd) → (e ≡ Full → ⊥) → Ends m m.root ask.gap last e → AreTaken m ask e start last
+          → (last.turns.spent ≡ ask.turns) × TooFewTurns m ask × IsDueTo m ask last.board.seen has_row
       spent_by Reached not ends takes =
           let asked = far.asked in let near : IsWithin last.board (m.key m.root) ask.gap = ends goes_on in absurd (omega (arith, ints))
       spent_by Settled not ends takes =
@@ -81,19 +123,13 @@ module _ {S : Type 0} (m : GameModel S) (game : IsGame m) where
           let inside = within in
           let none_left = ends.2 in
           let all : last.turns.spent ≡ ask.turns = omega arith in
-          (all, (too_few all takes, by all takes last.settled.was_full refl)) where
+          (all, too_few all takes, by all takes last.settled.was_full refl) where
             taken : last.turns.spent ≡ ask.turns → HasTaken m m.root Spent start last → last.settled.was_full ≡ false → ask.turns ≤ 63 * (length last.settled.keys + m.rank m.root)
             taken all takes quiet =
                 let none_spent : start.turns.spent ≡ 0 = ap (λ (t : Budget). t.spent) turns in
                 let no_keys : length start.settled.keys ≡ 0 = ap (λ (f : FinishedView). length f.keys) none in
-                let so : TakesTurns (m.rank m.root) start last = ⊎_elim (λ (a : TakesTurns (m.rank m.root) start last). a) (λ (b : (left_of last.turns ≡ 0) × TakesTurns (m.rank m.root) start last). b.1) (takes.unless_full quiet) in
-                omega arith
-
-            too_few : last.turns.spent ≡ ask.turns → HasTaken m m.root Spent start last → TooFewTurns m ask
-            too_few all takes n has few =
-                let wide : HasRoom m ask = record { few = λ count states reach apart. let less = has.few count states reach apart in omega arith } in
-                let keys = keys_few last.board.total last.board last.settled.keys worked.kept.finished n has in
-                let most = taken all takes (room wide) in
+                let so : TakesTurns (m.rank m.root) start last =
+                ⊎_elim (λ (a : TakesTurns (m.rank m.root) start last). a) (λ (b : (left_of last.turns ≡ 0) × TakesTurns (m.rank m.root) start last). b.1) (takes.unless_full quiet) in
                 omega arith
 
             finished : (key : ℕ) → IsFinished m last.board.total last.board 32 key → IsFinishedKey m ask last.board.seen has_row key
@@ -101,25 +137,58 @@ module _ {S : Type 0} (m : GameModel S) (game : IsGame m) where
               named = record { state = f.state; reachable = f.reachable; goes_on = f.goes_on; is_key = f.is_key };
               row = f.row;
               has_row = f.held;
-              close = λ stage is. subst (λ (k : ℕ). IsWithin last.board k (pos (rank_gap m stage (m.rank f.state)))) f.is_key (f.close stage (subst (λ (w : ℕ). IsStageGap m w stage) (sym total) is));
+              close = λ _ stage is. subst (λ (k : ℕ). IsWithin last.board k (pos (rank_gap m stage (m.rank f.state)))) f.is_key
+                  (f.close stage (subst (λ (w : ℕ). IsStageGap m w stage) (sym total) is));
             }
 
-            by : last.turns.spent ≡ ask.turns → HasTaken m m.root Spent start last → (b : Bool) → last.settled.was_full ≡ b → KnowsEach ask.rows has_row ⊎ AreOwedTo m ask last.board.seen has_row
+            passed : (ask.stages ≡ Regret → ⊥) → (key : ℕ) → IsPassedKey m false last.board.total last.board 32 key → IsFinishedKey m ask last.board.seen has_row key
+            passed not key f = record {
+              named = record { state = f.state; reachable = f.reachable; goes_on = f.goes_on; is_key = f.is_key };
+              row = f.row;
+              has_row = f.held;
+              close = λ regret. absurd (not regret);
+            }
+
+            owed : last.turns.spent ≡ ask.turns → AreTaken m ask Spent start last → last.settled.was_full ≡ false → AreOwedTo m ask last.board.seen has_row
+            owed all takes quiet =
+                let none_spent : start.turns.spent ≡ 0 = ap (λ (t : Budget). t.spent) turns in
+                ⊎_elim
+                (λ (a : HasTaken m m.root Spent start last). record {
+                  keys = last.settled.keys;
+                  apart = worked.kept.finished.apart;
+                  each = All-weaker (IsFinished m last.board.total last.board 32) (IsFinishedKey m ask last.board.seen has_row) finished last.settled.keys worked.kept.finished.each;
+                  few = taken all a quiet;
+                })
+                (λ (b : (ask.stages ≡ Regret → ⊥) × (last.settled.was_full ≡ false → TakesPasses m 3 last.board (m.rank m.root) start.turns.spent last.turns.spent)).
+                let it : TakesPasses m 3 last.board (m.rank m.root) start.turns.spent last.turns.spent = b.1 quiet in
+                let few = it.few in record {
+                  keys = it.keys;
+                  apart = it.passed.apart;
+                  each = All-weaker (IsPassedKey m false last.board.total last.board 32) (IsFinishedKey m ask last.board.seen has_row) (passed b.0) it.keys it.passed.each;
+                  few = omega arith;
+                })
+                takes
+
+            too_few : last.turns.spent ≡ ask.turns → AreTaken m ask Spent start last → TooFewTurns m ask
+            too_few all takes n has few =
+                let wide : HasRoom m ask = record { few = λ count states reach apart. let less = has.few count states reach apart in omega arith } in
+                let it = owed all takes (room wide) in
+                let keys = keys_few it.keys it.apart (All-weaker (IsFinishedKey m ask last.board.seen has_row) (IsInnerKey m) (λ key f. f.named) it.keys it.each) n has in
+                let most = it.few in
+                omega arith
+
+            by : last.turns.spent ≡ ask.turns → AreTaken m ask Spent start last → (b : Bool) → last.settled.was_full ≡ b → KnowsEach ask.rows has_row ⊎ AreOwedTo m ask last.board.seen has_row
             by all takes true e = inl (full_board e).0
-            by all takes false e = inr (record {
-              keys = last.settled.keys;
-              apart = worked.kept.finished.apart;
-              each = All-weaker (IsFinished m last.board.total last.board 32) (IsFinishedKey m ask last.board.seen has_row) finished last.settled.keys worked.kept.finished.each;
-              few = taken all takes e;
-            })
+            by all takes false e = inr (owed all takes e)
       spent_by Full not ends takes = absurd (not refl)
 
-      all_spent : (end ≡ Full → ⊥) → (last.turns.spent ≡ ask.turns) × IsSpent m ask last.board.seen has_row
+      all_spent : (end ≡ Full → ⊥) → (last.turns.spent ≡ ask.turns) × TooFewTurns m ask × IsDueTo m ask last.board.seen has_row
       all_spent not = spent_by end not ends takes
 
     -- visits for the whole tree, and a row for each state
     module _ (visits : start.visits ≡ record { limit = ask.visits; one = 0; two = 0 })
         (pure : Whole m m.root start.visits → last.settled.was_full ≡ false → IsPureTight m m.root last.board)
+        (row : (end ≡ Full → ⊥) → (row : ℕ) × (last.board.key_at row ≡ Some (m.key m.root)))
         (at_once : Whole m m.root start.visits → last.settled.was_full ≡ false → IsPureClose m ask → (end ≡ Reached) × (last.turns ≡ start.turns)) where
       whole : HasVisits m ask → Whole m m.root start.visits
       whole has side = subst (λ (v : VisitsView). tree_size m m.root ≤ left_on side v) (sym visits) (each side) where
@@ -127,17 +196,23 @@ module _ {S : Type 0} (m : GameModel S) (game : IsGame m) where
         each One = omega (arith, has)
         each Two = omega (arith, has)
 
-      pub found : HasFound m ask last.board.seen (λ row key. last.board.key_at row ≡ Some key) last.turns end
+      one : (P : Budget → Type 0) → P last.turns → All P (last.turns ∷ [])
+      one P here = All-cons P last.turns [] here (All-nil P)
+
+      pub found : HaveFound m ask last.board.seen (λ row key. last.board.key_at row ≡ Some key) (end ≡ Full) (last.turns ∷ [])
       found = record {
-        within = let limit = worked.turns.limit ∙ ap (λ (t : Budget). t.limit) turns in record { limit = limit; spent = subst (λ (n : ℕ). last.turns.spent ≤ n) limit within };
+        within = one (HasLimit ask) (let limit = worked.turns.limit ∙ ap (λ (t : Budget). t.limit) turns in record { limit = limit; spent = subst (λ (n : ℕ). last.turns.spent ≤ n) limit within });
         full = λ e. full_board (subst (Ends m m.root ask.gap last) e ends).0;
-        all_spent = λ not far. all_spent far not;
-        pure = λ has many side. pure (whole many) (room has) side;
-        at_once = λ has many near. ap (λ (t : Budget). t.spent) (at_once (whole many) (room has) near).1 ∙ ap (λ (t : Budget). t.spent) turns;
+        rowed = λ not _. row not;
+        all_spent = λ not far. one (λ t. t.spent ≡ ask.turns) (all_spent far not).0;
+        due = λ not far _. let it = all_spent far not in (it.1, it.2);
+        pure = λ has many _ side. pure (whole many) (room has) side;
+        at_once = λ has many near. one (λ t. t.spent ≡ 0) (ap (λ (t : Budget). t.spent) (at_once (whole many) (room has) near).1 ∙ ap (λ (t : Budget). t.spent) turns);
       }
 
 -- an end as root needs no search
-pub nothing_searched : {S : Type 0} (m : GameModel S) → IsGame m → (ask : Ask) → IsEnd m m.root → pos 0 ≤ℤ ask.gap → (turns : List Budget) → length turns ≡ ask.workers → All (λ t. t ≡ record { limit = ask.turns; spent = 0 }) turns → IsSearched m ask [] [] turns false
+pub nothing_searched : {S : Type 0} (m : GameModel S) → IsGame m → (ask : Ask) → IsEnd m m.root → pos 0 ≤ℤ ask.gap → (turns : List Budget)
+    → length turns ≡ ask.workers → All (λ t. t ≡ record { limit = ask.turns; spent = 0 }) turns → IsSearched m ask [] [] turns false
 nothing_searched m game ask end low turns count fresh = record {
   closed = All-nil _;
   held = record { key_at = λ _. None; held = All-nil _ };
@@ -145,11 +220,19 @@ nothing_searched m game ask end low turns count fresh = record {
   entered = All-nil _;
   best = All-nil _;
   workers = count;
-  within = All-weaker (λ t. t ≡ record { limit = ask.turns; spent = 0 }) (HasLimit ask) (λ t e. rw e (record { limit = refl; spent = omega arith })) turns fresh;
-  full = λ e. absurd (cc);
-  all_spent = λ e far. let asked = far.asked in let one = bound One in let two = bound Two in let gap : root_gap m [] ≡ pos 0 = omega (arith, ints) in absurd (omega (arith, ints));
-  pure = λ has many side. rw (serial_end m game side m.root end, bound side) (looser_refl side (end_bound m m.root));
-  at_once = λ has many near. All-weaker (λ t. t ≡ record { limit = ask.turns; spent = 0 }) (λ t. t.spent ≡ 0) (λ t e. ap (λ (b : Budget). b.spent) e) turns fresh;
+  alone = λ _. All-nil _;
+  found = record {
+    within = All-weaker (λ t. t ≡ record { limit = ask.turns; spent = 0 }) (HasLimit ask) (λ t e. rw e (record { limit = refl; spent = omega arith })) turns fresh;
+    full = λ e. absurd (cc);
+    rowed = λ _ some goes_on. absurd (omega arith);
+    all_spent = λ _ far. absurd (near far);
+    due = λ _ far some. absurd (near far);
+    pure = λ has many some side. rw (serial_end m game side m.root end, bound side) (looser_refl side (end_bound m m.root));
+    at_once = λ has many close. All-weaker (λ t. t ≡ record { limit = ask.turns; spent = 0 }) (λ t. t.spent ≡ 0) (λ t e. ap (λ (b : Budget). b.spent) e) turns fresh;
+  };
 } where
   bound : (side : Side) → book_bound m [] side m.root ≡ end_bound m m.root
   bound side = rw (is_same (m.rank m.root) 0 end) refl
+
+  near : IsFar m ask (book_bound m [] Two m.root -ℤ book_bound m [] One m.root) → ⊥
+  near far = let asked = far.asked in let one = bound One in let two = bound Two in omega (arith, ints)

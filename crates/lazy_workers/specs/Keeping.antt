@@ -6,8 +6,10 @@ use Rattle.matrix_game.specs.Budget.{Budget}
 use Rattle.shared_board.specs.declared.close.Kept.{Kept}
 use Rattle.shared_board.specs.Closing.{IsDistinct, HasKey, kept_bound}
 use Rattle.plan_book.specs.declared.SheetRow.{SheetRow}
+use Rattle.plan_book.specs.Plans.{one_move}
 use Rattle.sim_game.specs.declared.Side.{Side}
 use Rattle.certificate.specs.declared.report.Ask.{Ask}
+use Rattle.certificate.specs.declared.report.StageMethod.TheVariants.{Regret}
 use Rattle.certificate.specs.declared.report.Outcome.TheVariants.{Spent, Full}
 use Rattle.certificate.specs.declared.report.Report.{Report}
 
@@ -25,24 +27,30 @@ pub record IsSheetRowKept (side : Side) (kept : List Kept) (r : SheetRow) : Type
   pub held : HasKey kept r.key
   pub bound : kept_bound side held.row ≡ r.bound
 
+-- the row plays one move alone
+pub record IsPureRow (total : ℕ) (r : SheetRow) : Type 0 where
+  pub place : ℕ
+  pub pure : r.weights ≡ one_move total (length r.weights) place
+
 module _ {S : Type 0} (m : GameModel S) where
-  -- the key is that of a reachable state that is no end, at which both bounds are backed and lie in the range of payoffs
+  -- the key is that of a reachable state that is no end; both bounds there are backed, and in the range of payoffs
   pub record IsKeptState (x : Kept) : Type 0 where
     pub named : IsInnerKey m x.key
     pub bounds : IsEnclosure m x.lower x.upper named.state
 
-  -- besides, the bounds are no further apart than the resolution's share of the state's rank
-  pub record IsFinishedRow (resolution : ℤ) (x : Kept) : Type 0 where
+  -- besides, with regret matching, the bounds are no further apart than the resolution's share of the state's rank
+  pub record IsFinishedRow (ask : Ask) (resolution : ℤ) (x : Kept) : Type 0 where
     pub named : IsInnerKey m x.key
-    pub close : (pos (m.rank m.root) *ℤ (x.upper -ℤ x.lower)) ≤ℤ (pos (m.rank named.state) *ℤ resolution)
+    pub close : ask.stages ≡ Regret
+        → (pos (m.rank m.root) *ℤ (x.upper -ℤ x.lower)) ≤ℤ (pos (m.rank named.state) *ℤ resolution)
 
-  -- so many turns are owed to finished states among the rows, 63 to each, and to the states on the way to the root
-  pub record AreOwed (turns : ℕ) (resolution : ℤ) (kept : List Kept) : Type 0 where
+  -- the turns are owed to finished states among the rows, 63 to each, and to the states on the way to the root
+  pub record AreOwed (ask : Ask) (resolution : ℤ) (kept : List Kept) : Type 0 where
     pub finished : List Kept
     pub among : All (Contains kept) finished
     pub distinct : IsDistinct finished
-    pub each : All (IsFinishedRow resolution) finished
-    pub few : turns ≤ 63 * (length finished + m.rank m.root)
+    pub each : All (IsFinishedRow ask resolution) finished
+    pub few : ask.turns ≤ 63 * (length finished + m.rank m.root)
 
   -- the rows of a board that was made for a root that is no end
   pub record AreRows (rows : ℕ) (kept : List Kept) : Type 0 where
@@ -54,5 +62,7 @@ module _ {S : Type 0} (m : GameModel S) where
   -- what the rows show of an outcome short of the resolution
   pub record IsLeft (ask : Ask) (r : Report) (kept : List Kept) : Type 0 where
     pub rows : AreRows ask.rows kept
+    -- with a row left on the board, the root has one
+    pub rooted : 1 ≤ m.rank m.root → length kept < ask.rows → HasKey kept (m.key m.root)
     pub full : r.outcome ≡ Full → length kept ≡ ask.rows
-    pub spent : r.outcome ≡ Spent → length kept < ask.rows → AreOwed ask.turns r.resolution kept
+    pub spent : r.outcome ≡ Spent → length kept < ask.rows → AreOwed ask r.resolution kept

@@ -1,5 +1,5 @@
 -- What all workers together have found of a game.
-use Rattle.std.specs.Prelude.{◌≡◌, ℕ, ◌+◌, ◌*◌, ◌<◌, ◌≤◌, ℤ, pos, ◌+ℤ◌, ◌-ℤ◌, ◌≤ℤ◌, ◌<ℤ◌, Bool, true, false, Option, Some, List, length, All}
+use Rattle.std.specs.Prelude.{◌≡◌, ℕ, ◌+◌, ◌*◌, ◌<◌, ◌≤◌, ℤ, pos, ◌+ℤ◌, ◌-ℤ◌, ◌≤ℤ◌, ◌<ℤ◌, Bool, true, Option, Some, List, length, All}
 use Rattle.sim_game.specs.declared.Side.{Side}
 use Rattle.sim_game.specs.declared.Side.TheVariants.{One, Two}
 use Rattle.sim_game.specs.Model.{GameModel, HasAtMost}
@@ -8,6 +8,7 @@ use Rattle.sim_game.specs.Resolution.{IsResolution}
 use Rattle.plan_book.specs.declared.Entry.{Entry}
 use Rattle.plan_book.specs.Books.{IsClosed, book_bound}
 use Rattle.plan_book.specs.Serial.{serial_bound, tree_size}
+use Rattle.serial_ab.specs.Searches.{IsPureEntry}
 use Rattle.matrix_game.specs.Budget.{Budget}
 use Rattle.shared_board.specs.Closing.{HasKey, IsKeptRow}
 use Rattle.shared_board.specs.declared.close.Kept.{Kept}
@@ -18,10 +19,6 @@ use Rattle.lazy_workers.specs.Keeping.{HasLimit, AreOwed, AreRows}
 pub record HasKeysIn (rows : ℕ) (entries : List Entry) : Type 0 where
   pub key_at : ℕ → Option ℕ
   pub held : All (λ e. (row : ℕ) × (row < rows) × (key_at row ≡ Some e.key)) entries
-
--- how far the bounds at the root are apart
-abbrev pub root_gap : {S : Type 0} → GameModel S → List Entry → ℤ
-root_gap m entries = book_bound m entries Two m.root -ℤ book_bound m entries One m.root
 
 -- further apart than what was asked and than the resolution
 pub record IsFar {S : Type 0} (m : GameModel S) (ask : Ask) (gap : ℤ) : Type 0 where
@@ -44,17 +41,39 @@ IsPureClose m ask = serial_bound m Two m.root ≤ℤ (serial_bound m One m.root 
 abbrev pub TooFewTurns : {S : Type 0} → GameModel S → Ask → Type 0
 TooFewTurns m ask = (n : ℕ) → HasAtMost m n → n ≤ ask.rows → ask.turns < 63 * (n + m.rank m.root + 1)
 
--- the entries of all workers, the rows of the closed board, the turns of each worker, and whether the search of one ended at a full board
-pub record IsSearched {S : Type 0} (m : GameModel S) (ask : Ask) (entries : List Entry) (kept : List Kept) (turns : List Budget) (was_full : Bool) : Type 0 where
+-- what searches of the root have found together, by the bounds that are known of it: the turns of each; what a search
+-- that met a full board shows of it; what is due where none did and all turns were spent; that the root has a row
+pub record HasFound {S : Type 0} (m : GameModel S) (ask : Ask) (bound : Side → ℤ) (IsFull IsDue HasRow Met : Type 0)
+    (turns : List Budget) : Type 0 where
+  pub within : All (HasLimit ask) turns
+  pub full : Met → IsFull × (HasRoom m ask → ⊥)
+  pub rowed : (Met → ⊥) → 1 ≤ length turns → HasRow
+  -- as long as the bounds are far apart, all turns were spent
+  pub all_spent : (Met → ⊥) → IsFar m ask (bound Two -ℤ bound One) → All (λ t. t.spent ≡ ask.turns) turns
+  pub due : (Met → ⊥) → IsFar m ask (bound Two -ℤ bound One) → 1 ≤ length turns → TooFewTurns m ask × IsDue
+  pub pure : HasRoom m ask → HasVisits m ask → 1 ≤ length turns
+      → (side : Side) → IsNoTighter side (serial_bound m side m.root) (bound side)
+  pub at_once : HasRoom m ask → HasVisits m ask → IsPureClose m ask → All (λ t. t.spent ≡ 0) turns
+
+-- with a row left on the board, the turns are owed to rows that are kept
+abbrev pub IsOwed : {S : Type 0} → GameModel S → Ask → List Kept → Type 0
+IsOwed m ask kept = (n : ℕ) → IsResolution m ask.weight n → length kept < ask.rows → AreOwed m ask (pos n) kept
+
+-- a root that is no end has a row
+abbrev pub IsRooted : {S : Type 0} → GameModel S → List Kept → Type 0
+IsRooted m kept = 1 ≤ m.rank m.root → HasKey kept (m.key m.root)
+
+-- the entries of all workers, the rows of the closed board, the turns of each worker, and whether a search of one ended
+-- at a full board
+pub record IsSearched {S : Type 0} (m : GameModel S) (ask : Ask) (entries : List Entry) (kept : List Kept)
+    (turns : List Budget) (was_full : Bool) : Type 0 where
   pub closed : IsClosed m ask.weight entries
   pub held : HasKeysIn ask.rows entries
   pub rows : AreRows m ask.rows kept
   pub entered : All (λ e. HasKey kept e.key) entries
   pub best : All (IsKeptRow m entries) kept
   pub workers : length turns ≡ ask.workers
-  pub within : All (HasLimit ask) turns
-  pub full : was_full ≡ true → (length kept ≡ ask.rows) × (HasRoom m ask → ⊥)
-  pub all_spent : was_full ≡ false → IsFar m ask (root_gap m entries)
-      → All (λ t. t.spent ≡ ask.turns) turns × TooFewTurns m ask × ((n : ℕ) → IsResolution m ask.weight n → length kept < ask.rows → AreOwed m ask.turns (pos n) kept)
-  pub pure : HasRoom m ask → HasVisits m ask → (side : Side) → IsNoTighter side (serial_bound m side m.root) (book_bound m entries side m.root)
-  pub at_once : HasRoom m ask → HasVisits m ask → IsPureClose m ask → All (λ t. t.spent ≡ 0) turns
+  pub found : HasFound m ask (λ side. book_bound m entries side m.root) (length kept ≡ ask.rows) (IsOwed m ask kept)
+      (IsRooted m kept) (was_full ≡ true) turns
+  -- where no turn was spent, only pure plans were posted
+  pub alone : All (λ t. t.spent ≡ 0) turns → All (IsPureEntry m ask.weight) entries

@@ -1,5 +1,5 @@
 -- What a report says of a game.
-use Rattle.std.specs.Prelude.{◌≡◌, ℕ, ◌≤◌, ℤ, pos, ◌≤ℤ◌, ◌<ℤ◌, Bool, true, false, length, All}
+use Rattle.std.specs.Prelude.{◌≡◌, ℕ, ◌≤◌, ℤ, pos, ◌≤ℤ◌, ◌<ℤ◌, Bool, true, false, length, All, Contains}
 use Rattle.sim_game.specs.declared.Side.TheVariants.{One, Two}
 use Rattle.sim_game.specs.Model.{GameModel}
 use Rattle.sim_game.specs.Resolution.{IsResolution}
@@ -9,12 +9,13 @@ use Rattle.plan_book.specs.Serial.{serial_bound}
 use Rattle.certificate.specs.declared.report.Ask.{Ask}
 use Rattle.certificate.specs.declared.report.Outcome.{Outcome}
 use Rattle.certificate.specs.declared.report.Outcome.TheVariants.{Closed, Settled, Spent, Full}
-use Rattle.certificate.specs.declared.report.PositionText.{PositionText}
+use Rattle.certificate.specs.declared.positions.PositionText.{PositionText}
 use Rattle.certificate.specs.declared.report.Report.{Report}
 use Rattle.certificate.specs.Outcomes.{IsAllowed}
 use Rattle.certificate.specs.Ranges.{IsInRange}
+use Rattle.shared_board.specs.declared.close.Kept.{Kept}
 use Rattle.lazy_workers.specs.declared.summary.Solved.{Solved}
-use Rattle.lazy_workers.specs.Keeping.{HasLimit, spent_of, IsSheetRowKept, IsLeft}
+use Rattle.lazy_workers.specs.Keeping.{HasLimit, spent_of, IsPureRow, IsSheetRowKept, IsLeft}
 use Rattle.lazy_workers.specs.Searched.{HasRoom, HasVisits, IsPureClose, TooFewTurns}
 
 -- which outcome tells of a gap
@@ -37,6 +38,10 @@ pub record IsSolution {S : Type 0} (m : GameModel S) (text : PositionText) (ask 
   pub in_range : IsInRange r
   pub resolution : (n : ℕ) × (r.resolution ≡ pos n) × IsResolution m ask.weight n
   pub outcome : IsAllowed r
+  -- no worker has spent more turns than were asked
+  pub within : All (λ n. n ≤ ask.turns) r.spent
+  -- where none has spent a turn, both plans play one move at each state
+  pub alone : All (λ n. n ≡ 0) r.spent → All (IsPureRow r.weight) r.one.rows × All (IsPureRow r.weight) r.two.rows
   -- the plans, and what they guarantee
   pub one_lawful : IsLawful m r.one
   pub two_lawful : IsLawful m r.two
@@ -52,7 +57,8 @@ pub record IsSolution {S : Type 0} (m : GameModel S) (text : PositionText) (ask 
   -- with a row for each state and a visit for each node of the tree
   pub pure_lower : HasRoom m ask → HasVisits m ask → serial_bound m One m.root ≤ℤ r.lower
   pub pure_upper : HasRoom m ask → HasVisits m ask → r.upper ≤ℤ serial_bound m Two m.root
-  pub at_once : HasRoom m ask → HasVisits m ask → IsPureClose m ask → (r.outcome ≡ Closed) × All (λ n. n ≡ 0) r.spent
+  pub at_once : HasRoom m ask → HasVisits m ask → IsPureClose m ask
+      → (r.outcome ≡ Closed) × All (λ n. n ≡ 0) r.spent
 
 -- what is told of a game: a report that is a solution, the turns of each worker, and the rows of the closed board
 pub record IsSolvedGame {S : Type 0} (m : GameModel S) (text : PositionText) (ask : Ask) (x : Solved) : Type 0 where
@@ -63,3 +69,6 @@ pub record IsSolvedGame {S : Type 0} (m : GameModel S) (text : PositionText) (as
   pub one_kept : All (IsSheetRowKept One x.kept) x.report.one.rows
   pub two_kept : All (IsSheetRowKept Two x.kept) x.report.two.rows
   pub left : IsLeft m ask x.report x.kept
+  -- the bounds of the report are those of the root's row
+  pub root : (row : Kept) → Contains x.kept row → row.key ≡ m.key m.root
+      → (x.report.lower ≡ row.lower) × (x.report.upper ≡ row.upper)

@@ -1,12 +1,14 @@
 //! The work of each worker, from its pass to the lead's.
 
 ghost use Rattle.std.specs.Prelude.{◌≡◌, ◌+◌, ◌<◌, ◌≤◌, true, [], length, All, IfOk};
+ghost use Rattle.serial_ab.specs.Searches.{IsPureEntry};
 ghost use Rattle.shared_board.specs.Values.{IsPassOf};
 ghost use Rattle.shared_board.specs.Passes.{seen_by};
-ghost use Rattle.lazy_workers.specs.Workers.{IsBoardFor, IsLead, IsJob, IsDone, AreJoined, rows_of};
+ghost use Rattle.lazy_workers.specs.Solvers.{solver_kind};
+ghost use Rattle.lazy_workers.specs.Workers.{IsBoardFor, IsLead, IsJob, IsJobDone, IsNoLooser, HasView};
 
-use certificate::Ask;
-use matrix_game::Turns;
+use certificate::{Ask, StageMethod};
+use matrix_game::{SolverKind, Turns};
 use oracle_search::{Gate, MemoryLimits, SearchEnd, Setup, Worker, search};
 use serial_ab::Visits;
 use shared_board::{BarePass, Board, Desk, Pass};
@@ -57,15 +59,20 @@ pub(crate) fn split_all<G: Game>(
     Ok(jobs)
 }
 
-/// What each of so many workers may remember: a quarter where there are more than four.
-fn limits_for(workers: u32) -> MemoryLimits
-    ensures few { workers ≤ 4 → result ≡ record { searches = 262144; stages = 65536 } }
-    ensures many { 4 < workers → result ≡ record { searches = 65536; stages = 16384 } }
+/// What each of so many workers may remember, a quarter where there are more than four, and how it solves matrix games.
+fn limits_for(workers: u32, stages: StageMethod) -> MemoryLimits
+    ensures few { workers ≤ 4 → result ≡ record { searches = 262144; stages = solver_kind stages 65536 } }
+    ensures many { 4 < workers → result ≡ record { searches = 65536; stages = solver_kind stages 16384 } }
 {
     let parts = if workers <= 4 { 1 } else { 4 };
     MemoryLimits {
         searches: 262_144 / parts,
-        stages: 65_536 / parts,
+        stages: match stages {
+            StageMethod::Regret => SolverKind::Regret {
+                kept: 65_536 / parts,
+            },
+            StageMethod::Linear => SolverKind::Linear,
+        },
     }
 }
 
@@ -80,7 +87,7 @@ pub(crate) fn work<G: Game, T: Gate>(
 ) -> Result<Done<G>, NoMemory>
     requires board { IsBoardFor G.model g board.now ask.now }
     requires job { IsJob G.model board.now job }
-    ensures { IfOk result (IsDone G.model g board.now ask.now) }
+    ensures { IfOk result (IsJobDone G.model g board.now ask.now) }
 {
     let Job { pass, worker } = job;
     let mut desk = Desk::new(board, Pass::from_bare(pass));
@@ -92,7 +99,7 @@ pub(crate) fn work<G: Game, T: Gate>(
     };
     let turns = Turns::new(ask.turns);
     let visits = Visits::new(ask.visits);
-    let mut state = Worker::new(alloc, turns, visits, limits_for(ask.workers));
+    let mut state = Worker::new(alloc, turns, visits, limits_for(ask.workers, ask.stages));
     let end = search(&setup, g.root(), ask.gap, &mut state, &mut desk)?;
     Ok(Done {
         pass: desk.into_pass().into_bare(),
@@ -114,12 +121,20 @@ pub(crate) fn join_all<G: Game>(
     requires board { IsBoardFor G.model g board.now ask.now }
     requires ours { IsPassOf board.now lead.old }
     requires lead { lead.old.view.lead ≡ true }
-    requires found { All (λ r. IfOk r (IsDone G.model g board.now ask.now)) found.items }
+    requires found { All (λ r. IfOk r (IsJobDone G.model g board.now ask.now)) found.items }
     requires none { turns.old.items ≡ [] }
+    requires entries { lead.old.entries ≡ [] }
     ensures ours { IfOk result (λ _. IsPassOf board.now lead.new) }
-    ensures lead { IfOk result (λ _. IsLead lead.new.view lead.old.view.drawn (length lead.old.view.numbers + length found.items)) }
+    ensures lead { IfOk result (λ _. IsLead lead.new.view lead.old.view.issued
+        (length lead.old.view.tickets + length found.items)) }
     ensures count { IfOk result (λ _. length turns.new.items ≡ length found.items) }
-    ensures joined { IfOk result (AreJoined (G.model g) ask.now (seen_by (G.model g) lead.new.view) (rows_of lead.new.view) turns.new.items) }
+    ensures joined { IfOk result (λ was_full.
+        HasView (G.model g) ask.now lead.new.view (was_full ≡ true) turns.new.items) }
+    ensures alone { IfOk result (λ _. All (λ t. t.spent ≡ 0) turns.new.items
+        → All (IsPureEntry (G.model g) ask.now.weight) lead.new.entries) }
+    // Nothing that a worker has seen at the root is forgotten.
+    ensures tight { IfOk result (λ _. All (λ r. IfOk r (IsNoLooser G.model g
+        (λ side. seen_by (G.model g) lead.new.view side ((G.model g).key (G.model g).root)))) found.items) }
 {
     let mut was_full = false;
     while let Some(done) = found.pop() {

@@ -1,11 +1,12 @@
 //! The search of a whole game.
 
-ghost use Rattle.std.specs.Prelude.{◌≡◌, ◌+◌, ◌≤◌, length, All, IfOk};
+ghost use Rattle.std.specs.Prelude.{◌≡◌, ◌+◌, ◌≤◌, [], length, All, IfOk};
 ghost use Rattle.certificate.specs.Ranges.{IsAskInRange, IsPositionInRange};
+ghost use Rattle.plan_book.specs.Books.{book_bound};
 ghost use Rattle.shared_board.specs.Values.{IsPassOf};
 ghost use Rattle.lazy_workers.specs.Searched.{IsSearched};
 ghost use Rattle.lazy_workers.specs.Solutions.{IsSolvedGame};
-ghost use Rattle.lazy_workers.specs.Workers.{IsBoardFor, IsLead, IsJob, IsDone};
+ghost use Rattle.lazy_workers.specs.Workers.{IsBoardFor, IsLead, IsJob, IsJobDone, IsNoLooser};
 
 use crate::jobs::{Done, Job, join_all, split_all, work};
 use crate::summary::{Found, Solved, report_of};
@@ -49,7 +50,8 @@ fn nothing<G: Game>(alloc: Global, g: G, ask: &Ask) -> Result<Found, NoMemory>
     requires ask { IsAskInRange ask.now }
     requires end { (G.model g).rank (G.model g).root ≡ 0 }
     ensures total { IfOk result (λ found. found.book.total ≡ ask.now.weight) }
-    ensures searched { IfOk result (λ found. IsSearched (G.model g) ask.now found.book.entries found.kept found.turns found.was_full) }
+    ensures searched { IfOk result (λ found.
+        IsSearched (G.model g) ask.now found.book.entries found.kept found.turns found.was_full) }
 {
     let mut turns = Vec::with_capacity(alloc, ask.workers as usize)?;
     for _worker in 0..ask.workers {
@@ -76,7 +78,8 @@ where
     requires ask { IsAskInRange ask.now }
     requires goes_on { 1 ≤ (G.model g).rank (G.model g).root }
     ensures total { IfOk result (λ found. found.book.total ≡ ask.now.weight) }
-    ensures searched { IfOk result (λ found. IsSearched (G.model g) ask.now found.book.entries found.kept found.turns found.was_full) }
+    ensures searched { IfOk result (λ found.
+        IsSearched (G.model g) ask.now found.book.entries found.kept found.turns found.was_full) }
 {
     let (board, mut lead) = Board::create(alloc, g, ask.rows, ask.weight)?;
     let jobs = split_all(alloc, &board, &mut lead, ask.workers)?;
@@ -87,7 +90,7 @@ where
         jobs,
         &|job: Job<G>| -> Result<Done<G>, NoMemory>
             requires { IsBoardFor G.model g shared.now asked × IsJob G.model shared.now job }
-            ensures { IfOk result (IsDone G.model g shared.entry.now asked) }
+            ensures { IfOk result (IsJobDone G.model g shared.entry.now asked) }
         { work(alloc, g, shared, &asked, gate, job) },
     )?;
     gather(alloc, g, board, ask, lead, done)
@@ -105,10 +108,15 @@ fn gather<G: Game>(
     requires board { IsBoardFor G.model g board ask.now }
     requires ours { IsPassOf board lead }
     requires lead { IsLead lead.view (1 + ask.now.workers) 1 }
-    requires found { All (λ r. IfOk r (IsDone G.model g board ask.now)) found.items }
+    requires found { All (λ r. IfOk r (IsJobDone G.model g board ask.now)) found.items }
     requires count { length found.items ≡ ask.now.workers }
+    requires entries { lead.entries ≡ [] }
     ensures total { IfOk result (λ found. found.book.total ≡ ask.now.weight) }
-    ensures searched { IfOk result (λ found. IsSearched (G.model g) ask.now found.book.entries found.kept found.turns found.was_full) }
+    ensures searched { IfOk result (λ found.
+        IsSearched (G.model g) ask.now found.book.entries found.kept found.turns found.was_full) }
+    // Nothing that a worker has seen at the root is forgotten.
+    ensures tight { IfOk result (λ all. All (λ r. IfOk r (IsNoLooser G.model g
+        (λ side. book_bound (G.model g) all.book.entries side (G.model g).root))) found.items) }
 {
     let mut turns = Vec::with_capacity(alloc, ask.workers as usize)?;
     let was_full = join_all(g, &board, ask, &mut lead, found, &mut turns)?;

@@ -77,12 +77,14 @@ pub record IsFound (m : Grid) (k : ℤ) (w col sum : ℕ) (p : List ℕ) : Type 
   pub small_floor : unsigned_abs (row_floor m p) ≤ 4194304000000000
   pub small_sum : sum ≤ 8388608000000000
 
-pub found : (m : Grid) (k : ℤ) (width w rows cols col : ℕ) (hs p sums : List ℕ) → IsMatrix m → AreHeights m k width hs → unsigned_abs k ≤ 4000000000 → rows ≡ m.rows → cols ≡ m.cols → IsWeighted m.rows w p → w ≤ 1048576
+pub found : (m : Grid) (k : ℤ) (width w rows cols col : ℕ) (hs p sums : List ℕ) → IsMatrix m → AreHeights m k width hs → unsigned_abs k ≤ 4000000000
+    → rows ≡ m.rows → cols ≡ m.cols → IsWeighted m.rows w p → w ≤ 1048576
     → ((b : ℕ) → b < width → get_or sums b 0 ≡ count_below rows (λ a. get_or p a 0 * get_or hs (a * width + b) 0)) → col ≡ first_least cols (λ b. pos (get_or sums b 0))
     → IsFound m k w col (get_or sums col 0) p
 found m k width w rows cols col hs p sums matrix are small er ec weighted light each at =
     let some : 0 < m.cols = omega (arith, matrix.shaped.some_col) in
-    let both = reply-heights m k width w col hs p sums are some (weights_sum m.rows w p weighted) (λ b h. each b h ∙ ap (λ n. count_below n (λ a. get_or p a 0 * get_or hs (a * width + b) 0)) er) (at ∙ ap (λ n. first_least n (λ b. pos (get_or sums b 0))) ec) in
+    let both = reply-heights m k width w col hs p sums are some (weights_sum m.rows w p weighted)
+    (λ b h. each b h ∙ ap (λ n. count_below n (λ a. get_or p a 0 * get_or hs (a * width + b) 0)) er) (at ∙ ap (λ n. first_least n (λ b. pos (get_or sums b 0))) ec) in
     let low : unsigned_abs (row_floor m p) ≤ 4194304000000000 = omega (arith, row_floor-small m w p matrix weighted) in
     let product = unsigned_abs-mul (pos w) k in
     let large = mul-le-mul light small in

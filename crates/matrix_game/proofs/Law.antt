@@ -17,7 +17,7 @@ use Rattle.matrix_game.proofs.Lifting.{IsLifted, lifted_sum, positive_part-lifte
 use Rattle.matrix_game.proofs.Lists.{sum_by-count}
 use Rattle.matrix_game.proofs.Mixtures.{mixture_of-adds, weight-mixture_of}
 use Rattle.matrix_game.specs.Grid.{Grid, cell_at, column_sum, row_sum, first_greatest, best_reply, row_floor, col_ceiling, IsSaddle, IsShaped, IsSpread}
-use Rattle.matrix_game.specs.Rounds.{mixture_of, positive_part, regret_of, regrets_before, Round, round_at, rounds, mixture_at, best_mixture, reply_counts, all_on, pure, mixed, ResolutionLaw, StageLaw}
+use Rattle.matrix_game.specs.Rounds.{mixture_of, positive_part, regret_of, regrets_before, Round, round_at, rounds, mixture_at, best_mixture, reply_counts, all_on, pure, mixed, HasSmallGap, HasResolution, ResolutionLaw, StageLaw}
 
 -- ---- lifted cells
 -- more than any cell lies below 0
@@ -158,7 +158,8 @@ pub conceded_by_counts : (m : Grid) (w a : ℕ) → IsShaped m
     → count_below m.cols (λ b. get_or (reply_counts m (rounds m w)) b 0 * lifted_at m a b) ≡ count_below w (λ t. lifted_at m a (reply_before m w t))
 conceded_by_counts m w a s =
     let j = reply_before m w in
-    let same = count_same m.cols (λ b. get_or (reply_counts m (rounds m w)) b 0 * lifted_at m a b) (λ b. count_of w j b * lifted_at m a b) (λ b h. ap (λ y. y * lifted_at m a b) (get_or-reply_counts m w b h)) in
+    let same = count_same m.cols (λ b. get_or (reply_counts m (rounds m w)) b 0 * lifted_at m a b) (λ b. count_of w j b * lifted_at m a b)
+    (λ b h. ap (λ y. y * lifted_at m a b) (get_or-reply_counts m w b h)) in
     same ∙ sym (sum_by_counts w m.cols j (λ b. lifted_at m a b) (λ t h. reply_before-below m w t s))
 
 -- ---- the law
@@ -273,16 +274,20 @@ root_signed : (z : ℤ) (x : ℕ) → (z *ℤ z) ≤ℤ pos (x * x) → z ≤ℤ
 root_signed (pos n) x h = let s : n * n ≤ x * x = omega (arith, ints) in let r = square_cancel n x s in omega (arith, ints)
 root_signed (negsuc n) x h = omega (arith, ints)
 
-pub resolution_law : ResolutionLaw
-resolution_law m w p v s stage n d q few spread large enough =
+-- the law as a difference
+pub resolution_of : (m : Grid) (w : ℕ) (low high : ℤ) → HasSmallGap m w low high → HasResolution m w low high
+resolution_of m w low high small n d q few spread large enough =
     let rows = mul-le-mul few few in
-    let gap = stage_law m w p v s stage d spread (omega (arith, rows)) in
+    let gap = small d spread (omega (arith, rows)) in
     let more = mul-le-mul_right (2 * (w * (d * d))) few in
     let times = mul-le-mul_left w enough in
-    let z = col_ceiling m v -ℤ row_floor m p in
+    let z = high -ℤ low in
     let square : (z *ℤ z) ≤ℤ pos (w * q * (w * q)) = le_pos (z *ℤ z) (2 * (m.rows * (w * (d * d)))) (w * q * (w * q)) gap (omega (arith, more, times)) in
     let root = root_signed z (w * q) square in
     omega (arith, ints)
   where
     le_pos : (y : ℤ) (a b : ℕ) → y ≤ℤ pos a → a ≤ b → y ≤ℤ pos b
     le_pos y a b h l = omega (arith, ints)
+
+pub resolution_law : ResolutionLaw
+resolution_law m w p v s stage = resolution_of m w (row_floor m p) (col_ceiling m v) (stage_law m w p v s stage)

@@ -58,7 +58,8 @@ none_made f old all e = record {
   summed = e;
 }
 
-pub made_more : (f : ℕ → ℕ) (old new after : List ℕ) (row all next x : ℕ) → row < length new → after ≡ set new row x → x ≡ f row → next ≡ all + x → IsMade f old new row all → IsMade f old after (row + 1) next
+pub made_more : (f : ℕ → ℕ) (old new after : List ℕ) (row all next x : ℕ) → row < length new → after ≡ set new row x → x ≡ f row → next ≡ all + x
+    → IsMade f old new row all → IsMade f old after (row + 1) next
 made_more f old new after row all next x h ea ex en made =
     rw ea (record {
       made = λ k l. elim (cases_eq k row) [

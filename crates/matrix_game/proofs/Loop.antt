@@ -15,7 +15,7 @@ use Rattle.matrix_game.proofs.Gap.{count_of, is_equal-same, is_equal-other}
 use Rattle.matrix_game.proofs.Lists.{sum-count, sum-zeros}
 use Rattle.matrix_game.proofs.Mixtures.{length-mixture_of, weight-mixture_of}
 use Rattle.matrix_game.proofs.Law.{mixture_before, reply_before, weight_before, length-regrets_before, regret_start, regret_step, lifted_at, lifted_at-within, reply_before-below, length-rounds, mixture_at-rounds, get_or-reply_counts, length-reply_counts}
-use Rattle.matrix_game.specs.Grid.{Grid, IsShaped, IsMatrix, IsSpread, HasRoom, row_floor, best_reply, first_greatest}
+use Rattle.matrix_game.specs.Grid.{Grid, IsShaped, IsMatrix, IsSpread, HasRegretRoom, row_floor, best_reply, first_greatest}
 use Rattle.matrix_game.specs.Rounds.{mixture_of, raised_regrets, regrets_before, rounds, mixture_at, best_mixture, reply_counts}
 
 -- what is secured by the mixture of each round
@@ -45,7 +45,8 @@ before_first_round m w low = record {
 }
 
 -- without a premise on the start
-pub before_first : (m : Grid) (w : ℕ) (regrets : List ℕ) (all : ℕ) (counts best : List ℕ) (low : ℤ) → regrets ≡ replicate m.rows 0 → all ≡ 0 → counts ≡ replicate m.cols 0 → best ≡ replicate m.rows 0 → IsBeforeRound m w 0 regrets all counts best low
+pub before_first : (m : Grid) (w : ℕ) (regrets : List ℕ) (all : ℕ) (counts best : List ℕ) (low : ℤ) → regrets ≡ replicate m.rows 0 → all ≡ 0
+    → counts ≡ replicate m.cols 0 → best ≡ replicate m.rows 0 → IsBeforeRound m w 0 regrets all counts best low
 before_first m w regrets all counts best low er ea ec eb = rw er (rw ea (rw ec (rw eb (before_first_round m w low))))
 
 -- ---- what the calls in a round require
@@ -67,7 +68,7 @@ sum-regrets_before-le m w d t s spread h =
     let early = mul-le-mul_left n (mul-le-mul_right (w * d) h) in
     omega (arith, all, each, count_constant n (t * (w * d)), early)
 
-pub regrets-room : (m : Grid) (w t limit : ℕ) → IsShaped m → HasRoom m w limit → t ≤ w → sum (regrets_before m w t) < limit
+pub regrets-room : (m : Grid) (w t limit : ℕ) → IsShaped m → HasRegretRoom m w limit → t ≤ w → sum (regrets_before m w t) < limit
 regrets-room m w t limit s room h = omega (arith, sum-regrets_before-le m w room.spread t s room.is_spread h, room.fits)
 
 pub mixture-light : (n w : ℕ) (q : List ℕ) → length q ≡ n → 0 < n → w ≤ 1048576 → All (λ x. x ≤ 1048576) (mixture_of w q)
@@ -90,7 +91,7 @@ count_of-le (suc n) j b =
     ]
 
 -- of the widest numbers there is always room
-pub wide-room : (m : Grid) (w : ℕ) → IsMatrix m → w ≤ 1048576 → HasRoom m w (2 ^ 107)
+pub wide-room : (m : Grid) (w : ℕ) → IsMatrix m → w ≤ 1048576 → HasRegretRoom m w (2 ^ 107)
 wide-room m w i light = record {
   spread = 8000000000;
   is_spread = λ a b h l. let x = i.small_cells a h in let y = i.small_cells b l in omega (arith, ints);
@@ -105,7 +106,8 @@ pub counts-room : (m : Grid) (w t k : ℕ) (regrets : List ℕ) (all : ℕ) (cou
 counts-room m w t k regrets all counts best low b h = omega (arith, b.counts_are k h, count_of-le t (reply_before m w) k)
 
 -- ---- one round
-counts_more : (m : Grid) (w t b : ℕ) (counts : List ℕ) → length counts ≡ m.cols → reply_before m w t < m.cols → ((b : ℕ) → b < m.cols → get_or counts b 0 ≡ count_of t (reply_before m w) b) → b < m.cols
+counts_more : (m : Grid) (w t b : ℕ) (counts : List ℕ) → length counts ≡ m.cols → reply_before m w t < m.cols
+    → ((b : ℕ) → b < m.cols → get_or counts b 0 ≡ count_of t (reply_before m w) b) → b < m.cols
     → get_or (set counts (reply_before m w t) (get_or counts (reply_before m w t) 0 + 1)) b 0 ≡ count_of (t + 1) (reply_before m w) b
 counts_more m w t b counts e r h l =
     let j = reply_before m w t in
@@ -145,16 +147,19 @@ round_is m w t regrets new_regrets mixture reply paid b em er ep en =
       mixture_is = m_is;
       reply_is = r_is;
       paid_is = p_is;
-      regrets_are = en ∙ ap (λ q. raised_regrets m w q reply paid) b ∙ ap (λ j. raised_regrets m w (regrets_before m w t) j paid) r_is ∙ ap (raised_regrets m w (regrets_before m w t) (reply_before m w t)) p_is ∙ sym (regrets_more m w t);
+      regrets_are = en ∙ ap (λ q. raised_regrets m w q reply paid) b ∙ ap (λ j. raised_regrets m w (regrets_before m w t) j paid) r_is
+          ∙ ap (raised_regrets m w (regrets_before m w t) (reply_before m w t)) p_is ∙ sym (regrets_more m w t);
     }
 
-counts_of_round : (m : Grid) (w t reply b : ℕ) (counts : List ℕ) → IsShaped m → reply ≡ reply_before m w t → length counts ≡ m.cols → ((b : ℕ) → b < m.cols → get_or counts b 0 ≡ count_of t (reply_before m w) b) → b < m.cols
+counts_of_round : (m : Grid) (w t reply b : ℕ) (counts : List ℕ) → IsShaped m → reply ≡ reply_before m w t → length counts ≡ m.cols
+    → ((b : ℕ) → b < m.cols → get_or counts b 0 ≡ count_of t (reply_before m w) b) → b < m.cols
     → get_or (set counts reply (get_or counts reply 0 + 1)) b 0 ≡ count_of (t + 1) (reply_before m w) b
 counts_of_round m w t reply b counts s e l h k =
     ap (λ j. get_or (set counts j (get_or counts j 0 + 1)) b 0) e ∙ counts_more m w t b counts l (reply_before-below m w t s) h k
 
 -- a round whose mixture is taken as the best
-pub round_takes : (m : Grid) (w t : ℕ) (regrets : List ℕ) (all : ℕ) (counts best new_regrets : List ℕ) (new_all : ℕ) (mixture : List ℕ) (low paid : ℤ) (reply : ℕ) → IsShaped m → IsBeforeRound m w t regrets all counts best low
+pub round_takes : (m : Grid) (w t : ℕ) (regrets : List ℕ) (all : ℕ) (counts best new_regrets : List ℕ) (new_all : ℕ) (mixture : List ℕ) (low paid : ℤ) (reply : ℕ)
+    → IsShaped m → IsBeforeRound m w t regrets all counts best low
     → IsRound m w t regrets new_regrets mixture reply paid → new_all ≡ sum new_regrets
     → (t ≡ 0) ⊎ (low <ℤ paid)
     → IsBeforeRound m w (t + 1) new_regrets new_all (set counts reply (get_or counts reply 0 + 1)) mixture paid
@@ -176,7 +181,8 @@ round_takes m w t regrets all counts best new_regrets new_all mixture low paid r
     }
 
 -- a round that keeps the best
-pub round_keeps : (m : Grid) (w t : ℕ) (regrets : List ℕ) (all : ℕ) (counts best new_regrets : List ℕ) (new_all : ℕ) (mixture : List ℕ) (low paid : ℤ) (reply : ℕ) → IsShaped m → IsBeforeRound m w t regrets all counts best low
+pub round_keeps : (m : Grid) (w t : ℕ) (regrets : List ℕ) (all : ℕ) (counts best new_regrets : List ℕ) (new_all : ℕ) (mixture : List ℕ) (low paid : ℤ) (reply : ℕ)
+    → IsShaped m → IsBeforeRound m w t regrets all counts best low
     → IsRound m w t regrets new_regrets mixture reply paid → new_all ≡ sum new_regrets
     → 0 < t → paid ≤ℤ low
     → IsBeforeRound m w (t + 1) new_regrets new_all (set counts reply (get_or counts reply 0 + 1)) best low
@@ -204,10 +210,12 @@ best_mixture_is m w h =
     let s = first_greatest w (floor_before m w) in
     ap (λ n. mixture_at rs (first_greatest n floor)) (length-rounds m w) ∙ ap (mixture_at rs) same ∙ mixture_at-rounds m w s (first_greatest-below w (floor_before m w) h)
 
-pub reply_counts_are : (m : Grid) (w : ℕ) (counts : List ℕ) → length counts ≡ m.cols → ((b : ℕ) → b < m.cols → get_or counts b 0 ≡ count_of w (reply_before m w) b) → counts ≡ reply_counts m (rounds m w)
+pub reply_counts_are : (m : Grid) (w : ℕ) (counts : List ℕ) → length counts ≡ m.cols
+    → ((b : ℕ) → b < m.cols → get_or counts b 0 ≡ count_of w (reply_before m w) b) → counts ≡ reply_counts m (rounds m w)
 reply_counts_are m w counts e h =
     same_number_lists counts (reply_counts m (rounds m w)) (e ∙ sym (length-reply_counts m (rounds m w)))
     (λ k l. let c : k < m.cols = omega arith in h k c ∙ sym (get_or-reply_counts m w k c))
 
-pub same_before : (m : Grid) (w t : ℕ) (regrets : List ℕ) (all : ℕ) (counts best best' : List ℕ) (low low' : ℤ) → best' ≡ best → low' ≡ low → IsBeforeRound m w t regrets all counts best low → IsBeforeRound m w t regrets all counts best' low'
+pub same_before : (m : Grid) (w t : ℕ) (regrets : List ℕ) (all : ℕ) (counts best best' : List ℕ) (low low' : ℤ) → best' ≡ best → low' ≡ low
+    → IsBeforeRound m w t regrets all counts best low → IsBeforeRound m w t regrets all counts best' low'
 same_before m w t regrets all counts best best' low low' e f b = rw e (rw f b)

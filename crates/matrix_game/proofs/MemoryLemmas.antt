@@ -9,7 +9,7 @@ use Rattle.lru.proofs.CallerLemmas.{Contains-lookup, Contains-promoted, Contains
 use Rattle.matrix_game.specs.declared.memory.StageKey.{StageKey}
 use Rattle.matrix_game.specs.declared.rounds.Solution.{Solution}
 use Rattle.matrix_game.specs.Grid.{Grid}
-use Rattle.matrix_game.specs.Memories.{IsKept, AreKept, raised_grid}
+use Rattle.matrix_game.specs.Memories.{AnswersKey, AreKept, raised_grid}
 use Rattle.matrix_game.specs.Rounds.{IsStage}
 
 both : (x y : Bool) → (x && y) ≡ true → (x ≡ true) × (y ≡ true)
@@ -21,7 +21,7 @@ abbrev pub is_same : StageKey → StageKey → Bool
 is_same a b = nat_eq a.total b.total && (nat_eq a.rows b.rows && (nat_eq a.cols b.cols && pointwise nat_eq a.cells.items b.cells.items))
 
 -- they ask for the same
-pub kept-same : (a b : StageKey) (p v : List ℕ) → is_same a b ≡ true → IsKept a p v ↔ IsKept b p v
+pub kept-same : (a b : StageKey) (p v : List ℕ) → is_same a b ≡ true → AnswersKey a p v ↔ AnswersKey b p v
 kept-same a b p v h =
     let t = both _ _ h in
     let r = both _ _ t.1 in
@@ -37,14 +37,15 @@ kept-same a b p v h =
       moved (raised_grid b.rows b.cols b.cells.items) (raised_grid a.rows a.cols a.cells.items) b.total a.total (sym grid) (sym total),
     )
 
-pub kept-found : (limit : ℕ) (c : LruCache StageKey Solution) (k : StageKey) (s : Solution) → AreKept limit c → lookup (is_same k) c.entries ≡ Some s → IsKept k s.p.items s.v.items
+pub kept-found : (limit : ℕ) (c : LruCache StageKey Solution) (k : StageKey) (s : Solution) → AreKept limit c → lookup (is_same k) c.entries ≡ Some s → AnswersKey k s.p.items s.v.items
 kept-found limit c k s are h =
     let e = Contains-lookup (is_same k) c.entries s h in
     (kept-same k e.0 s.p.items s.v.items e.2).1 (are.each e.0 s e.1)
 
 -- a copy of what was found
-pub kept-copied : {E : Type 0} (k : StageKey) (s : Solution) (r : Result Solution E) → IfOk r (λ x. x.p.items ≡ s.p.items) → IfOk r (λ x. x.v.items ≡ s.v.items) → IsKept k s.p.items s.v.items → IfSome (result_ok r) (λ x. IsKept k x.p.items x.v.items)
-kept-copied k s (Ok x) p v kept = subst (λ ns. IsKept k x.p.items ns) (sym v) (subst (λ ns. IsKept k ns s.v.items) (sym p) kept)
+pub kept-copied : {E : Type 0} (k : StageKey) (s : Solution) (r : Result Solution E) → IfOk r (λ x. x.p.items ≡ s.p.items)
+    → IfOk r (λ x. x.v.items ≡ s.v.items) → AnswersKey k s.p.items s.v.items → IfSome (result_ok r) (λ x. AnswersKey k x.p.items x.v.items)
+kept-copied k s (Ok x) p v kept = subst (λ ns. AnswersKey k x.p.items ns) (sym v) (subst (λ ns. AnswersKey k ns s.v.items) (sym p) kept)
 kept-copied k s (Err e) p v kept = tt
 
 pub kept-promoted : (limit : ℕ) (c : LruCache StageKey Solution) (k : StageKey) → AreKept limit c → AreKept limit (lru_cache (promoted (is_same k) c.entries) c.cap)
@@ -53,19 +54,21 @@ kept-promoted limit c k are = record {
   each = λ j s h. are.each j s (Contains-promoted (is_same k) c.entries (j, s) h);
 }
 
-pub kept-put : (limit : ℕ) (c : LruCache StageKey Solution) (k : StageKey) (s : Solution) → AreKept limit c → IsKept k s.p.items s.v.items → AreKept limit (lru_cache (put_entries is_same c k s) c.cap)
+pub kept-put : (limit : ℕ) (c : LruCache StageKey Solution) (k : StageKey) (s : Solution) → AreKept limit c → AnswersKey k s.p.items s.v.items
+    → AreKept limit (lru_cache (put_entries is_same c k s) c.cap)
 kept-put limit c k s are kept = record {
   cap = are.cap;
   each = λ j r h. elim (Contains-put_entries is_same c k s (j, r) h) [
     | inl old ↦ are.each j r old
-    | inr new ↦ subst (λ (x : Solution). IsKept j x.p.items x.v.items) (sym new.0) (elim new.1 [
-      | inl same ↦ subst (λ (x : StageKey). IsKept x s.p.items s.v.items) (sym same) kept
+    | inr new ↦ subst (λ (x : Solution). AnswersKey j x.p.items x.v.items) (sym new.0) (elim new.1 [
+      | inl same ↦ subst (λ (x : StageKey). AnswersKey x s.p.items s.v.items) (sym same) kept
       | inr other ↦ (kept-same k j s.p.items s.v.items other.2).0 kept
     ])
   ];
 }
 
 -- whether or not there was memory for it
-pub kept-after : {X E : Type 0} (limit : ℕ) (r : Result X E) (old new : LruCache StageKey Solution) (k : StageKey) (s : Solution) → OnOk r (new ≡ lru_cache (put_entries is_same old k s) old.cap) → OnErr r (new ≡ old) → AreKept limit old → IsKept k s.p.items s.v.items → AreKept limit new
+pub kept-after : {X E : Type 0} (limit : ℕ) (r : Result X E) (old new : LruCache StageKey Solution) (k : StageKey) (s : Solution)
+    → OnOk r (new ≡ lru_cache (put_entries is_same old k s) old.cap) → OnErr r (new ≡ old) → AreKept limit old → AnswersKey k s.p.items s.v.items → AreKept limit new
 kept-after limit (Ok x) old new k s ok err are kept = subst (AreKept limit) (sym ok) (kept-put limit old k s are kept)
 kept-after limit (Err e) old new k s ok err are kept = subst (AreKept limit) (sym err) are

@@ -159,8 +159,10 @@ shared_all w all q p left ea h same shared =
     same_number_lists (set p 0 left) (mixture_of w q) (length-set p 0 left ∙ same ∙ sym (length-mixture_of w q))
     (λ k b. elim (cases_eq k 0) [
       | inl z ↦ let in_p : 0 < length p = omega arith in
-          ap (λ i. get_or (set p 0 left) i 0) z ∙ get_or-set_same p 0 left 0 in_p ∙ omega (arith, shared.left_over, parts, whole, shares-le n w (λ a. get_or q a 0), adds.first) ∙ ap (λ i. get_or (mixture_of w q) i 0) (sym z)
+          ap (λ i. get_or (set p 0 left) i 0) z ∙ get_or-set_same p 0 left 0 in_p
+          ∙ omega (arith, shared.left_over, parts, whole, shares-le n w (λ a. get_or q a 0), adds.first) ∙ ap (λ i. get_or (mixture_of w q) i 0) (sym z)
       | inr z ↦ let in_q : k < n = omega (arith, length-set p 0 left) in
           let s : k ≡ suc (k - 1) = omega arith in
-          get_or-set_other p 0 k left 0 z ∙ shared.written k (omega arith) in_q ∙ part_of-share n w all q k ea refl in_q ∙ ap f s ∙ sym (adds.others (k - 1) (omega arith)) ∙ ap (λ i. get_or (mixture_of w q) i 0) (sym s)
+          get_or-set_other p 0 k left 0 z ∙ shared.written k (omega arith) in_q ∙ part_of-share n w all q k ea refl in_q ∙ ap f s
+          ∙ sym (adds.others (k - 1) (omega arith)) ∙ ap (λ i. get_or (mixture_of w q) i 0) (sym s)
     ])

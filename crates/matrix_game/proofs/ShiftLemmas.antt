@@ -111,7 +111,8 @@ best-shifted k m w s =
     let weight : (t : ℕ) → t < length rs → count_below m.rows (λ a. get_or (mixture_at rs t) a 0) ≡ w = λ t h.
     ap (λ p. count_below m.rows (λ a. get_or p a 0)) (mixture_at-rounds m w t (omega (arith, length-rounds m w))) ∙ weight_before m w t s in
     ap (best_mixture n) (rounds-shifted k m w s)
-    ∙ ap (mixture_at rs) (greatest-shifted (length rs) (pos w *ℤ k) (λ t. row_floor m (mixture_at rs t)) (λ t. row_floor n (mixture_at rs t)) (λ t h. floor-shifted k m w (mixture_at rs t) s (weight t h)))
+    ∙ ap (mixture_at rs) (greatest-shifted (length rs) (pos w *ℤ k) (λ t. row_floor m (mixture_at rs t)) (λ t. row_floor n (mixture_at rs t))
+    (λ t h. floor-shifted k m w (mixture_at rs t) s (weight t h)))
 
 counts-shifted : (k : ℤ) (m : Grid) (w : ℕ) → IsShaped m → reply_counts (shifted k m) (rounds (shifted k m) w) ≡ reply_counts m (rounds m w)
 unfolding reply_counts
@@ -162,7 +163,8 @@ shift_law k w m s = record {
 }
 
 -- ---- a matrix and its cells less the least of them
-pub raised_cells : (cells : List ℤ) (others : List ℕ) (k : ℤ) → length cells ≡ length others → ((i : ℕ) → i < length others → get_or cells i (pos 0) ≡ pos (get_or others i 0) +ℤ k) → cells ≡ map (λ z. z +ℤ k) (map pos others)
+pub raised_cells : (cells : List ℤ) (others : List ℕ) (k : ℤ) → length cells ≡ length others
+    → ((i : ℕ) → i < length others → get_or cells i (pos 0) ≡ pos (get_or others i 0) +ℤ k) → cells ≡ map (λ z. z +ℤ k) (map pos others)
 raised_cells cells others k e h =
     let all : length cells ≡ length (map (λ z. z +ℤ k) (map pos others)) = e ∙ sym (length-map (map pos others) (λ z. z +ℤ k) ∙ length-map others pos) in
     ext_get_or (pos 0) cells (map (λ z. z +ℤ k) (map pos others)) all
@@ -171,7 +173,8 @@ raised_cells cells others k e h =
     h i in_others ∙ sym (get_or-map (λ z. z +ℤ k) (map pos others) i (pos 0) (pos 0) in_mapped ∙ ap (λ z. z +ℤ k) (get_or-map pos others i 0 (pos 0) in_others)))
 
 -- its answers are those of the cells less the least of them
-pub raised-stage : (m : Grid) (rows cols : ℕ) (cells : List ℕ) (k : ℤ) (w : ℕ) (p v : List ℕ) → IsShaped m → m ≡ shifted k (raised_grid rows cols cells) → IsStage (raised_grid rows cols cells) w p v ↔ IsStage m w p v
+pub raised-stage : (m : Grid) (rows cols : ℕ) (cells : List ℕ) (k : ℤ) (w : ℕ) (p v : List ℕ) → IsShaped m
+    → m ≡ shifted k (raised_grid rows cols cells) → IsStage (raised_grid rows cols cells) w p v ↔ IsStage m w p v
 raised-stage m rows cols cells k w p v s e =
     let g = raised_grid rows cols cells in
     let shaped : IsShaped (shifted k g) = subst IsShaped e s in

@@ -1,5 +1,5 @@
 -- Saddles, and what each answer of a stage has.
-use Rattle.std.proofs.Common.{◌≡◌, ℕ, ◌+◌, ◌*◌, ◌<◌, ◌≤◌, sym, ap, subst, ◌∙◌, arith, inl, inr, List, length, get_or, cond, nat_eq, replicate, zero, suc, ℤ, pos, ◌*ℤ◌, unsigned_abs}
+use Rattle.std.proofs.Common.{◌≡◌, ℕ, ◌+◌, ◌*◌, ◌<◌, ◌≤◌, refl, sym, ap, subst, ◌∙◌, arith, inl, inr, List, length, get_or, cond, nat_eq, replicate, zero, suc, ℤ, pos, ◌*ℤ◌, unsigned_abs}
 use Rattle.std.proofs.Math.ListN.{set}
 use Rattle.std.proofs.Math.Nat.{mul-le-mul_left, mul-le-mul_right}
 use Rattle.std.proofs.lemmas.Int.{ints, unsigned_abs-mul}
@@ -12,11 +12,12 @@ use Rattle.sums.specs.Sums.{count_below}
 use Rattle.matrix_game.proofs.FirstLemmas.{first_least-below, first_greatest-below}
 use Rattle.matrix_game.proofs.Lists.{sum-count}
 use Rattle.matrix_game.proofs.Mixtures.{length-mixture_of}
-use Rattle.matrix_game.proofs.Law.{weight_before, length-regrets_before, weight-reply_counts, length-reply_counts, get_or-all_on, weight-all_on, stage_law, resolution_law}
+use Rattle.matrix_game.proofs.Law.{weight_before, length-regrets_before, weight-reply_counts, length-reply_counts, get_or-all_on, weight-all_on, stage_law, resolution_of}
 use Rattle.matrix_game.proofs.Loop.{floor_before, best_mixture_is}
 use Rattle.sums.specs.Sums.{sum_below}
 use Rattle.matrix_game.specs.Grid.{Grid, IsShaped, IsMatrix, IsSaddle, IsFirstSaddle, cell_at, column_sum, row_sum, best_reply, row_floor, col_ceiling, first_greatest}
-use Rattle.matrix_game.specs.Rounds.{regrets_before, rounds, all_on, IsStage, pure, mixed, IsWeighted, IsSolved}
+use Rattle.matrix_game.specs.Plans.{AreStagePlans, plans_by}
+use Rattle.matrix_game.specs.Rounds.{regrets_before, rounds, all_on, IsStage, pure, mixed, IsWeighted, HasSmallGap}
 
 pub all_on_written : (n i w : ℕ) (xs : List ℕ) → i < n → xs ≡ replicate n 0 → set xs i w ≡ all_on n i w
 all_on_written n i w xs h e =
@@ -105,23 +106,26 @@ row_floor-small m w p i h =
     let s = weighted_sum-small m.rows 4000000000 (λ a. get_or p a 0) (λ a. cell_at m a b) (λ a l. cell-small m a b i l b_in) in
     omega (arith, s, ap (λ t. 4000000000 * t) (weights_sum m.rows w p h))
 
-col_ceiling-small : (m : Grid) (w : ℕ) (v : List ℕ) → IsMatrix m → IsWeighted m.cols w v → unsigned_abs (col_ceiling m v) ≤ 4000000000 * w
+pub col_ceiling-small : (m : Grid) (w : ℕ) (v : List ℕ) → IsMatrix m → IsWeighted m.cols w v → unsigned_abs (col_ceiling m v) ≤ 4000000000 * w
 col_ceiling-small m w v i h =
     let a = first_greatest m.rows (row_sum m v) in
     let a_in : a < m.rows = first_greatest-below m.rows (row_sum m v) (omega (arith, i.shaped.some_row)) in
     let s = weighted_sum-small m.cols 4000000000 (λ b. get_or v b 0) (λ b. cell_at m a b) (λ b l. cell-small m a b i a_in l) in
     omega (arith, s, ap (λ t. 4000000000 * t) (weights_sum m.cols w v h))
 
-pub stage-solved : (m : Grid) (w : ℕ) (p v : List ℕ) → IsMatrix m → 0 < w → IsStage m w p v → IsSolved m w p v
-stage-solved m w p v i h stage =
-    let rows = stage-rows m w p v i.shaped h stage in
-    let cols = stage-cols m w p v i.shaped stage in
-    record {
-      stage = stage;
-      rows = rows;
-      cols = cols;
-      gap = stage_law m w p v i.shaped stage;
-      resolution = resolution_law m w p v i.shaped stage;
-      small_low = row_floor-small m w p i rows;
-      small_high = col_ceiling-small m w v i cols;
-    }
+-- weights that keep the stage law
+pub plans_of_gap : (m : Grid) (w : ℕ) (p v : List ℕ) → IsMatrix m → IsWeighted m.rows w p → IsWeighted m.cols w v
+    → HasSmallGap m w (row_floor m p) (col_ceiling m v) → AreStagePlans m w (plans_by m p v)
+plans_of_gap m w p v i rows cols gap = record {
+  rows = rows;
+  cols = cols;
+  low = refl;
+  high = refl;
+  gap = gap;
+  resolution = resolution_of m w (row_floor m p) (col_ceiling m v) gap;
+  small_low = row_floor-small m w p i rows;
+  small_high = col_ceiling-small m w v i cols;
+}
+
+pub plans_of_stage : (m : Grid) (w : ℕ) (p v : List ℕ) → IsMatrix m → 0 < w → IsStage m w p v → AreStagePlans m w (plans_by m p v)
+plans_of_stage m w p v i h stage = plans_of_gap m w p v i (stage-rows m w p v i.shaped h stage) (stage-cols m w p v i.shaped stage) (stage_law m w p v i.shaped stage)

@@ -1,5 +1,7 @@
 -- Matrix games: the cells, what weights pay, and saddles.
 use Rattle.std.specs.Prelude.{◌≡◌, ℕ, zero, suc, ◌+◌, ◌*◌, ◌<◌, ◌≤◌, List, length, slice_index, slice_index_or, ℤ, pos, neg_ℤ, ◌+ℤ◌, ◌*ℤ◌, ◌≤ℤ◌, int_lt, unsigned_abs, if◌then◌else◌}
+use Rattle.sums.specs.declared.TheConstants.{MOST_BOUND}
+use Rattle.matrix_game.specs.declared.TheConstants.{MOST_MOVES}
 use Rattle.sums.specs.Sums.{sum_below}
 
 -- the payoffs of a game to player one, row by row
@@ -66,34 +68,34 @@ pub record IsShaped (m : Grid) : Type 0 where
 -- a shape that a matrix may have, with n cells
 pub record HasGoodShape (rows cols n : ℕ) : Type 0 where
   pub some_row : 1 ≤ rows
-  pub few_rows : rows ≤ 32
+  pub few_rows : rows ≤ MOST_MOVES
   pub some_col : 1 ≤ cols
-  pub few_cols : cols ≤ 32
+  pub few_cols : cols ≤ MOST_MOVES
   pub all_cells : n ≡ rows * cols
 
 -- a cell that a matrix may have
-abbrev pub IsSmall : ℤ → Type 0
-IsSmall z = unsigned_abs z ≤ 4000000000
+abbrev pub IsSmallCell : ℤ → Type 0
+IsSmallCell z = unsigned_abs z ≤ MOST_BOUND
 
 -- the first cell that a matrix may not have
 pub record IsFirstLarge (cells : List ℤ) (place : ℕ) : Type 0 where
   pub place_in : place < length cells
-  pub large : 4000000000 < unsigned_abs (slice_index_or cells place (pos 0))
-  pub first : (i : ℕ) → i < place → IsSmall (slice_index_or cells i (pos 0))
+  pub large : MOST_BOUND < unsigned_abs (slice_index_or cells place (pos 0))
+  pub first : (i : ℕ) → i < place → IsSmallCell (slice_index_or cells i (pos 0))
 
 -- within the sizes that a matrix may have
 pub record IsMatrix (m : Grid) : Type 0 where
   pub shaped : IsShaped m
-  pub few_rows : m.rows ≤ 32
-  pub few_cols : m.cols ≤ 32
-  pub small_cells : (i : ℕ) → i < length m.cells → IsSmall (slice_index_or m.cells i (pos 0))
+  pub few_rows : m.rows ≤ MOST_MOVES
+  pub few_cols : m.cols ≤ MOST_MOVES
+  pub small_cells : (i : ℕ) → i < length m.cells → IsSmallCell (slice_index_or m.cells i (pos 0))
 
 -- no two cells differ by more than d
 abbrev pub IsSpread : Grid → ℕ → Type 0
 IsSpread m d = (i j : ℕ) → i < length m.cells → j < length m.cells → slice_index_or m.cells i (pos 0) ≤ℤ (slice_index_or m.cells j (pos 0) +ℤ pos d)
 
 -- the regrets of w rounds, each gained with the weight w, together stay below the limit, by a bound on what two cells differ by
-pub record HasRoom (m : Grid) (w limit : ℕ) : Type 0 where
+pub record HasRegretRoom (m : Grid) (w limit : ℕ) : Type 0 where
   pub spread : ℕ
   pub is_spread : IsSpread m spread
   pub fits : m.rows * (w * (w * spread)) < limit

@@ -3,5 +3,7 @@ pub mod Budget
 pub mod Grid
 pub mod Heights
 pub mod Memories
+pub mod Plans
 pub mod Rounds
 pub mod Shifts
+pub mod Solvers

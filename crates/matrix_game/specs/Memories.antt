@@ -16,10 +16,10 @@ abbrev pub raised_grid : ℕ → ℕ → List ℕ → Grid
 raised_grid rows cols cells = record { rows = rows; cols = cols; cells = map pos cells }
 
 -- the weights p of the rows and v of the columns answer what the key says
-abbrev pub IsKept : StageKey → List ℕ → List ℕ → Type 0
-IsKept k p v = IsStage (raised_grid k.rows k.cols k.cells.items) k.total p v
+abbrev pub AnswersKey : StageKey → List ℕ → List ℕ → Type 0
+AnswersKey k p v = IsStage (raised_grid k.rows k.cols k.cells.items) k.total p v
 
 -- room for so many entries, and each has the weights of its key
 pub record AreKept (limit : ℕ) (stages : LruCache StageKey Solution) : Type 0 where
   pub cap : stages.cap ≡ limit
-  pub each : (k : StageKey) (s : Solution) → Contains stages.entries (k, s) → IsKept k s.p.items s.v.items
+  pub each : (k : StageKey) (s : Solution) → Contains stages.entries (k, s) → AnswersKey k s.p.items s.v.items

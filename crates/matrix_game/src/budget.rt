@@ -1,7 +1,7 @@
 //! A budget of turns.
 
 ghost use Rattle.std.specs.Prelude.{◌≡◌, ◌<◌, ◌≤◌};
-ghost use Rattle.matrix_game.specs.Budget.{left_of, after_turn};
+ghost use Rattle.matrix_game.specs.Budget.{left_of, after_one_turn};
 
 use std::marker::Model;
 
@@ -56,7 +56,7 @@ impl Turns {
 
     pub(crate) fn spend(&mut self)
         requires { 0 < left_of self.old }
-        ensures { self.new ≡ after_turn self.old }
+        ensures { self.new ≡ after_one_turn self.old }
     {
         self.spent += 1;
     }

@@ -1,7 +1,8 @@
 //! The cells of a matrix, what weights pay in them, and its saddles.
 
-ghost use Rattle.std.specs.Prelude.{◌≡◌, ◌↔◌, ℕ, IsTrue, IsOk, IfOk, IfSome, IfNone, ◌+◌, ◌*◌, ◌<◌, ◌≤◌, length, All, pos, ◌*ℤ◌, unsigned_abs, slice_index_or, ◌≤ℤ◌};
-ghost use Rattle.matrix_game.specs.Grid.{IsSaddle, IsFirstSaddle, HasGoodShape, IsSmall, IsFirstLarge, cell_at, column_sum, row_sum, best_reply, row_floor, col_ceiling};
+ghost use Rattle.std.specs.Prelude.{◌≡◌, ◌↔◌, ℕ, IsTrue, IsOk, IfOk, IfSome, IfNone, ◌+◌, ◌*◌, ◌<◌, ◌≤◌, length, All, pos, ◌+ℤ◌, ◌*ℤ◌, unsigned_abs, slice_index_or, ◌≤ℤ◌};
+ghost use Rattle.sums.specs.declared.TheConstants.{MOST_WEIGHT, MOST_BOUND};
+ghost use Rattle.matrix_game.specs.Grid.{IsSaddle, IsFirstSaddle, HasGoodShape, IsSmallCell, IsFirstLarge, IsSpread, cell_at, column_sum, row_sum, best_reply, row_floor, col_ceiling};
 
 use crate::MOST_MOVES;
 use std::marker::Model;
@@ -56,10 +57,10 @@ impl Matrix {
     /// The matrix with these cells, which stand row by row. Takes no memory.
     pub fn new(rows: u32, cols: u32, cells: Vec<i64>) -> Result<Matrix, ShapeError>
         ensures matrix { IfOk result (λ m. m ≡ record { rows = rows; cols = cols; cells = cells.items }) }
-        ensures ok { IsOk result ↔ (HasGoodShape rows cols (length cells.items) × All IsSmall cells.items) }
+        ensures ok { IsOk result ↔ (HasGoodShape rows cols (length cells.items) × All IsSmallCell cells.items) }
         ensures shape { (result ≡ Err ShapeError.BadShape) ↔ (HasGoodShape rows cols (length cells.items) → ⊥) }
-        ensures range { (place : ℕ) →
-            result ≡ Err (ShapeError.CellRange place) → HasGoodShape rows cols (length cells.items) × IsFirstLarge cells.items place }
+        ensures range { (place : ℕ) → result ≡ Err (ShapeError.CellRange place)
+            → HasGoodShape rows cols (length cells.items) × IsFirstLarge cells.items place }
     {
         if rows == 0 || rows > MOST_MOVES || cols == 0 || cols > MOST_MOVES {
             return Err(ShapeError::BadShape);
@@ -118,10 +119,12 @@ impl Matrix {
 
     pub(crate) fn range(&self) -> CellRange
         ensures above { (i : ℕ) → i < length self.now.cells → result.least ≤ℤ slice_index_or self.now.cells i (pos 0) }
-        ensures below { (i : ℕ) → i < length self.now.cells → slice_index_or self.now.cells i (pos 0) ≤ℤ result.greatest }
-        ensures small_least { unsigned_abs result.least ≤ 4000000000 }
-        ensures small_greatest { unsigned_abs result.greatest ≤ 4000000000 }
+        ensures below { (i : ℕ) → i < length self.now.cells
+            → slice_index_or self.now.cells i (pos 0) ≤ℤ result.greatest }
+        ensures small_least { unsigned_abs result.least ≤ MOST_BOUND }
+        ensures small_greatest { unsigned_abs result.greatest ≤ MOST_BOUND }
         ensures ordered { result.least ≤ℤ result.greatest }
+        ensures closest { (d : ℕ) → IsSpread self.now d → result.greatest ≤ℤ (result.least +ℤ pos d) }
     {
         let mut least = self.cells[0];
         let mut greatest = least;
@@ -136,14 +139,14 @@ impl Matrix {
         requires row_in { row < self.now.rows }
         requires col_in { col < self.now.cols }
         ensures value { result ≡ cell_at self.now row col }
-        ensures small { unsigned_abs result ≤ 4000000000 }
+        ensures small { unsigned_abs result ≤ MOST_BOUND }
     {
         self.cells[row * self.cols + col]
     }
 
     // A cell's part of a sum.
     pub(crate) fn weighted(&self, weight: u32, row: usize, col: usize) -> i64
-        requires light { weight ≤ 1048576 }
+        requires light { weight ≤ MOST_WEIGHT }
         requires row_in { row < self.now.rows }
         requires col_in { col < self.now.cols }
         ensures value { result ≡ pos weight *ℤ cell_at self.now row col }
@@ -155,7 +158,7 @@ impl Matrix {
     // What the weights of the rows pay in a column.
     fn column_sum(&self, p: &[u32], col: usize) -> i64
         requires weights { length p.now ≡ self.now.rows }
-        requires light { All (λ x. x ≤ 1048576) p.now }
+        requires light { All (λ x. x ≤ MOST_WEIGHT) p.now }
         requires col_in { col < self.now.cols }
         ensures value { result ≡ column_sum self.now p.now col }
         ensures bounded { unsigned_abs result ≤ 134217728000000000 }
@@ -170,7 +173,7 @@ impl Matrix {
     // What the weights of the columns pay in a row.
     fn row_sum(&self, v: &[u32], row: usize) -> i64
         requires weights { length v.now ≡ self.now.cols }
-        requires light { All (λ x. x ≤ 1048576) v.now }
+        requires light { All (λ x. x ≤ MOST_WEIGHT) v.now }
         requires row_in { row < self.now.rows }
         ensures value { result ≡ row_sum self.now v.now row }
     {
@@ -184,7 +187,7 @@ impl Matrix {
     // The first column in which the weights of the rows pay least.
     pub(crate) fn best_reply(&self, p: &[u32]) -> Reply
         requires weights { length p.now ≡ self.now.rows }
-        requires light { All (λ x. x ≤ 1048576) p.now }
+        requires light { All (λ x. x ≤ MOST_WEIGHT) p.now }
         ensures col { result.col ≡ best_reply self.now p.now }
         ensures paid { result.paid ≡ row_floor self.now p.now }
         ensures col_in { result.col < self.now.cols }
@@ -207,7 +210,7 @@ impl Matrix {
     /// The least that the weights `p` of the rows pay in a column.
     pub fn row_floor(&self, p: &[u32]) -> i64
         requires weights { length p.now ≡ self.now.rows }
-        requires light { All (λ x. x ≤ 1048576) p.now }
+        requires light { All (λ x. x ≤ MOST_WEIGHT) p.now }
         ensures { result ≡ row_floor self.now p.now }
     {
         self.best_reply(p).paid
@@ -216,7 +219,7 @@ impl Matrix {
     /// The greatest that the weights `v` of the columns pay in a row.
     pub fn col_ceiling(&self, v: &[u32]) -> i64
         requires weights { length v.now ≡ self.now.cols }
-        requires light { All (λ x. x ≤ 1048576) v.now }
+        requires light { All (λ x. x ≤ MOST_WEIGHT) v.now }
         ensures { result ≡ col_ceiling self.now v.now }
     {
         let rows = self.rows;

@@ -1,6 +1,8 @@
 //! The cells of a matrix, laid out so that eight of its columns are summed at once.
 
 ghost use Rattle.std.specs.Prelude.{◌≡◌, ℕ, IfOk, IfSome, ◌+◌, ◌*◌, ◌<◌, ◌≤◌, length, pos, slice_index, slice_index_or, sum, replicate, All, ◌+ℤ◌, ◌≤ℤ◌, ◌<ℤ◌, unsigned_abs};
+ghost use Rattle.sums.specs.declared.TheConstants.{MOST_WEIGHT, MOST_BOUND};
+ghost use Rattle.matrix_game.specs.declared.TheConstants.{MOST_MOVES};
 ghost use Rattle.sums.specs.Sums.{count_below};
 ghost use Rattle.matrix_game.specs.Grid.{cell_at, best_reply, row_floor, first_least};
 ghost use Rattle.matrix_game.specs.Heights.{AreHeights};
@@ -26,13 +28,14 @@ impl Heights {
     // What the weights pay in the columns of a block, over the heights.
     fn block_sums(&self, p: &[u32], block: usize) -> u64x8
         requires all { length self.now.cells.items ≡ self.now.rows * (8 * self.now.blocks) }
-        requires few_rows { self.now.rows ≤ 32 }
-        requires narrow { 8 * self.now.blocks ≤ 32 }
+        requires few_rows { self.now.rows ≤ MOST_MOVES }
+        requires narrow { 8 * self.now.blocks ≤ MOST_MOVES }
         requires block_in { block < self.now.blocks }
         requires weights { length p.now ≡ self.now.rows }
-        requires light { All (λ x. x ≤ 1048576) p.now }
+        requires light { All (λ x. x ≤ MOST_WEIGHT) p.now }
         ensures eight { length result ≡ 8 }
-        ensures sums { (k : ℕ) → k < 8 → slice_index result k ≡ count_below self.now.rows (λ a. slice_index p.now a * slice_index self.now.cells.items (a * (8 * self.now.blocks) + (8 * block + k))) }
+        ensures sums { (k : ℕ) → k < 8 → slice_index result k ≡ count_below self.now.rows (λ a.
+            slice_index p.now a * slice_index self.now.cells.items (a * (8 * self.now.blocks) + (8 * block + k))) }
     {
         let mut sums = u64x8::splat(0);
         for row in 0..self.rows {
@@ -51,12 +54,13 @@ impl Heights {
     // What the weights pay in each column, over the heights.
     fn sum_rows(&self, p: &[u32], sums: &mut [u64])
         requires all { length self.now.cells.items ≡ self.now.rows * (8 * self.now.blocks) }
-        requires few_rows { self.now.rows ≤ 32 }
-        requires narrow { 8 * self.now.blocks ≤ 32 }
+        requires few_rows { self.now.rows ≤ MOST_MOVES }
+        requires narrow { 8 * self.now.blocks ≤ MOST_MOVES }
         requires weights { length p.now ≡ self.now.rows }
-        requires light { All (λ x. x ≤ 1048576) p.now }
+        requires light { All (λ x. x ≤ MOST_WEIGHT) p.now }
         requires sums { length sums.old ≡ 32 }
-        ensures { (k : ℕ) → k < 8 * self.now.blocks → slice_index sums.new k ≡ count_below self.now.rows (λ a. slice_index p.now a * slice_index self.now.cells.items (a * (8 * self.now.blocks) + k)) }
+        ensures { (k : ℕ) → k < 8 * self.now.blocks → slice_index sums.new k ≡ count_below self.now.rows (λ a.
+            slice_index p.now a * slice_index self.now.cells.items (a * (8 * self.now.blocks) + k)) }
     {
         for block in 0..self.blocks {
             let lanes = self.block_sums(p, block);
@@ -68,11 +72,12 @@ impl Heights {
 // The sums, with what the eight heights from a place on pay with a weight.
 fn with_row(sums: u64x8, cells: &[u32], first: usize, weight: u32) -> u64x8
     requires first_in { first + 8 ≤ length cells.now }
-    requires light { weight ≤ 1048576 }
+    requires light { weight ≤ MOST_WEIGHT }
     requires eight { length sums ≡ 8 }
     requires room { (k : ℕ) → k < 8 → slice_index sums k ≤ 1152921504606846976 }
     ensures eight { length result ≡ 8 }
-    ensures added { (k : ℕ) → k < 8 → slice_index result k ≡ slice_index sums k + weight * slice_index cells.now (first + k) }
+    ensures added { (k : ℕ) → k < 8
+        → slice_index result k ≡ slice_index sums k + weight * slice_index cells.now (first + k) }
     ensures small { (k : ℕ) → k < 8 → slice_index result k ≤ slice_index sums k + 4503599627370496 }
 {
     let heights: u64x8 = u32x8::from_slice(&cells[first..]).cast();
@@ -101,9 +106,10 @@ impl Matrix {
     // How far a cell is above the least one, and 0 beside the matrix.
     fn height(&self, row: usize, col: usize, least: i64) -> u32
         requires row_in { row < self.now.rows }
-        requires small { unsigned_abs least ≤ 4000000000 }
+        requires small { unsigned_abs least ≤ MOST_BOUND }
         requires least { (i : ℕ) → i < length self.now.cells → least ≤ℤ slice_index_or self.now.cells i (pos 0) }
-        requires close { (i : ℕ) → i < length self.now.cells → slice_index_or self.now.cells i (pos 0) <ℤ (least +ℤ pos 4294967296) }
+        requires close { (i : ℕ) → i < length self.now.cells
+            → slice_index_or self.now.cells i (pos 0) <ℤ (least +ℤ pos 4294967296) }
         ensures { col < self.now.cols → cell_at self.now row col ≡ pos result +ℤ least }
     {
         if col < self.cols {
@@ -116,10 +122,11 @@ impl Matrix {
     // The heights, row by row, each row of the width.
     fn filled(&self, alloc: Global, least: i64, width: usize) -> Result<Vec<u32>, AllocError>
         requires all { self.now.cols ≤ width }
-        requires narrow { width ≤ 32 }
-        requires small { unsigned_abs least ≤ 4000000000 }
+        requires narrow { width ≤ MOST_MOVES }
+        requires small { unsigned_abs least ≤ MOST_BOUND }
         requires least { (i : ℕ) → i < length self.now.cells → least ≤ℤ slice_index_or self.now.cells i (pos 0) }
-        requires close { (i : ℕ) → i < length self.now.cells → slice_index_or self.now.cells i (pos 0) <ℤ (least +ℤ pos 4294967296) }
+        requires close { (i : ℕ) → i < length self.now.cells
+            → slice_index_or self.now.cells i (pos 0) <ℤ (least +ℤ pos 4294967296) }
         ensures { IfOk result (λ heights. AreHeights self.now least width heights.items) }
     {
         let count = self.rows * width;
@@ -132,9 +139,10 @@ impl Matrix {
 
     /// The heights of the cells, where they serve and fit.
     pub(crate) fn heights(&self, alloc: Global) -> Result<Option<Heights>, AllocError>
-        ensures cells { IfOk result (λ found. IfSome found (λ h. AreHeights self.now h.least (8 * h.blocks) h.cells.items)) }
+        ensures cells { IfOk result (λ found. IfSome found
+            (λ h. AreHeights self.now h.least (8 * h.blocks) h.cells.items)) }
         ensures rows { IfOk result (λ found. IfSome found (λ h. h.rows ≡ self.now.rows)) }
-        ensures small { IfOk result (λ found. IfSome found (λ h. unsigned_abs h.least ≤ 4000000000)) }
+        ensures small { IfOk result (λ found. IfSome found (λ h. unsigned_abs h.least ≤ MOST_BOUND)) }
     {
         let range = self.range();
         let least = range.least;
@@ -156,11 +164,11 @@ impl Matrix {
     fn lane_reply(&self, weight: u32, p: &[u32], heights: &Heights) -> Reply
         requires cells { AreHeights self.now heights.now.least (8 * heights.now.blocks) heights.now.cells.items }
         requires rows { heights.now.rows ≡ self.now.rows }
-        requires small { unsigned_abs heights.now.least ≤ 4000000000 }
+        requires small { unsigned_abs heights.now.least ≤ MOST_BOUND }
         requires weights { length p.now ≡ self.now.rows }
-        requires light { All (λ x. x ≤ 1048576) p.now }
+        requires light { All (λ x. x ≤ MOST_WEIGHT) p.now }
         requires weight { sum p.now ≡ weight }
-        requires light_weight { weight ≤ 1048576 }
+        requires light_weight { weight ≤ MOST_WEIGHT }
         ensures col { result.col ≡ best_reply self.now p.now }
         ensures paid { result.paid ≡ row_floor self.now p.now }
         ensures col_in { result.col < self.now.cols }
@@ -178,11 +186,11 @@ impl Matrix {
     pub(crate) fn reply(&self, weight: u32, p: &[u32], heights: &Option<Heights>) -> Reply
         requires cells { IfSome heights.now (λ h. AreHeights self.now h.least (8 * h.blocks) h.cells.items) }
         requires rows { IfSome heights.now (λ h. h.rows ≡ self.now.rows) }
-        requires small { IfSome heights.now (λ h. unsigned_abs h.least ≤ 4000000000) }
+        requires small { IfSome heights.now (λ h. unsigned_abs h.least ≤ MOST_BOUND) }
         requires weights { length p.now ≡ self.now.rows }
-        requires light { All (λ x. x ≤ 1048576) p.now }
+        requires light { All (λ x. x ≤ MOST_WEIGHT) p.now }
         requires weight { sum p.now ≡ weight }
-        requires light_weight { weight ≤ 1048576 }
+        requires light_weight { weight ≤ MOST_WEIGHT }
         ensures col { result.col ≡ best_reply self.now p.now }
         ensures paid { result.paid ≡ row_floor self.now p.now }
         ensures col_in { result.col < self.now.cols }
@@ -197,7 +205,7 @@ impl Matrix {
 
 /// How far the cell is above the least one.
 pub(crate) fn above(cell: i64, least: i64) -> u32
-    requires small { unsigned_abs least ≤ 4000000000 }
+    requires small { unsigned_abs least ≤ MOST_BOUND }
     requires least { least ≤ℤ cell }
     requires close { cell <ℤ (least +ℤ pos 4294967296) }
     ensures { cell ≡ pos result +ℤ least }

@@ -1,4 +1,5 @@
-//! Matrix games with two players and whole payoffs, solved by regret matching plus against best replies.
+//! Matrix games with two players and whole payoffs, solved by regret matching plus against best replies, or by linear
+//! programs in floats whose answers are tested exactly.
 #![tactic(auto)]
 
 ghost use Rattle.matrix_game.specs.Rounds.{ResolutionLaw, StageLaw};
@@ -7,15 +8,21 @@ ghost use Rattle.matrix_game.specs.Shifts.{ShiftLaw};
 mod budget;
 mod cells;
 mod heights;
+mod linear;
 mod memory;
+mod payoffs;
 mod regrets;
+mod rounding;
 mod rounds;
 mod shares;
+mod solver;
 mod stage;
+mod tableau;
 
 pub use budget::Turns;
 pub use cells::{Matrix, ShapeError};
 pub use memory::StageMemory;
+pub use solver::{SolverKind, StageSolver};
 pub use stage::{StageError, StagePlans};
 
 /// The greatest number of rows and of columns.
@@ -36,6 +43,3 @@ pub fn resolution_law()
 pub fn shift_law()
     ensures { ShiftLaw }
 {}
-
-#[cfg(test)]
-mod tests;

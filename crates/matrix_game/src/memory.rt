@@ -1,7 +1,8 @@
 //! A bounded memory of matrices that were solved by rounds.
 
 ghost use Rattle.std.specs.Prelude.{◌≡◌, ℕ, ◌↔◌, IfOk, IfSome, ◌<◌, ◌≤◌, length, map, pos, slice_index_or, ◌+ℤ◌, ◌≤ℤ◌, ◌<ℤ◌, unsigned_abs, ℤ, List, Contains};
-ghost use Rattle.matrix_game.specs.Memories.{AreKept, IsKept};
+ghost use Rattle.sums.specs.declared.TheConstants.{MOST_BOUND};
+ghost use Rattle.matrix_game.specs.Memories.{AreKept, AnswersKey};
 ghost use Rattle.matrix_game.specs.Rounds.{IsStage};
 
 use crate::cells::Matrix;
@@ -49,7 +50,7 @@ impl Model for StageMemory {
 
 // The cells with the least one taken from each.
 fn lowered(alloc: Global, cells: &[i64], least: i64) -> Result<Vec<u32>, AllocError>
-    requires small { unsigned_abs least ≤ 4000000000 }
+    requires small { unsigned_abs least ≤ MOST_BOUND }
     requires least { (i : ℕ) → i < length cells.now → least ≤ℤ slice_index_or cells.now i (pos 0) }
     requires close { (i : ℕ) → i < length cells.now → slice_index_or cells.now i (pos 0) <ℤ (least +ℤ pos 4294967296) }
     ensures { IfOk result (λ others. cells.now ≡ map (λ z. z +ℤ least) (map pos others.items)) }
@@ -64,7 +65,7 @@ fn lowered(alloc: Global, cells: &[i64], least: i64) -> Result<Vec<u32>, AllocEr
 // The weights of the key, which becomes the most recently used: None where there are none, or no memory for a copy.
 fn found(stages: &mut Stages, key: &StageKey) -> Option<Solution>
     requires { AreKept stages.old.cap stages.old }
-    ensures weights { IfSome result (λ r. IsKept key.now r.p.items r.v.items) }
+    ensures weights { IfSome result (λ r. AnswersKey key.now r.p.items r.v.items) }
     ensures kept { AreKept stages.old.cap stages.new }
 {
     stages.promote(key);
@@ -107,7 +108,7 @@ impl StageMemory {
 
     // What the memory keeps the matrix by: None where it would not, as with many cells or cells that differ by 2^32 or more.
     pub(crate) fn key(&self, alloc: Global, matrix: &Matrix, total: u32) -> Option<StageKey>
-        ensures { IfSome result (λ key. (p v : List ℕ) → IsStage matrix.now total p v ↔ IsKept key p v) }
+        ensures { IfSome result (λ key. (p v : List ℕ) → IsStage matrix.now total p v ↔ AnswersKey key p v) }
     {
         let range = matrix.range();
         if matrix.cells.len() > MOST_CELLS || range.greatest - range.least >= 1 << 32 {
@@ -129,7 +130,7 @@ impl StageMemory {
 
     // The weights of the key, where they are kept and memory serves.
     pub(crate) fn recall(&mut self, key: &StageKey) -> Option<Solution>
-        ensures weights { IfSome result (λ r. IsKept key.now r.p.items r.v.items) }
+        ensures weights { IfSome result (λ r. AnswersKey key.now r.p.items r.v.items) }
         ensures limit { self.new.limit ≡ self.old.limit }
     {
         let mut stages = self.stages.take()?;
@@ -140,7 +141,7 @@ impl StageMemory {
 
     // Keeps the weights of the key, if memory serves.
     pub(crate) fn keep(&mut self, alloc: Global, key: StageKey, solution: Solution)
-        requires { IsKept key solution.p.items solution.v.items }
+        requires { AnswersKey key solution.p.items solution.v.items }
         ensures { self.new.limit ≡ self.old.limit }
     {
         if let Some(mut stages) = opened(self.stages.take(), alloc, self.limit) {

@@ -1,7 +1,8 @@
 //! Regret matching plus over whole numbers, each round against a best reply.
 
-ghost use Rattle.std.specs.Prelude.{◌≡◌, IsTrue, IfOk, IfSome, ◌*◌, ◌^◌, ◌<◌, ◌≤◌, length, map, slice_index, sum, replicate, unsigned_abs};
-ghost use Rattle.matrix_game.specs.Grid.{HasRoom, IsSpread};
+ghost use Rattle.std.specs.Prelude.{◌≡◌, ℕ, IsTrue, IfOk, IfSome, ◌*◌, ◌^◌, ◌<◌, ◌≤◌, length, map, slice_index, sum, replicate, unsigned_abs};
+ghost use Rattle.sums.specs.declared.TheConstants.{MOST_WEIGHT, MOST_BOUND};
+ghost use Rattle.matrix_game.specs.Grid.{HasRegretRoom, IsSpread};
 ghost use Rattle.matrix_game.specs.Heights.{AreHeights};
 ghost use Rattle.matrix_game.specs.Rounds.{raised_regret, raised_regrets, rounds, best_mixture, reply_counts};
 
@@ -33,7 +34,7 @@ impl Matrix {
     // A row's regret after a round: raised by what that row alone would have gained over what was paid, and cut at 0.
     fn raised<R: Regret>(&self, weight: u32, reply: Reply, regrets: &[R], row: usize) -> R
         requires each { length regrets.now ≡ self.now.rows }
-        requires light { weight ≤ 1048576 }
+        requires light { weight ≤ MOST_WEIGHT }
         requires row_in { row < self.now.rows }
         requires col_in { reply.col < self.now.cols }
         requires bounded { unsigned_abs reply.paid ≤ 134217728000000000 }
@@ -47,12 +48,13 @@ impl Matrix {
     // Raises the regrets by a round, and sums them.
     fn raise<R: Regret>(&self, weight: u32, reply: Reply, regrets: &mut [R]) -> R
         requires each { length regrets.old ≡ self.now.rows }
-        requires light { weight ≤ 1048576 }
+        requires light { weight ≤ MOST_WEIGHT }
         requires col_in { reply.col < self.now.cols }
         requires bounded { unsigned_abs reply.paid ≤ 134217728000000000 }
         requires held { sum (map R.number regrets.old) < R.limit }
         requires room { sum (raised_regrets self.now weight (map R.number regrets.old) reply.col reply.paid) < R.limit }
-        ensures regrets { map R.number regrets.new ≡ raised_regrets self.now weight (map R.number regrets.old) reply.col reply.paid }
+        ensures regrets { map R.number regrets.new
+            ≡ raised_regrets self.now weight (map R.number regrets.old) reply.col reply.paid }
         ensures all { R.number result ≡ sum (map R.number regrets.new) }
     {
         let mut all = R::none();
@@ -65,8 +67,9 @@ impl Matrix {
     }
 
     // What two cells differ by at most.
-    fn spread(&self) -> u64
+    pub(crate) fn spread(&self) -> u64
         ensures spread { IsSpread self.now result }
+        ensures least { (d : ℕ) → IsSpread self.now d → result ≤ d }
         ensures small { result ≤ 8000000000 }
     {
         let range = self.range();
@@ -76,8 +79,8 @@ impl Matrix {
     // Whether the regrets fit 64 bits in as many rounds as the weight: in each a regret rises by at most the weight
     // times the spread.
     fn is_narrow(&self, weight: u32) -> bool
-        requires light { weight ≤ 1048576 }
-        ensures { IsTrue result → HasRoom self.now weight (2 ^ 63) }
+        requires light { weight ≤ MOST_WEIGHT }
+        ensures { IsTrue result → HasRegretRoom self.now weight (2 ^ 63) }
     {
         let greatest = u128::from(weight) * u128::from(weight) * u128::from(self.spread());
         self.rows as u128 * greatest < 1 << 63
@@ -94,11 +97,11 @@ impl Matrix {
         counts: &mut [u32],
     )
         requires some { 1 ≤ weight }
-        requires light { weight ≤ 1048576 }
-        requires room { HasRoom self.now weight R.limit }
+        requires light { weight ≤ MOST_WEIGHT }
+        requires room { HasRegretRoom self.now weight R.limit }
         requires heights { IfSome heights.now (λ h. AreHeights self.now h.least (8 * h.blocks) h.cells.items) }
         requires height_rows { IfSome heights.now (λ h. h.rows ≡ self.now.rows) }
-        requires small_least { IfSome heights.now (λ h. unsigned_abs h.least ≤ 4000000000) }
+        requires small_least { IfSome heights.now (λ h. unsigned_abs h.least ≤ MOST_BOUND) }
         requires regrets { map R.number regrets.old ≡ replicate self.now.rows 0 }
         requires mixture { length mixture.old ≡ self.now.rows }
         requires best { best.old ≡ replicate self.now.rows 0 }
@@ -125,7 +128,7 @@ impl Matrix {
     // The best mixture and the counts of the replies, after as many rounds as the weight.
     pub(crate) fn rounds(&self, alloc: Global, weight: u32) -> Result<Solution, AllocError>
         requires some { 1 ≤ weight }
-        requires light { weight ≤ 1048576 }
+        requires light { weight ≤ MOST_WEIGHT }
         ensures p { IfOk result (λ r. r.p.items ≡ best_mixture self.now (rounds self.now weight)) }
         ensures v { IfOk result (λ r. r.v.items ≡ reply_counts self.now (rounds self.now weight)) }
     {

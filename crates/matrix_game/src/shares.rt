@@ -1,6 +1,7 @@
 //! A weight, shared out in proportion to regrets.
 
 ghost use Rattle.std.specs.Prelude.{◌≡◌, ◌*◌, ◌/◌, ◌^◌, ◌<◌, ◌≤◌, length, map, max, slice_index, sum};
+ghost use Rattle.sums.specs.declared.TheConstants.{MOST_WEIGHT};
 ghost use Rattle.matrix_game.specs.Rounds.{mixture_of};
 
 use crate::regrets::Regret;
@@ -86,7 +87,7 @@ fn wide_quotient(number: u128, divisor: u128, estimate: u32) -> u32
 // A row's share of the weight, where `all` is the sum of the regrets, or 1 where there is none.
 fn share<R: Regret>(weight: u32, regrets: &[R], row: usize, all: u128, scale: Scale) -> u32
     requires some { 1 ≤ weight }
-    requires light { weight ≤ 1048576 }
+    requires light { weight ≤ MOST_WEIGHT }
     requires row_in { row < length regrets.now }
     requires all { all ≡ max (sum (map R.number regrets.now)) 1 }
     requires room { all < 2 ^ 107 }
@@ -111,7 +112,7 @@ pub(crate) fn mix<R: Regret>(weight: u32, regrets: &[R], all: R, p: &mut [u32])
     requires same { length p.old ≡ length regrets.now }
     requires some { 0 < length regrets.now }
     requires positive { 1 ≤ weight }
-    requires light { weight ≤ 1048576 }
+    requires light { weight ≤ MOST_WEIGHT }
     requires all { R.number all ≡ sum (map R.number regrets.now) }
     requires room { R.number all < R.limit }
     ensures { p.new ≡ mixture_of weight (map R.number regrets.now) }

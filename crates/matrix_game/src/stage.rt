@@ -1,9 +1,11 @@
 //! The solver: weights of the rows and of the columns, for one turn.
 
-ghost use Rattle.std.specs.Prelude.{◌≡◌, ◌↔◌, IfOk, OnOk, OnErr, ◌*◌, ◌<◌, ◌≤◌, unsigned_abs, ℕ};
-ghost use Rattle.matrix_game.specs.Grid.{IsSaddle, row_floor, col_ceiling};
-ghost use Rattle.matrix_game.specs.Rounds.{all_on, IsStage, IsWeighted, IsSolved, HasSmallGap, HasResolution};
-ghost use Rattle.matrix_game.specs.Budget.{left_of, after_turn};
+ghost use Rattle.std.specs.Prelude.{◌≡◌, IfOk, ◌<◌, ◌≤◌, ℕ};
+ghost use Rattle.sums.specs.declared.TheConstants.{MOST_WEIGHT};
+ghost use Rattle.matrix_game.specs.Grid.{IsSaddle};
+ghost use Rattle.matrix_game.specs.Plans.{AreStagePlans, TakesTurn, plans_by};
+ghost use Rattle.matrix_game.specs.Rounds.{all_on, IsStage};
+ghost use Rattle.matrix_game.specs.Budget.{left_of, after_one_turn};
 
 use crate::budget::Turns;
 use crate::cells::Matrix;
@@ -19,23 +21,28 @@ pub struct StagePlans {
     pub p: Seq<u32>,
     /// The weights of the columns.
     pub v: Seq<u32>,
-    /// What `p` secures against each column.
+    /// What `p` secures against each column, in weight times cell.
     pub low: i64,
-    /// What `v` concedes to each row.
+    /// What `v` concedes to each row, in weight times cell.
     pub high: i64,
 }
 
-/// Why a matrix was not solved.
+/// Why a matrix was not solved: for want of a turn, or out of memory.
 #[derive(Clone, Copy, Debug, PartialEq, Eq)]
 pub enum StageError {
-    /// No turn is left.
     Spent,
     NoMemory,
 }
 
 impl Matrix {
     // All of the weight at a cell.
-    fn pure(&self, alloc: Global, row: u32, col: u32, weight: u32) -> Result<Solution, AllocError>
+    pub(crate) fn pure(
+        &self,
+        alloc: Global,
+        row: u32,
+        col: u32,
+        weight: u32,
+    ) -> Result<Solution, AllocError>
         requires row_in { row < self.now.rows }
         requires col_in { col < self.now.cols }
         ensures p { IfOk result (λ r. r.p.items ≡ all_on self.now.rows row weight) }
@@ -49,9 +56,9 @@ impl Matrix {
     }
 
     // By rounds.
-    fn played(&self, alloc: Global, weight: u32) -> Result<Solution, AllocError>
+    pub(crate) fn played(&self, alloc: Global, weight: u32) -> Result<Solution, AllocError>
         requires some { 1 ≤ weight }
-        requires light { weight ≤ 1048576 }
+        requires light { weight ≤ MOST_WEIGHT }
         requires mixed { (a b : ℕ) → IsSaddle self.now a b → ⊥ }
         ensures { IfOk result (λ r. IsStage self.now weight r.p.items r.v.items) }
     {
@@ -67,7 +74,7 @@ impl Matrix {
         memory: &mut StageMemory,
     ) -> Result<Solution, AllocError>
         requires some { 1 ≤ weight }
-        requires light { weight ≤ 1048576 }
+        requires light { weight ≤ MOST_WEIGHT }
         requires mixed { (a b : ℕ) → IsSaddle self.now a b → ⊥ }
         ensures stage { IfOk result (λ r. IsStage self.now weight r.p.items r.v.items) }
         ensures limit { memory.new.limit ≡ memory.old.limit }
@@ -93,8 +100,9 @@ impl Matrix {
         memory: &mut StageMemory,
     ) -> Result<Solution, AllocError>
         requires some { 1 ≤ weight }
-        requires light { weight ≤ 1048576 }
-        ensures solved { IfOk result (λ r. IsSolved self.now weight r.p.items r.v.items) }
+        requires light { weight ≤ MOST_WEIGHT }
+        ensures stage { IfOk result (λ r. IsStage self.now weight r.p.items r.v.items) }
+        ensures plans { IfOk result (λ r. AreStagePlans self.now weight (plans_by self.now r.p.items r.v.items)) }
         ensures limit { memory.new.limit ≡ memory.old.limit }
     {
         let _rows = self.rows;
@@ -106,40 +114,28 @@ impl Matrix {
     }
 
     // The plans of weights that were found, for one turn.
-    fn settle(
-        &self,
-        total: u32,
-        weights: Result<Solution, AllocError>,
-        turns: &mut Turns,
-    ) -> Result<StagePlans, StageError>
-        requires light { total ≤ 1048576 }
-        requires solved { IfOk weights (λ r. IsSolved self.now total r.p.items r.v.items) }
+    pub(crate) fn settle(&self, total: u32, weights: Solution, turns: &mut Turns) -> StagePlans
+        requires light { total ≤ MOST_WEIGHT }
+        requires plans { AreStagePlans self.now total (plans_by self.now weights.p.items weights.v.items) }
         requires left { 0 < left_of turns.old }
-        ensures plans { IfOk result (λ plans. IsStage self.now total plans.p plans.v) }
-        ensures solved { IfOk result (λ plans. IsSolved self.now total plans.p plans.v) }
-        ensures low { IfOk result (λ plans. plans.low ≡ row_floor self.now plans.p) }
-        ensures high { IfOk result (λ plans. plans.high ≡ col_ceiling self.now plans.v) }
-        ensures ok { OnOk result (turns.new ≡ after_turn turns.old) }
-        ensures err { OnErr result (turns.new ≡ turns.old) }
-        ensures not_spent { result ≡ Err StageError.Spent → ⊥ }
+        ensures p { result.p ≡ weights.p.items }
+        ensures v { result.v ≡ weights.v.items }
+        ensures plans { AreStagePlans self.now total result }
+        ensures turns { turns.new ≡ after_one_turn turns.old }
     {
-        let Ok(weights) = weights else {
-            return Err(StageError::NoMemory);
-        };
         turns.spend();
         let low = self.row_floor(&weights.p);
         let high = self.col_ceiling(&weights.v);
-        Ok(StagePlans {
+        StagePlans {
             p: Seq::from_vec(weights.p),
             v: Seq::from_vec(weights.v),
             low,
             high,
-        })
+        }
     }
 
     /// Solves the matrix by weights that sum to `total`, for one turn: pure at the first saddle, else by as many rounds
-    /// of regret matching as the total. Without a turn left the answer is `Spent`, and no memory is taken; want of
-    /// memory takes no turn.
+    /// of regret matching as the total. Without a turn left the answer is `Spent`, and no memory is taken.
     pub fn solve(
         &self,
         alloc: Global,
@@ -147,26 +143,16 @@ impl Matrix {
         turns: &mut Turns,
     ) -> Result<StagePlans, StageError>
         requires some { 1 ≤ total }
-        requires light { total ≤ 1048576 }
-        ensures plans { IfOk result (λ plans. IsStage self.now total plans.p plans.v) }
-        ensures low { IfOk result (λ plans. plans.low ≡ row_floor self.now plans.p) }
-        ensures high { IfOk result (λ plans. plans.high ≡ col_ceiling self.now plans.v) }
-        ensures p { IfOk result (λ plans. IsWeighted self.now.rows total plans.p) }
-        ensures v { IfOk result (λ plans. IsWeighted self.now.cols total plans.v) }
-        ensures small_low { IfOk result (λ plans. unsigned_abs plans.low ≤ 4000000000 * total) }
-        ensures small_high { IfOk result (λ plans. unsigned_abs plans.high ≤ 4000000000 * total) }
-        ensures gap { IfOk result (λ plans. HasSmallGap self.now total plans.low plans.high) }
-        ensures resolution { IfOk result (λ plans. HasResolution self.now total plans.low plans.high) }
-
-        ensures spent { (result ≡ Err StageError.Spent) ↔ (left_of turns.old ≡ 0) }
-        ensures ok { OnOk result (turns.new ≡ after_turn turns.old) }
-        ensures err { OnErr result (turns.new ≡ turns.old) }
+        requires light { total ≤ MOST_WEIGHT }
+        ensures stage { IfOk result (λ plans. IsStage self.now total plans.p plans.v) }
+        ensures plans { IfOk result (AreStagePlans self.now total) }
+        ensures turn { TakesTurn turns.old turns.new result }
     {
         self.solve_with_memory(alloc, total, turns, &mut StageMemory::new(0))
     }
 
-    /// The same answer as that of `solve`, for one turn as well. Rounds are played only where the memory keeps none of a
-    /// matrix whose cells differ from this one's by one number.
+    /// The same answer as that of `solve`, for one turn as well. Rounds are played only where the memory keeps no equal
+    /// matrix up to a number added to every cell.
     pub fn solve_with_memory(
         &self,
         alloc: Global,
@@ -175,27 +161,19 @@ impl Matrix {
         memory: &mut StageMemory,
     ) -> Result<StagePlans, StageError>
         requires some { 1 ≤ total }
-        requires light { total ≤ 1048576 }
-        ensures plans { IfOk result (λ plans. IsStage self.now total plans.p plans.v) }
-        ensures low { IfOk result (λ plans. plans.low ≡ row_floor self.now plans.p) }
-        ensures high { IfOk result (λ plans. plans.high ≡ col_ceiling self.now plans.v) }
-        ensures p { IfOk result (λ plans. IsWeighted self.now.rows total plans.p) }
-        ensures v { IfOk result (λ plans. IsWeighted self.now.cols total plans.v) }
-        ensures small_low { IfOk result (λ plans. unsigned_abs plans.low ≤ 4000000000 * total) }
-        ensures small_high { IfOk result (λ plans. unsigned_abs plans.high ≤ 4000000000 * total) }
-        ensures gap { IfOk result (λ plans. HasSmallGap self.now total plans.low plans.high) }
-        ensures resolution { IfOk result (λ plans. HasResolution self.now total plans.low plans.high) }
-
-        ensures spent { (result ≡ Err StageError.Spent) ↔ (left_of turns.old ≡ 0) }
-        ensures ok { OnOk result (turns.new ≡ after_turn turns.old) }
-        ensures err { OnErr result (turns.new ≡ turns.old) }
+        requires light { total ≤ MOST_WEIGHT }
+        ensures stage { IfOk result (λ plans. IsStage self.now total plans.p plans.v) }
+        ensures plans { IfOk result (AreStagePlans self.now total) }
+        ensures turn { TakesTurn turns.old turns.new result }
         ensures limit { memory.new.limit ≡ memory.old.limit }
     {
         if turns.left() == 0 {
             return Err(StageError::Spent);
         }
-        let weights = self.weights(alloc, total, memory);
-        self.settle(total, weights, turns)
+        match self.weights(alloc, total, memory) {
+            Ok(weights) => Ok(self.settle(total, weights, turns)),
+            Err(_) => Err(StageError::NoMemory),
+        }
     }
 }
 

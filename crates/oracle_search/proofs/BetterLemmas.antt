@@ -1,10 +1,12 @@
 -- What one part of a search after another leaves on the board.
-use Rattle.std.proofs.Common.{◌≡◌, ℕ, ℤ, pos, ◌-ℤ◌, ◌≤ℤ◌, List, w64, SFits, to_z, of_z, refl, ap, subst, sym, ◌∙◌, arith}
+use Rattle.std.proofs.Common.{◌≡◌, ◌⊎◌, inl, inr, ⊎_elim, ℕ, Option, Some, None, IfSome, ℤ, pos, ◌-ℤ◌, ◌≤ℤ◌, ◌<ℤ◌, true, IsTrue, List, w64, SFits, to_z, of_z, refl, ap, subst, sym, ◌∙◌, arith}
+use Rattle.std.specs.Int.Signed.{le_z, le_z_yes}
 use Rattle.std.proofs.lemmas.Int.{ints, to_z-of_z}
 use Rattle.std.proofs.lemmas.List.Elements.{All-weaker}
 use Rattle.sim_game.specs.declared.Side.{Side}
 use Rattle.sim_game.specs.declared.Side.TheVariants.{One, Two}
 use Rattle.sim_game.specs.Model.{GameModel, IsGame, Reachable}
+use Rattle.sim_game.specs.Sides.{opening_bound}
 use Rattle.plan_book.specs.declared.Entry.{Entry}
 use Rattle.plan_book.specs.Entries.{IsLawfulEntry}
 use Rattle.plan_book.specs.Books.{Grows}
@@ -15,9 +17,14 @@ use Rattle.bounds_board.specs.Views.{BoardView, IsLater, IsRead, IsEnclosure}
 use Rattle.bounds_board.proofs.PlainLemmas.{range_fits}
 use Rattle.bounds_board.proofs.ViewLemmas.{later_refl, later_trans}
 use Rattle.serial_ab.specs.Counts.{VisitsView}
-use Rattle.serial_ab.specs.Searches.{IsPureEntry, IsKept}
+use Rattle.serial_ab.specs.Searches.{IsPureEntry, IsSerialKept}
+use Rattle.serial_ab.specs.Ends.{IsValue}
+use Rattle.serial_ab.specs.declared.windowed.SerialEnd.{SerialEnd}
+use Rattle.serial_ab.specs.declared.windowed.SerialEnd.TheVariants.{Exact, AtLeast, AtMost, Cut}
 use Rattle.serial_ab.proofs.KeptLemmas.{grows_none, grows_after}
-use Rattle.oracle_search.specs.Searches.{IsBetter, IsPureTight}
+use Rattle.serial_ab.proofs.ValueLemmas.{serial_low, serial_high}
+use Rattle.oracle_search.specs.Finished.{IsWithin}
+use Rattle.oracle_search.specs.Searches.{IsBetter, IsPureTight, IsAhead, number_in, IsFoundBelow, IsFoundAbove}
 
 pub grows_weaker : (P Q : Entry → Type 0) (xs ys : List Entry) → ((e : Entry) → P e → Q e) → Grows P xs ys → Grows Q xs ys
 grows_weaker P Q xs ys f p = record { more = p.more; joins = p.joins; each = All-weaker P Q f p.more p.each }
@@ -37,7 +44,7 @@ module _ {S G N : Type 0} (m : GameModel S) (total : ℕ) where
   better_quiet u v later same = record { later = later; posted = grows_none (IsLawfulEntry m total) u.entries v.entries same }
 
 -- a serial search
-pub better_serial : {S G N : Type 0} (m : GameModel S) (side : Side) (most : ℕ) (u v : BoardView G N) (x y : VisitsView) → IsKept m side most u v x y → IsBetter m u.total u v
+pub better_serial : {S G N : Type 0} (m : GameModel S) (side : Side) (most : ℕ) (u v : BoardView G N) (x y : VisitsView) → IsSerialKept m side most u v x y → IsBetter m u.total u v
 better_serial m side most u v x y kept = record {
   later = kept.later;
   posted = grows_weaker (IsPureEntry m u.total) (IsLawfulEntry m u.total) u.entries v.entries (λ e p. p.lawful) kept.posted;
@@ -47,7 +54,8 @@ module _ {S G N : Type 0} (m : GameModel S) (game : IsGame m) (s : S) (v : Board
   -- numbers read that are one word
   pub met_read : IsRead v lower upper (m.key s) → of_z w64 lower ≡ of_z w64 upper → v.seen One (m.key s) ≡ v.seen Two (m.key s)
   met_read read met =
-      let same : lower ≡ upper = sym (to_z-of_z w64 lower (range_fits m game lower both.lower_low both.lower_high)) ∙ ap (to_z w64) met ∙ to_z-of_z w64 upper (range_fits m game upper both.upper_low both.upper_high) in
+      let same : lower ≡ upper = sym (to_z-of_z w64 lower (range_fits m game lower both.lower_low both.lower_high)) ∙ ap (to_z w64) met
+      ∙ to_z-of_z w64 upper (range_fits m game upper both.upper_low both.upper_high) in
       sym read.lower_seen ∙ same ∙ read.upper_seen
 
   pub enclosure_read : IsRead v lower upper (m.key s) → IsEnclosure m (v.seen One (m.key s)) (v.seen Two (m.key s)) s
@@ -59,7 +67,14 @@ module _ {S G N : Type 0} (m : GameModel S) (game : IsGame m) (s : S) (v : Board
       let a = game.low_least in let b = game.high_most in
       let c = both.lower_low in let d = both.lower_high in let e = both.upper_low in let f = both.upper_high in
       let fits : SFits w64 (upper -ℤ lower) = omega (arith, ints) in
-      rw (to_z-of_z w64 lower (range_fits m game lower both.lower_low both.lower_high), to_z-of_z w64 upper (range_fits m game upper both.upper_low both.upper_high), to_z-of_z w64 (upper -ℤ lower) fits, read.upper_seen, read.lower_seen) refl
+      rw (
+        to_z-of_z w64 lower (range_fits m game lower both.lower_low both.lower_high),
+        to_z-of_z w64 upper
+            (range_fits m game upper both.upper_low both.upper_high),
+        to_z-of_z w64 (upper -ℤ lower) fits,
+        read.upper_seen,
+        read.lower_seen,
+      ) refl
 
 -- numbers of one word are one number
 pub enclosure_met : {S : Type 0} (m : GameModel S) (game : IsGame m) (s : S) (lower upper : ℤ) → IsEnclosure m lower upper s → of_z w64 lower ≡ of_z w64 upper → lower ≡ upper
@@ -67,9 +82,12 @@ enclosure_met m game s lower upper both met =
     sym (to_z-of_z w64 lower (range_fits m game lower both.lower_low both.lower_high)) ∙ ap (to_z w64) met ∙ to_z-of_z w64 upper (range_fits m game upper both.upper_low both.upper_high)
 
 -- where both bounds are one number, each is as tight as pure plans can make it
-pub serial_met : {S G N : Type 0} (m : GameModel S) (game : IsGame m) (s : S) (v : BoardView G N) → Reachable m s → IsEnclosure m (v.seen One (m.key s)) (v.seen Two (m.key s)) s → v.seen One (m.key s) ≡ v.seen Two (m.key s) → IsPureTight m s v
-serial_met m game s v r both same One = subst (λ (x : ℤ). serial_bound m One s ≤ℤ x) (sym same) (backed_meet m game s (serial_bound m One s) (v.seen Two (m.key s)) r (serial_backed m game One s r) both.upper_backed)
-serial_met m game s v r both same Two = subst (λ (x : ℤ). x ≤ℤ serial_bound m Two s) same (backed_meet m game s (v.seen One (m.key s)) (serial_bound m Two s) r both.lower_backed (serial_backed m game Two s r))
+pub serial_met : {S G N : Type 0} (m : GameModel S) (game : IsGame m) (s : S) (v : BoardView G N) → Reachable m s
+    → IsEnclosure m (v.seen One (m.key s)) (v.seen Two (m.key s)) s → v.seen One (m.key s) ≡ v.seen Two (m.key s) → IsPureTight m s v
+serial_met m game s v r both same One =
+    subst (λ (x : ℤ). serial_bound m One s ≤ℤ x) (sym same) (backed_meet m game s (serial_bound m One s) (v.seen Two (m.key s)) r (serial_backed m game One s r) both.upper_backed)
+serial_met m game s v r both same Two =
+    subst (λ (x : ℤ). x ≤ℤ serial_bound m Two s) same (backed_meet m game s (v.seen One (m.key s)) (serial_bound m Two s) r both.lower_backed (serial_backed m game Two s r))
 
 -- a gap read as none
 pub gap_closed : {S G N : Type 0} (m : GameModel S) (game : IsGame m) (s : S) (v : BoardView G N) (gap : ℤ) → IsEnclosure m (v.seen One (m.key s)) (v.seen Two (m.key s)) s
@@ -81,6 +99,48 @@ gap_closed m game s v gap both is none =
     let zero : gap ≡ pos 0 = sym (to_z-of_z w64 gap fits) ∙ ap (to_z w64) none in
     omega (arith, ints)
 
+-- a gap read as at most none
+pub gap_within : {S G N : Type 0} (m : GameModel S) (game : IsGame m) (s : S) (v : BoardView G N) (gap goal : ℤ) → IsEnclosure m (v.seen One (m.key s)) (v.seen Two (m.key s)) s
+    → gap ≡ v.seen Two (m.key s) -ℤ v.seen One (m.key s) → goal ≡ pos 0 → IsTrue (le_z (to_z w64 (of_z w64 gap)) (to_z w64 (of_z w64 goal))) → IsWithin v (m.key s) (pos 0)
+gap_within m game s v gap goal both is none enough =
+    let a = game.low_least in let b = game.high_most in
+    let c = both.lower_low in let d = both.lower_high in let e = both.upper_low in let f = both.upper_high in
+    let fits : SFits w64 gap = rw is (omega (arith, ints)) in
+    let same : to_z w64 (of_z w64 gap) ≡ gap = to_z-of_z w64 gap fits in
+    let test : le_z gap (pos 0) ≡ true = sym (ap (λ (x : ℤ). le_z x (pos 0)) same) ∙ sym (ap (λ (y : ℤ). le_z (to_z w64 (of_z w64 gap)) (to_z w64 (of_z w64 y))) none) ∙ enough in
+    let low : gap ≤ℤ pos 0 = le_z_yes {a = gap} {b = pos 0} (rw test tt) in
+    omega (arith, ints)
+
 pub serial_closed : {S G N : Type 0} (m : GameModel S) (game : IsGame m) (s : S) (v : BoardView G N) (gap : ℤ) → Reachable m s → IsEnclosure m (v.seen One (m.key s)) (v.seen Two (m.key s)) s
     → gap ≡ v.seen Two (m.key s) -ℤ v.seen One (m.key s) → of_z w64 gap ≡ 0 → IsPureTight m s v
 serial_closed m game s v gap r both is none = serial_met m game s v r both (gap_closed m game s v gap both is none)
+
+-- ---- the numbers that serial searches found
+pub found_below : (o : Option ℤ) (bound x : ℤ) → IfSome o (λ n. n ≡ x) → IsFoundBelow o bound → x <ℤ bound
+found_below None bound x is below = absurd below
+found_below (Some n) bound x is below = subst (λ (k : ℤ). k <ℤ bound) is below
+
+pub found_above : (o : Option ℤ) (bound x : ℤ) → IfSome o (λ n. n ≡ x) → IsFoundAbove o bound → bound <ℤ x
+found_above None bound x is above = absurd above
+found_above (Some n) bound x is above = subst (λ (k : ℤ). bound <ℤ k) is above
+
+-- bounds that are tighter than a number found are tighter than pure plans make them
+pub ahead_read : {S G N : Type 0} (m : GameModel S) (s : S) (v : BoardView G N) (lower upper : ℤ) (one two : Option ℤ) → IsRead v lower upper (m.key s)
+    → IfSome one (λ n. n ≡ serial_bound m One s) → IfSome two (λ n. n ≡ serial_bound m Two s) → IsFoundBelow one lower ⊎ IsFoundAbove two upper → IsAhead m s v
+ahead_read m s v lower upper one two read is_one is_two found = ⊎_elim
+    (λ (a : IsFoundBelow one lower). inl (subst (λ (x : ℤ). serial_bound m One s <ℤ x) read.lower_seen (found_below one lower (serial_bound m One s) is_one a)))
+    (λ (b : IsFoundAbove two upper). inr (subst (λ (x : ℤ). x <ℤ serial_bound m Two s) read.upper_seen (found_above two upper (serial_bound m Two s) is_two b)))
+    found
+
+-- over the whole range of payoffs each number is the serial bound
+serial_range : {S : Type 0} (m : GameModel S) (game : IsGame m) (side : Side) (s : S) → Reachable m s → (opening_bound m One ≤ℤ serial_bound m side s) × (serial_bound m side s ≤ℤ opening_bound m Two)
+serial_range m game One s r = (serial_low m game One s r, serial_high m game One s r)
+serial_range m game Two s r = (serial_high m game Two s r, serial_low m game Two s r)
+
+pub found_number : {S : Type 0} (m : GameModel S) (game : IsGame m) (side : Side) (s : S) → Reachable m s → (end : SerialEnd)
+    → IsValue (opening_bound m One) (opening_bound m Two) (serial_bound m side s) end
+    → IfSome (number_in end) (λ x. x ≡ serial_bound m side s)
+found_number m game side s r (Exact x) is = is.0
+found_number m game side s r (AtLeast x) is = let range = serial_range m game side s r in let high = range.1 in let from = is.0 in let to = is.1 in omega (arith, ints)
+found_number m game side s r (AtMost x) is = let range = serial_range m game side s r in let low = range.0 in let from = is.0 in let to = is.1 in omega (arith, ints)
+found_number m game side s r Cut is = tt

@@ -11,11 +11,12 @@ use Rattle.sim_game.specs.Resolution.{IsStageGap}
 use Rattle.sim_game.proofs.ReachLemmas.{reachable_turn, leads_turn}
 use Rattle.plan_book.specs.Books.{Grows}
 use Rattle.plan_book.specs.Entries.{IsLawfulEntry}
-use Rattle.matrix_game.specs.Budget.{Budget, left_of, after_turn}
-use Rattle.bounds_board.specs.Views.{BoardView, IsLater}
+use Rattle.matrix_game.specs.Budget.{Budget, left_of, after_one_turn}
+use Rattle.bounds_board.specs.Views.{BoardView, IsLater, IsFull}
 use Rattle.bounds_board.proofs.ViewLemmas.{later_refl}
-use Rattle.serial_ab.specs.Counts.{VisitsView, Counts, spent_on}
-use Rattle.serial_ab.specs.Searches.{IsKept}
+use Rattle.serial_ab.specs.Counts.{VisitsView, HasCounted, Counts, spent_on}
+use Rattle.serial_ab.specs.Searches.{IsSerialKept, IsPureEntry}
+use Rattle.serial_ab.proofs.KeptLemmas.{grows_none}
 use Rattle.serial_ab.specs.Transpositions.{AreRemembered}
 use Rattle.serial_ab.proofs.TableLemmas.{remembered_later}
 use Rattle.restricted_game.specs.declared.held.StepEnd.{StepEnd}
@@ -27,7 +28,7 @@ use Rattle.oracle_search.specs.declared.ends.SearchEnd.{SearchEnd}
 use Rattle.oracle_search.specs.declared.ends.SearchEnd.TheVariants.{Reached, Settled, Spent, Full}
 use Rattle.oracle_search.specs.declared.ends.Stop.{Stop}
 use Rattle.oracle_search.specs.declared.ends.Stop.TheVariants as stops
-use Rattle.oracle_search.specs.Searches.{IsWorked, IsWorkedBelow, HasVisited, HasTurned, TakesTurns, TakesAtMost, HasTaken, HasTurn, HasKept, IsFirstHeld, Ends, open_states, IsBoardFull, IsStop, stop_of, IsStoppedAs, IsEarlyEnd, IsDone, AreDone}
+use Rattle.oracle_search.specs.Searches.{IsWorked, IsWorkedBelow, HasTurned, TakesTurns, TakesAtMost, HasTaken, HasTurn, HasKept, IsFirstHeld, Ends, open_states, IsBoardFull, IsStop, stop_of, IsStoppedAs, IsEarlyEnd, IsDone, AreDone}
 use Rattle.oracle_search.specs.Workers.{WorkerView, WorkView, at_work, with_full, with_key}
 use Rattle.oracle_search.proofs.BetterLemmas.{better_quiet, better_serial}
 use Rattle.std.proofs.Math.Nat.{mul-zero, mul-le-mul_right, div-lt_iff_lt-mul, mod-lt, mod-eq_of_lt, mod-add-mod, add-mod_right}
@@ -42,7 +43,9 @@ pub record IsPassed {S G N : Type 0} (m : GameModel S) (s : S) (limit : ℕ) (ol
 
 -- turns of one state, with a turn left over for each move that may still be added
 abbrev pub TakesGrowing : {G N : Type 0} → ℕ → HeldMoves → WorkView G N → WorkView G N → Type 0
-TakesGrowing most held old new = new.settled.was_full ≡ false → (new.turns.spent + 63 * length old.settled.keys + 2 ≤ old.turns.spent + 63 * length new.settled.keys + count_held held) ⊎ ((left_of new.turns ≡ 0) × TakesTurns most old new)
+TakesGrowing most held old new =
+    new.settled.was_full ≡ false → (new.turns.spent + 63 * length old.settled.keys + 2 ≤ old.turns.spent + 63 * length new.settled.keys + count_held held)
+    ⊎ ((left_of new.turns ≡ 0) × TakesTurns most old new)
 
 -- a restricted game that grows
 pub record IsGrowing {S G N : Type 0} (m : GameModel S) (s : S) (old new : WorkView G N) (held : HeldMoves) : Type 0 where
@@ -52,7 +55,7 @@ pub record IsGrowing {S G N : Type 0} (m : GameModel S) (s : S) (old new : WorkV
   pub rows : held.most_rows ≡ m.moves One s
   pub cols : held.most_cols ≡ m.moves Two s
 
-not_before : (a b : Bool) → (a ≡ true → b ≡ true) → b ≡ false → a ≡ false
+pub not_before : (a b : Bool) → (a ≡ true → b ≡ true) → b ≡ false → a ≡ false
 not_before false b f e = refl
 not_before true b f e = let wrong : true ≡ false = sym (f refl) ∙ e in absurd (cc)
 
@@ -85,12 +88,15 @@ ring_place first count p below =
 -- the moves of a pair
 pub pair_inside : (n height width : ℕ) → 0 < height * width → (n % (height * width) / width < height) × (n % (height * width) % width < width)
 pair_inside n height width some =
-    let wide : 0 < width = ⊎_elim (λ (a : 0 < width). a) (λ (b : width ≤ 0). let none : width ≡ 0 = omega arith in let zero : height * width ≡ 0 = ap (λ (k : ℕ). height * k) none ∙ mul-zero height in absurd (omega arith)) (cases_lt 0 width) in
+    let wide : 0 < width = ⊎_elim (λ (a : 0 < width). a)
+    (λ (b : width ≤ 0). let none : width ≡ 0 = omega arith in let zero : height * width ≡ 0 = ap (λ (k : ℕ). height * k) none ∙ mul-zero height in absurd (omega arith))
+    (cases_lt 0 width) in
     ((div-lt_iff_lt-mul {k = width} {x = n % (height * width)} {y = height} wide).1 (mod-lt n some), mod-lt (n % (height * width)) wide)
 
 -- what holds of each pair by its place on the ring holds of those that the lists contain
 pub ring_contained : (P : ℕ → ℕ → Type 0) (first : ℕ) (rows cols : List ℕ)
-    → ((turn : ℕ) → turn < length rows * length cols → P (slice_index rows ((first + turn) % (length rows * length cols) / length cols)) (slice_index cols ((first + turn) % (length rows * length cols) % length cols)))
+    → ((turn : ℕ) → turn < length rows * length cols
+    → P (slice_index rows ((first + turn) % (length rows * length cols) / length cols)) (slice_index cols ((first + turn) % (length rows * length cols) % length cols)))
     → (one two : ℕ) → Contains rows one → Contains cols two → P one two
 ring_contained P first rows cols each one two has_one has_two =
     contained (λ x. P x two) rows (λ i in_rows. contained (λ y. P (slice_index rows i) y) cols (λ j in_cols.
@@ -103,6 +109,18 @@ ring_contained P first rows cols each one two has_one has_two =
     subst (λ (x : ℕ). P (slice_index rows x) (slice_index cols j)) (ap (λ (n : ℕ). n / width) pair ∙ div-mul-add i width j in_cols)
     (subst (λ (y : ℕ). P (slice_index rows ((first + at.0) % count / width)) (slice_index cols y)) (ap (λ (n : ℕ). n % width) pair ∙ mod-mul-add i width j in_cols) (each at.0 at.1)))
     two has_two) one has_one
+
+-- the same of all pairs of numbers
+pub ring_all : (P : ℕ → ℕ → Type 0) (first height width : ℕ) → ((turn : ℕ) → turn < height * width → P ((first + turn) % (height * width) / width) ((first + turn) % (height * width) % width))
+    → (one two : ℕ) → one < height → two < width → P one two
+ring_all P first height width each one two in_rows in_cols =
+    let count = height * width in
+    let next : (one + 1) * width ≤ count = mul-le-mul_right {m = one + 1} {n = height} width (omega arith) in
+    let below : one * width + two < count = omega arith in
+    let at = ring_place first count (one * width + two) below in
+    let pair = at.2 in
+    subst (λ (x : ℕ). P x two) (ap (λ (n : ℕ). n / width) pair ∙ div-mul-add one width two in_cols)
+    (subst (λ (y : ℕ). P ((first + at.0) % count / width) y) (ap (λ (n : ℕ). n % width) pair ∙ mod-mul-add one width two in_cols) (each at.0 at.1))
 
 one_rank : (r k : ℕ) → 1 ≤ r → (r - 1) * k + k ≡ r * k
 one_rank r k some = let is : r ≡ (r - 1) + 1 = omega arith in let more : ((r - 1) + 1) * k ≡ (r - 1) * k + k = omega arith in sym (ap (λ (n : ℕ). n * k) is ∙ more)
@@ -117,6 +135,22 @@ module _ {S : Type 0} (m : GameModel S) (game : IsGame m) (s : S) (r : Reachable
         subst (λ (t : S). m.rank t < m.rank s) (sym is) (game.rank_falls s (record { one = one; two = two; draw = draw }) r turn),
         λ t leads. leads_turn m s (record { one = one; two = two; draw = draw }) t turn (subst (λ (u : S). LeadsTo m u t) is leads),
       )
+
+-- no row of a full board has the key that was asked for
+pub row_of_other : {S G N : Type 0} (m : GameModel S) (v : BoardView G N) (asked : ℕ) → IsFull m v asked → (row : ℕ) → row < v.rows → v.key_at row ≡ Some asked → ⊥
+row_of_other m v asked full row below held =
+    let other = full.others row below in
+    let has : v.key_at row ≡ Some other.0 = other.1 in
+    let both : Some other.0 ≡ Some asked = sym has ∙ held in
+    other.3 (cc)
+
+-- a search that stopped did not settle its state
+pub stopped_unsettled : {G N : Type 0} (v : BoardView G N) (key : ℕ) (target : ℤ) (stop : Stop) (end : SearchEnd) → IsStoppedAs v key target stop end → end ≡ Settled → ⊥
+stopped_unsettled v key target stop end stopped is = subst (IsStoppedAs v key target stop) is stopped
+
+-- a turn was taken, unless none was
+pub turned_unless : (old new : ℕ) → old ≤ new → (new ≡ old → ⊥) → old + 1 ≤ new
+turned_unless old new rises not = ⊎_elim (λ (a : old < new). omega arith) (λ (b : new ≤ old). absurd (not (omega arith))) (cases_lt old new)
 
 module _ {G N : Type 0} where
   pub taken_none : (most : ℕ) (v : WorkView G N) → TakesAtMost 0 most v v
@@ -139,7 +173,8 @@ module _ {G N : Type 0} where
   taken_on states most v board w x taken = record { unless_full = taken.unless_full }
 
   -- visits alone change no count of turns
-  pub same_taken : (states most : ℕ) (v board : BoardView G N) (w new : WorkerView) (x : WorkView G N) → new ≡ record w { visits = new.visits; searches = new.searches } → TakesAtMost states most (at_work board new) x → TakesAtMost states most (at_work v w) x
+  pub same_taken : (states most : ℕ) (v board : BoardView G N) (w new : WorkerView) (x : WorkView G N)
+      → new ≡ record w { visits = new.visits; searches = new.searches } → TakesAtMost states most (at_work board new) x → TakesAtMost states most (at_work v w) x
   same_taken states most v board w new x is taken = record {
     unless_full = λ not.
         let spent : new.turns.spent ≡ w.turns.spent = ap (λ (y : WorkerView). y.turns.spent) is in
@@ -154,7 +189,8 @@ module _ {S G N : Type 0} (m : GameModel S) where
   longer : (total limit : ℕ) (v : BoardView G N) (x y : FinishedView) → IsExtended m total v limit x y → length x.keys ≤ length y.keys
   longer total limit v x y more = rw (more.joins, length-append x.keys more.more) (omega arith)
 
-  pub taken_after : (s : S) (limit states other most : ℕ) (u v w : WorkView G N) → IsWorkedBelow m s limit v w → other ≤ most → TakesAtMost 0 most u v → TakesAtMost states other v w → TakesAtMost states most u w
+  pub taken_after : (s : S) (limit states other most : ℕ) (u v w : WorkView G N) → IsWorkedBelow m s limit v w → other ≤ most
+      → TakesAtMost 0 most u v → TakesAtMost states other v w → TakesAtMost states most u w
   taken_after s limit states other most u v w worked few p q = record {
     unless_full = λ not.
         let more = longer w.board.total limit w.board v.settled w.settled worked.settled in
@@ -170,7 +206,8 @@ module _ {S G N : Type 0} (m : GameModel S) where
 
   -- ---- what is done stays done
   pub done_later : (s : S) (v w : BoardView G N) → IsLater v w → IsDone m v s → IsDone m w s
-  done_later s v w later done goes_on stage is = within_later m v w (m.key s) (pos (rank_gap m stage (m.rank s))) later (done goes_on stage (subst (λ (total : ℕ). IsStageGap m total stage) later.total is))
+  done_later s v w later done goes_on stage is =
+      within_later m v w (m.key s) (pos (rank_gap m stage (m.rank s))) later (done goes_on stage (subst (λ (total : ℕ). IsStageGap m total stage) later.total is))
 
   pub are_done_later : (s : S) (one two : ℕ) (v w : BoardView G N) → IsLater v w → AreDone m v s one two → AreDone m w s one two
   are_done_later s one two v w later done draw l = done_later (m.drawn s one two draw) v w later (done draw l)
@@ -183,7 +220,8 @@ module _ {S G N : Type 0} (m : GameModel S) where
   pub passed_none : (s : S) (limit : ℕ) (v : WorkView G N) (Known : Type 0) → HasKept m v → Known → IsPassed m s limit v v Known
   passed_none s limit v Known kept done = record { worked = worked_none m s limit v kept; turns = taken_none (limit - 1) v; done = done }
 
-  pub passed_after : (s : S) (limit other below : ℕ) (u v w : WorkView G N) (Known More : Type 0) → other ≤ limit → below ≤ limit - 1 → IsPassed m s limit u v Known → IsWorkedBelow m s other v w → TakesAtMost 0 below v w
+  pub passed_after : (s : S) (limit other below : ℕ) (u v w : WorkView G N) (Known More : Type 0) → other ≤ limit → below ≤ limit - 1
+      → IsPassed m s limit u v Known → IsWorkedBelow m s other v w → TakesAtMost 0 below v w
       → (IsLater v.board w.board → Known → More) → IsPassed m s limit u w More
   passed_after s limit other below u v w Known More few low p worked taken more = record {
     worked = worked_after m s limit other limit u v w (omega arith) few p.worked worked;
@@ -195,7 +233,8 @@ module _ {S G N : Type 0} (m : GameModel S) where
   pub stopped_worked : (s : S) (limit other : ℕ) (u v w : WorkView G N) (Known : Type 0) → other ≤ limit → IsPassed m s limit u v Known → IsWorkedBelow m s other v w → IsWorkedBelow m s limit u w
   stopped_worked s limit other u v w Known few p worked = worked_after m s limit other limit u v w (omega arith) few p.worked worked
 
-  pub stopped_taken : (s : S) (limit other below : ℕ) (u v w : WorkView G N) (Known : Type 0) → below ≤ limit - 1 → IsPassed m s limit u v Known → IsWorkedBelow m s other v w → TakesAtMost below below v w → TakesAtMost (limit - 1) (limit - 1) u w
+  pub stopped_taken : (s : S) (limit other below : ℕ) (u v w : WorkView G N) (Known : Type 0) → below ≤ limit - 1 → IsPassed m s limit u v Known
+      → IsWorkedBelow m s other v w → TakesAtMost below below v w → TakesAtMost (limit - 1) (limit - 1) u w
   stopped_taken s limit other below u v w Known low p worked taken = record {
     unless_full = λ not. ⊎_elim
         (λ (a : TakesTurns below u w). inl (omega arith))
@@ -220,7 +259,7 @@ module _ {S G N : Type 0} (m : GameModel S) where
         let same = ap m.rank (game.same_key it.state s it.reachable r it.is_key) in let below = it.below in absurd (omega arith))
         (Contains-append_cases x.keys more.more (m.key s) (subst (λ (keys : List ℕ). Contains keys (m.key s)) more.joins has))
 
-apart_more : (keys : List ℕ) (key : ℕ) → AreApart keys → (Contains keys key → ⊥) → AreApart (keys ++ key ∷ [])
+pub apart_more : (keys : List ℕ) (key : ℕ) → AreApart keys → (Contains keys key → ⊥) → AreApart (keys ++ key ∷ [])
 apart_more keys key apart not i j l h same =
     let length_is = length-append keys (key ∷ []) in
     let low : i < length keys = omega arith in
@@ -255,7 +294,8 @@ module _ {S G N : Type 0} (m : GameModel S) (game : IsGame m) (s : S) (r : Reach
         board = worked.board;
         turns = worked.turns;
         visits = worked.visits;
-        settled = extended_after m total (m.rank s) (m.rank s + 1) (m.rank s + 1) board board u.settled w.settled (with_key w key).settled (later_refl board) (omega arith) (omega arith) worked.settled more;
+        settled = extended_after m total (m.rank s) (m.rank s + 1) (m.rank s + 1) board board u.settled w.settled (with_key w key).settled
+            (later_refl board) (omega arith) (omega arith) worked.settled more;
         kept = record {
           finished = record {
             each = All-push (IsFinished m total board 32) w.settled.keys key worked.kept.finished.each (finished_now total 32 board row held (omega arith) close);
@@ -264,9 +304,11 @@ module _ {S G N : Type 0} (m : GameModel S) (game : IsGame m) (s : S) (r : Reach
           remembered = worked.kept.remembered;
         };
         cause = worked.cause;
+        pure_alone = worked.pure_alone;
       })
 
-  pub added_taken : (u : WorkView G N) (board : BoardView G N) (w new : WorkerView) → new ≡ with_key w (m.key s) → TakesAtMost 1 (m.rank s) u (at_work board w) → TakesAtMost 0 (m.rank s) u (at_work board new)
+  pub added_taken : (u : WorkView G N) (board : BoardView G N) (w new : WorkerView) → new ≡ with_key w (m.key s)
+      → TakesAtMost 1 (m.rank s) u (at_work board w) → TakesAtMost 0 (m.rank s) u (at_work board new)
   added_taken u board w new is takes = subst (λ (x : WorkerView). TakesAtMost 0 (m.rank s) u (at_work board x)) (sym is) (record {
     unless_full = λ not.
         let count = length-append w.settled.keys (m.key s ∷ []) in
@@ -276,10 +318,10 @@ module _ {S G N : Type 0} (m : GameModel S) (game : IsGame m) (s : S) (r : Reach
         (takes.unless_full not);
   })
 
-pub step_turned : (old new : Budget) → (left_of old ≡ 0 → new ≡ old) → (new ≡ old) ⊎ (new ≡ after_turn old) → HasTurned old new
+pub step_turned : (old new : Budget) → (left_of old ≡ 0 → new ≡ old) → (new ≡ old) ⊎ (new ≡ after_one_turn old) → HasTurned old new
 step_turned old new none one = ⊎_elim
     (λ (a : new ≡ old). rw a (turned_none old))
-    (λ (b : new ≡ after_turn old).
+    (λ (b : new ≡ after_one_turn old).
     let limit : new.limit ≡ old.limit = ap (λ (t : Budget). t.limit) b in
     let spent : new.spent ≡ old.spent + 1 = ap (λ (t : Budget). t.spent) b in
     let some : old.spent ≤ old.limit → old.spent + 1 ≤ old.limit = λ h. ⊎_elim
@@ -289,7 +331,7 @@ step_turned old new none one = ⊎_elim
     record { limit = limit; rises = omega arith; within = λ h. omega (arith, some h); none = λ e. ap (λ (t : Budget). t.spent) (none e) })
     one
 
-visited_counts : (side : Side) (most : ℕ) (x y : VisitsView) → Counts side most x y → HasVisited x y
+visited_counts : (side : Side) (most : ℕ) (x y : VisitsView) → Counts side most x y → HasCounted x y
 visited_counts side most x y c = record { limit = c.limit; rises = each side c } where
   each : (side : Side) → Counts side most x y → (of : Side) → spent_on of x ≤ spent_on of y
   each One c One = c.rises
@@ -300,38 +342,51 @@ visited_counts side most x y c = record { limit = c.limit; rises = each side c }
 -- ---- the parts of a search that finish no state
 module _ {S G N : Type 0} (m : GameModel S) (s : S) (limit : ℕ) (v : BoardView G N) (w : WorkerView) (kept : HasKept m (at_work v w)) where
   pub worked_quiet : (board : BoardView G N) → IsLater v board → board.entries ≡ v.entries → IsWorkedBelow m s limit (at_work v w) (at_work board w)
-  worked_quiet board later same = worked_by m s limit (at_work v w) (at_work board w) (better_quiet m v.total v board later same) (turned_none w.turns) (visited_none w.visits) refl (λ e. e) kept (remembered_later later kept.remembered) (λ e. inl e)
+  worked_quiet board later same =
+      worked_by m s limit (at_work v w) (at_work board w) (better_quiet m v.total v board later same) (turned_none w.turns)
+      (visited_none w.visits) refl (λ e. e) kept (remembered_later later kept.remembered) (λ e. inl e)
+      (λ e. grows_none (IsPureEntry m v.total) v.entries board.entries same)
 
   -- a turn
-  pub worked_turn : (board : BoardView G N) (new : WorkerView) → IsLater v board → Grows (IsLawfulEntry m v.total) v.entries board.entries → (left_of w.turns ≡ 0 → new.turns ≡ w.turns) → (new.turns ≡ w.turns) ⊎ (new.turns ≡ after_turn w.turns)
-      → new ≡ record w { turns = new.turns } → IsWorkedBelow m s limit (at_work v w) (at_work board new)
-  worked_turn board new later posted none one is = subst (λ (x : WorkerView). IsWorkedBelow m s limit (at_work v w) (at_work board x)) (sym is)
-      (worked_by m s limit (at_work v w) (at_work board (record w { turns = new.turns })) (record { later = later; posted = posted }) (step_turned w.turns new.turns none one) (visited_none w.visits) refl (λ e. e) kept (remembered_later later kept.remembered) (λ e. inl e))
+  pub worked_turn : (board : BoardView G N) (new : WorkerView) → IsLater v board → Grows (IsLawfulEntry m v.total) v.entries board.entries
+      → (left_of w.turns ≡ 0 → new.turns ≡ w.turns) → (new.turns ≡ w.turns) ⊎ (new.turns ≡ after_one_turn w.turns)
+      → (new.turns ≡ w.turns → board.entries ≡ v.entries) → new ≡ record w { turns = new.turns } → IsWorkedBelow m s limit (at_work v w) (at_work board new)
+  worked_turn board new later posted none one unposted is = subst (λ (x : WorkerView). IsWorkedBelow m s limit (at_work v w) (at_work board x)) (sym is)
+      (worked_by m s limit (at_work v w) (at_work board (record w { turns = new.turns })) (record { later = later; posted = posted })
+      (step_turned w.turns new.turns none one) (visited_none w.visits) refl (λ e. e) kept (remembered_later later kept.remembered) (λ e. inl e)
+      (λ e. grows_none (IsPureEntry m v.total) v.entries board.entries (unposted e)))
 
   -- a serial search
-  pub worked_serial : (board : BoardView G N) (new : WorkerView) (side : Side) (most : ℕ) → IsKept m side most v board w.visits new.visits → AreRemembered m board new.searches
+  pub worked_serial : (board : BoardView G N) (new : WorkerView) (side : Side) (most : ℕ) → IsSerialKept m side most v board w.visits new.visits → AreRemembered m board new.searches
       → new ≡ record w { visits = new.visits; searches = new.searches } → IsWorkedBelow m s limit (at_work v w) (at_work board new)
   worked_serial board new side most counted remembered is = subst (λ (x : WorkerView). IsWorkedBelow m s limit (at_work v w) (at_work board x)) (sym is)
-      (worked_by m s limit (at_work v w) (at_work board (record w { visits = new.visits; searches = new.searches })) (better_serial m side most v board w.visits new.visits counted) (turned_none w.turns)
-      (visited_counts side most w.visits new.visits counted.visits) refl (λ e. e) kept remembered (λ e. inl e))
+      (worked_by m s limit (at_work v w) (at_work board (record w { visits = new.visits; searches = new.searches }))
+      (better_serial m side most v board w.visits new.visits counted) (turned_none w.turns)
+      (visited_counts side most w.visits new.visits counted.visits) refl (λ e. e) kept remembered (λ e. inl e) (λ e. counted.posted))
 
   -- a claim that was full
-  pub worked_full : (board : BoardView G N) (new : WorkerView) → IsLater v board → board.entries ≡ v.entries → new ≡ with_full w → IsBoardFull m s board → IsWorkedBelow m s limit (at_work v w) (at_work board new)
+  pub worked_full : (board : BoardView G N) (new : WorkerView) → IsLater v board → board.entries ≡ v.entries → new ≡ with_full w
+      → IsBoardFull m s board → IsWorkedBelow m s limit (at_work v w) (at_work board new)
   worked_full board new later same is was = subst (λ (x : WorkerView). IsWorkedBelow m s limit (at_work v w) (at_work board x)) (sym is)
-      (worked_by m s limit (at_work v w) (at_work board (with_full w)) (better_quiet m v.total v board later same) (turned_none w.turns) (visited_none w.visits) refl (λ _. refl) kept (remembered_later later kept.remembered) (λ _. inr was))
+      (worked_by m s limit (at_work v w) (at_work board (with_full w)) (better_quiet m v.total v board later same) (turned_none w.turns)
+      (visited_none w.visits) refl (λ _. refl) kept (remembered_later later kept.remembered) (λ _. inr was)
+      (λ e. grows_none (IsPureEntry m v.total) v.entries board.entries same))
 
 -- the claim of a state after the moves of another, and its search
-pub worked_claimed : {S G N : Type 0} (m : GameModel S) (s child : S) (limit : ℕ) (v board : BoardView G N) (w : WorkerView) (x : WorkView G N) → HasKept m (at_work v w) → IsLater v board → board.entries ≡ v.entries
+pub worked_claimed : {S G N : Type 0} (m : GameModel S) (s child : S) (limit : ℕ) (v board : BoardView G N) (w : WorkerView) (x : WorkView G N)
+    → HasKept m (at_work v w) → IsLater v board → board.entries ≡ v.entries
     → ((t : S) → LeadsTo m child t → LeadsTo m s t) → IsWorkedBelow m child limit (at_work board w) x → IsWorkedBelow m s limit (at_work v w) x
 worked_claimed m s child limit v board w x kept later same leads worked =
-    worked_after m s limit limit limit (at_work v w) (at_work board w) x (omega arith) (omega arith) (worked_quiet m s limit v w kept board later same) (worked_under m s child limit (at_work board w) x leads worked)
+    worked_after m s limit limit limit (at_work v w) (at_work board w) x (omega arith) (omega arith)
+    (worked_quiet m s limit v w kept board later same) (worked_under m s child limit (at_work board w) x leads worked)
 
 -- a claim that was full, and its turns
 pub full_stop : {S G N : Type 0} (m : GameModel S) (s : S) (board : BoardView G N) (w new : WorkerView) → new ≡ with_full w → IsBoardFull m s board → IsStop m s (at_work board new) stops.Full
 full_stop m s board w new is was = (ap (λ (x : WorkerView). x.settled.was_full) is, was)
 
 pub full_taken : {G N : Type 0} (states most : ℕ) (u : WorkView G N) (board : BoardView G N) (w new : WorkerView) → new ≡ with_full w → TakesAtMost states most u (at_work board new)
-full_taken states most u board w new is = record { unless_full = λ not. let why : new.settled.was_full ≡ true = ap (λ (x : WorkerView). x.settled.was_full) is in let wrong : false ≡ true = sym not ∙ why in absurd (cc) }
+full_taken states most u board w new is =
+    record { unless_full = λ not. let why : new.settled.was_full ≡ true = ap (λ (x : WorkerView). x.settled.was_full) is in let wrong : false ≡ true = sym not ∙ why in absurd (cc) }
 
 -- ---- how the search of one of the states ended
 module _ {S G N : Type 0} (m : GameModel S) (s : S) where
@@ -351,7 +406,7 @@ module _ {S G N : Type 0} (m : GameModel S) (s : S) where
   ended_stop v Reached target stop is ends = absurd (cc)
   ended_stop v Settled target stop is ends = absurd (cc)
   ended_stop v Spent target stop is ends = let same : stops.Spent ≡ stop = cc in subst (λ (x : Stop). IsStop m s v x) same ends.2
-  ended_stop v Full target stop is ends = let same : stops.Full ≡ stop = cc in subst (λ (x : Stop). IsStop m s v x) same ends
+  ended_stop v Full target stop is ends = let same : stops.Full ≡ stop = cc in subst (λ (x : Stop). IsStop m s v x) same (ends.0, ends.1)
 
   pub ended_open : (rank : ℕ) (u v : WorkView G N) (end : SearchEnd) (stop : Stop) → stop_of end ≡ Some stop → TakesAtMost (open_states rank end) rank u v → TakesAtMost rank rank u v
   ended_open rank u v Reached stop is taken = absurd (cc)
@@ -360,7 +415,8 @@ module _ {S G N : Type 0} (m : GameModel S) (s : S) where
   ended_open rank u v Full stop is taken = taken
 
 -- why a search stops, on a later board and for the state before
-pub stop_kept : {S G N : Type 0} (m : GameModel S) (s : S) (v board : BoardView G N) (w : WorkerView) (stop : Stop) → IsLater v board → IsStop m s (at_work v w) stop → IsStop m s (at_work board w) stop
+pub stop_kept : {S G N : Type 0} (m : GameModel S) (s : S) (v board : BoardView G N) (w : WorkerView) (stop : Stop) → IsLater v board
+    → IsStop m s (at_work v w) stop → IsStop m s (at_work board w) stop
 stop_kept m s v board w stops.Spent later is = is
 stop_kept m s v board w stops.Full later is = (is.0, full_kept m s v board later is.1)
 
@@ -456,10 +512,12 @@ module _ {S G N : Type 0} (m : GameModel S) (s : S) (goes_on : 1 ≤ m.rank s) w
   stopped_ends w target stop Reached why is = λ _. is
   stopped_ends w target stop Settled why is = absurd is
   stopped_ends w target stop Spent why is = (goes_on, is.0, subst (λ (x : Stop). IsStop m s w x) is.1 why)
-  stopped_ends w target stop Full why is = subst (λ (x : Stop). IsStop m s w x) is.1 why
+  stopped_ends w target stop Full why is = let full : IsStop m s w stops.Full = subst (λ (x : Stop). IsStop m s w x) is.1 why in (full.0, full.1, λ row below held. is.0)
 
-  pub stopped_open : (u w : WorkView G N) (target : ℤ) (stop : Stop) (end : SearchEnd) → IsStop m s w stop → IsStoppedAs w.board (m.key s) target stop end → TakesAtMost (m.rank s) (m.rank s) u w → HasTaken m s end u w
-  stopped_open u w target stops.Spent Reached why is taken = record { unless_full = λ not. inr (why, ⊎_elim (λ (a : TakesTurns (m.rank s) u w). a) (λ (b : (left_of w.turns ≡ 0) × TakesTurns (m.rank s) u w). b.1) (taken.unless_full not)) }
+  pub stopped_open : (u w : WorkView G N) (target : ℤ) (stop : Stop) (end : SearchEnd) → IsStop m s w stop
+      → IsStoppedAs w.board (m.key s) target stop end → TakesAtMost (m.rank s) (m.rank s) u w → HasTaken m s end u w
+  stopped_open u w target stops.Spent Reached why is taken =
+      record { unless_full = λ not. inr (why, ⊎_elim (λ (a : TakesTurns (m.rank s) u w). a) (λ (b : (left_of w.turns ≡ 0) × TakesTurns (m.rank s) u w). b.1) (taken.unless_full not)) }
   stopped_open u w target stops.Full Reached why is taken = record { unless_full = λ not. let wrong : false ≡ true = sym not ∙ why.0 in absurd (cc) }
   stopped_open u w target stop Settled why is taken = absurd is
   stopped_open u w target stop Spent why is taken = taken

@@ -1,3 +1,4 @@
 pub mod BetterLemmas
 pub mod GrowLemmas
+pub mod PassLemmas
 pub mod WorkLemmas

@@ -1,5 +1,5 @@
 -- What one part of a search after another keeps.
-use Rattle.std.proofs.Common.{◌≡◌, ◌⊎◌, inl, inr, ⊎_elim, ℕ, ◌+◌, ◌*◌, ◌/◌, ◌≤◌, ℤ, pos, ◌-ℤ◌, ◌≤ℤ◌, cond, true, List, [], ◌++◌, refl, sym, ap, subst, ◌∙◌, append_assoc, append-nil, arith}
+use Rattle.std.proofs.Common.{◌≡◌, ◌⊎◌, inl, inr, ⊎_elim, ℕ, ◌+◌, ◌*◌, ◌/◌, ◌≤◌, ℤ, pos, ◌-ℤ◌, ◌≤ℤ◌, ◌<ℤ◌, cond, true, List, [], ◌++◌, refl, sym, ap, subst, ◌∙◌, append_assoc, append-nil, arith}
 use Rattle.std.specs.Int.{div_ceil}
 use Rattle.std.proofs.Math.Nat.{mul-le-mul_left, mul-div_cancel_left}
 use Rattle.std.proofs.lemmas.Grind.{div_ceil_times}
@@ -10,22 +10,25 @@ use Rattle.sim_game.specs.Model.{GameModel, IsGame, LeadsTo, Reachable}
 use Rattle.sim_game.specs.Resolution.{IsStageGap, IsResolution}
 use Rattle.sim_game.proofs.ReachLemmas.{reachable_induction}
 use Rattle.sim_game.proofs.SideLemmas.{looser_trans}
+use Rattle.plan_book.specs.Books.{Grows}
 use Rattle.plan_book.specs.Serial.{serial_bound}
 use Rattle.matrix_game.specs.Budget.{Budget, left_of}
 use Rattle.bounds_board.specs.Views.{BoardView, IsLater}
 use Rattle.bounds_board.proofs.FullLemmas.{full_later, full_weaker}
-use Rattle.serial_ab.specs.Counts.{VisitsView}
+use Rattle.serial_ab.specs.Counts.{VisitsView, HasCounted}
+use Rattle.serial_ab.specs.Searches.{IsPureEntry}
 use Rattle.serial_ab.specs.Transpositions.{AreRemembered}
+use Rattle.serial_ab.proofs.KeptLemmas.{grows_none, grows_after}
 use Rattle.serial_ab.proofs.TableLemmas.{remembered_none}
 use Rattle.oracle_search.specs.Finished.{FinishedView, IsWithin, IsBeyond, IsFinished, AreFinished, IsExtended, IsClose, rank_gap, left_gap}
-use Rattle.oracle_search.specs.Searches.{IsBetter, HasVisited, HasTurned, HasKept, IsBoardFull, IsWorkedBelow, IsPureTight, IsPureWithin}
+use Rattle.oracle_search.specs.Searches.{IsBetter, HasTurned, HasKept, IsBoardFull, IsWorkedBelow, IsPureTight, IsPureWithin, IsAhead}
 use Rattle.oracle_search.specs.Workers.{WorkerView, WorkView, at_work}
 use Rattle.oracle_search.proofs.BetterLemmas.{better_refl, better_trans}
 
-pub visited_none : (v : VisitsView) → HasVisited v v
+pub visited_none : (v : VisitsView) → HasCounted v v
 visited_none v = record { limit = refl; rises = λ side. omega arith }
 
-pub visited_after : (u v w : VisitsView) → HasVisited u v → HasVisited v w → HasVisited u w
+pub visited_after : (u v w : VisitsView) → HasCounted u v → HasCounted v w → HasCounted u w
 visited_after u v w p q = record { limit = q.limit ∙ p.limit; rises = λ side. omega (arith, p.rises side, q.rises side) }
 
 pub turned_none : (t : Budget) → HasTurned t t
@@ -35,6 +38,16 @@ pub turned_after : (t u v : Budget) → HasTurned t u → HasTurned u v → HasT
 turned_after t u v p q =
     let left : left_of t ≡ 0 → left_of u ≡ 0 = λ e. let same = p.none e in let limit = p.limit in omega arith in
     record { limit = q.limit ∙ p.limit; rises = omega (arith, p.rises, q.rises); within = λ h. q.within (p.within h); none = λ e. q.none (left e) ∙ p.none e }
+
+-- where both parts together take no turn, neither does
+same_turns : (t u v : Budget) → HasTurned t u → HasTurned u v → v ≡ t → (u ≡ t) × (v ≡ u)
+same_turns t u v p q e =
+    let all : v.spent ≡ t.spent = ap (λ (b : Budget). b.spent) e in
+    let first = p.rises in let last = q.rises in
+    let spent : u.spent ≡ t.spent = omega arith in
+    let limit = p.limit in
+    let same : u ≡ t = λ i. record { limit = limit i; spent = spent i } in
+    (same, e ∙ sym same)
 
 module _ {S G N : Type 0} (m : GameModel S) where
   -- ---- numbers only come closer
@@ -69,6 +82,14 @@ module _ {S G N : Type 0} (m : GameModel S) where
   pub pure_later : (s : S) (v w : BoardView G N) → IsLater v w → IsPureTight m s v → IsPureTight m s w
   pure_later s v w later pure side = looser_trans side (serial_bound m side s) (v.seen side (m.key s)) (w.seen side (m.key s)) (pure side) (later.seen side (m.key s))
 
+  pub ahead_later : (s : S) (v w : BoardView G N) → IsLater v w → IsAhead m s v → IsAhead m s w
+  ahead_later s v w later ahead =
+      let low : v.seen One (m.key s) ≤ℤ w.seen One (m.key s) = later.seen One (m.key s) in
+      let high : w.seen Two (m.key s) ≤ℤ v.seen Two (m.key s) = later.seen Two (m.key s) in
+      ⊎_elim
+      (λ (a : serial_bound m One s <ℤ v.seen One (m.key s)). inl (omega (arith, ints)))
+      (λ (b : v.seen Two (m.key s) <ℤ serial_bound m Two s). inr (omega (arith, ints))) ahead
+
   -- bounds as tight as pure plans make them are no further apart than these
   pub pure_within : (s : S) (v : BoardView G N) (target : ℤ) → IsPureTight m s v → IsPureWithin m s target → IsWithin v (m.key s) target
   pure_within s v target pure near =
@@ -90,7 +111,8 @@ module _ {S G N : Type 0} (m : GameModel S) where
   extended_none : (total limit : ℕ) (v : BoardView G N) (old new : FinishedView) → new.keys ≡ old.keys → (old.was_full ≡ true → new.was_full ≡ true) → IsExtended m total v limit old new
   extended_none total limit v old new same full = record { more = []; joins = same ∙ sym (append-nil old.keys); each = All-nil (IsFinished m total v limit); full = full }
 
-  pub extended_after : (total a b c : ℕ) (v w : BoardView G N) (x y z : FinishedView) → IsLater v w → a ≤ c → b ≤ c → IsExtended m total v a x y → IsExtended m total w b y z → IsExtended m total w c x z
+  pub extended_after : (total a b c : ℕ) (v w : BoardView G N) (x y z : FinishedView) → IsLater v w → a ≤ c → b ≤ c → IsExtended m total v a x y
+      → IsExtended m total w b y z → IsExtended m total w c x z
   extended_after total a b c v w x y z later wide wider p q = record {
     more = p.more ++ q.more;
     joins = q.joins ∙ ap (λ (l : List ℕ). l ++ q.more) p.joins ∙ append_assoc x.keys p.more q.more;
@@ -101,17 +123,18 @@ module _ {S G N : Type 0} (m : GameModel S) where
   }
 
   -- a worker that has done nothing
-  pub kept_none : (v : BoardView G N) (w : WorkerView) → w.settled.keys ≡ [] → w.searches ≡ [] → HasKept m (at_work v w)
+  pub kept_none : (v : BoardView G N) (w : WorkerView) → w.settled.keys ≡ [] → w.searches.stored ≡ [] → HasKept m (at_work v w)
   kept_none v w no_keys no_searches = record {
     finished = subst (AreFinished m v.total v) (sym no_keys) (record { each = All-nil (IsFinished m v.total v 32); apart = λ i j l h. absurd (omega arith) });
-    remembered = subst (AreRemembered m v) (sym no_searches) remembered_none;
+    remembered = remembered_none no_searches;
   }
 
   -- a part that finishes no state
-  pub worked_by : (s : S) (limit : ℕ) (old new : WorkView G N) → IsBetter m old.board.total old.board new.board → HasTurned old.turns new.turns → HasVisited old.visits new.visits
+  pub worked_by : (s : S) (limit : ℕ) (old new : WorkView G N) → IsBetter m old.board.total old.board new.board → HasTurned old.turns new.turns → HasCounted old.visits new.visits
       → new.settled.keys ≡ old.settled.keys → (old.settled.was_full ≡ true → new.settled.was_full ≡ true)
-      → HasKept m old → AreRemembered m new.board new.searches → (new.settled.was_full ≡ true → old.settled.was_full ≡ true ⊎ IsBoardFull m s new.board) → IsWorkedBelow m s limit old new
-  worked_by s limit old new better turned visited same full kept remembered cause = record {
+      → HasKept m old → AreRemembered m new.board new.searches → (new.settled.was_full ≡ true → old.settled.was_full ≡ true ⊎ IsBoardFull m s new.board)
+      → (new.turns ≡ old.turns → Grows (IsPureEntry m old.board.total) old.board.entries new.board.entries) → IsWorkedBelow m s limit old new
+  worked_by s limit old new better turned visited same full kept remembered cause pure = record {
     board = better;
     turns = turned;
     visits = visited;
@@ -122,10 +145,12 @@ module _ {S G N : Type 0} (m : GameModel S) where
       remembered = remembered;
     };
     cause = cause;
+    pure_alone = pure;
   }
 
   pub worked_none : (s : S) (limit : ℕ) (v : WorkView G N) → HasKept m v → IsWorkedBelow m s limit v v
   worked_none s limit v kept = worked_by s limit v v (better_refl m v.board.total v.board) (turned_none v.turns) (visited_none v.visits) refl (λ e. e) kept kept.remembered (λ e. inl e)
+      (λ e. grows_none (IsPureEntry m v.board.total) v.board.entries v.board.entries refl)
 
   pub worked_after : (s : S) (a b c : ℕ) (u v w : WorkView G N) → a ≤ c → b ≤ c → IsWorkedBelow m s a u v → IsWorkedBelow m s b v w → IsWorkedBelow m s c u w
   worked_after s a b c u v w wide wider p q = record {
@@ -136,8 +161,13 @@ module _ {S G N : Type 0} (m : GameModel S) where
         (subst (λ (total : ℕ). IsExtended m total v.board a u.settled v.settled) (sym q.board.later.total) p.settled) q.settled;
     kept = q.kept;
     cause = λ e. ⊎_elim
-        (λ (before : v.settled.was_full ≡ true). ⊎_elim (λ (first : u.settled.was_full ≡ true). inl first) (λ (was : IsBoardFull m s v.board). inr (full_kept s v.board w.board q.board.later was)) (p.cause before))
+        (λ (before : v.settled.was_full ≡ true). ⊎_elim (λ (first : u.settled.was_full ≡ true). inl first)
+        (λ (was : IsBoardFull m s v.board). inr (full_kept s v.board w.board q.board.later was)) (p.cause before))
         (λ (was : IsBoardFull m s w.board). inr was) (q.cause e);
+    pure_alone = λ e.
+        let both = same_turns u.turns v.turns w.turns p.turns q.turns e in
+        grows_after (IsPureEntry m u.board.total) u.board.entries v.board.entries w.board.entries (p.pure_alone both.0)
+        (subst (λ (total : ℕ). Grows (IsPureEntry m total) v.board.entries w.board.entries) p.board.later.total (q.pure_alone both.1));
   }
 
   -- what the search of a state after it keeps
@@ -149,6 +179,7 @@ module _ {S G N : Type 0} (m : GameModel S) where
     settled = p.settled;
     kept = p.kept;
     cause = λ e. ⊎_elim (λ (before : v.settled.was_full ≡ true). inl before) (λ (was : IsBoardFull m child w.board). inr (full_below s child w.board leads was)) (p.cause e);
+    pure_alone = p.pure_alone;
   }
 
 -- ---- a state that is left to another worker

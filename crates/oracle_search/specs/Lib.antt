@@ -1,3 +1,4 @@
 pub mod Finished
+pub mod Passes
 pub mod Searches
 pub mod Workers

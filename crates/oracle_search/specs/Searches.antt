@@ -1,16 +1,18 @@
 -- What a search keeps, and how it ends.
-use Rattle.std.specs.Prelude.{◌≡◌, ◌⊎◌, ℕ, ◌+◌, ◌*◌, ◌<◌, ◌≤◌, ℤ, ◌+ℤ◌, ◌≤ℤ◌, true, false, Option, None, Some, length}
+use Rattle.std.specs.Prelude.{◌≡◌, ◌⊎◌, ℕ, ◌+◌, ◌*◌, ◌<◌, ◌≤◌, ℤ, ◌+ℤ◌, ◌≤ℤ◌, ◌<ℤ◌, Bool, true, false, IsTrue, Option, None, Some, length}
 use Rattle.sim_game.specs.declared.Side.{Side}
 use Rattle.sim_game.specs.declared.Side.TheVariants.{One, Two}
-use Rattle.sim_game.specs.Model.{GameModel, LeadsTo}
+use Rattle.sim_game.specs.Model.{GameModel, LeadsTo, Reachable}
 use Rattle.sim_game.specs.Sides.{IsNoTighter}
 use Rattle.plan_book.specs.Entries.{IsLawfulEntry}
 use Rattle.plan_book.specs.Books.{Grows}
 use Rattle.plan_book.specs.Serial.{serial_bound, tree_size}
-use Rattle.matrix_game.specs.Budget.{Budget, left_of, after_turn}
+use Rattle.matrix_game.specs.Budget.{Budget, left_of, after_one_turn}
 use Rattle.bounds_board.specs.Views.{BoardView, IsLater, WasFull}
-use Rattle.serial_ab.specs.Counts.{VisitsView, spent_on, left_on}
+use Rattle.serial_ab.specs.Counts.{VisitsView, HasCounted, left_on}
+use Rattle.serial_ab.specs.Searches.{IsPureEntry}
 use Rattle.serial_ab.specs.Transpositions.{AreRemembered}
+use Rattle.restricted_game.specs.Children.{IsRowOf}
 use Rattle.restricted_game.specs.Held.{HeldMoves, count_held}
 use Rattle.serial_ab.specs.declared.windowed.SerialEnd.{SerialEnd}
 use Rattle.serial_ab.specs.declared.windowed.SerialEnd.TheVariants.{Exact, AtLeast, AtMost, Cut}
@@ -26,11 +28,6 @@ pub record IsBetter {S G N : Type 0} (m : GameModel S) (total : ℕ) (old new : 
   pub later : IsLater old new
   pub posted : Grows (IsLawfulEntry m total) old.entries new.entries
 
--- visits were counted, with the same limit
-pub record HasVisited (old new : VisitsView) : Type 0 where
-  pub limit : new.limit ≡ old.limit
-  pub rises : (side : Side) → spent_on side old ≤ spent_on side new
-
 -- turns were taken, with the same limit and within it, and none where none was left
 pub record HasTurned (old new : Budget) : Type 0 where
   pub limit : new.limit ≡ old.limit
@@ -40,7 +37,7 @@ pub record HasTurned (old new : Budget) : Type 0 where
 
 -- a turn was left, and one was taken
 abbrev pub HasTurn : Budget → Budget → Type 0
-HasTurn old new = (1 ≤ left_of old) × (new ≡ after_turn old)
+HasTurn old new = (1 ≤ left_of old) × (new ≡ after_one_turn old)
 
 -- a claim of the key of a state that a history from this one leads to found the board full
 abbrev pub IsBoardFull : {S G N : Type 0} → GameModel S → S → BoardView G N → Type 0
@@ -51,14 +48,23 @@ pub record HasKept {S G N : Type 0} (m : GameModel S) (v : WorkView G N) : Type 
   pub finished : AreFinished m v.board.total v.board v.settled.keys
   pub remembered : AreRemembered m v.board v.searches
 
+-- a reachable state of the board's game, its row, and what is kept
+pub record IsAtRow {S G N : Type 0} (m : GameModel S) (g : G) (s : S) (row : ℕ) (v : WorkView G N) : Type 0 where
+  pub game : v.board.game ≡ g
+  pub reachable : Reachable m s
+  pub has_row : IsRowOf m v.board s row
+  pub kept : HasKept m v
+
 -- what each part of the search of a state keeps; the states that it finishes have ranks below the limit
 pub record IsWorkedBelow {S G N : Type 0} (m : GameModel S) (s : S) (limit : ℕ) (old new : WorkView G N) : Type 0 where
   pub board : IsBetter m old.board.total old.board new.board
   pub turns : HasTurned old.turns new.turns
-  pub visits : HasVisited old.visits new.visits
+  pub visits : HasCounted old.visits new.visits
   pub settled : IsExtended m new.board.total new.board limit old.settled new.settled
   pub kept : HasKept m new
   pub cause : new.settled.was_full ≡ true → old.settled.was_full ≡ true ⊎ IsBoardFull m s new.board
+  -- where it takes no turn, it posts pure plans alone
+  pub pure_alone : new.turns ≡ old.turns → Grows (IsPureEntry m old.board.total) old.board.entries new.board.entries
 
 abbrev pub IsWorked : {S G N : Type 0} → GameModel S → S → WorkView G N → WorkView G N → Type 0
 IsWorked m s old new = IsWorkedBelow m s (m.rank s) old new
@@ -69,6 +75,7 @@ Ends m s target v Reached = 1 ≤ m.rank s → IsWithin v.board (m.key s) target
 Ends m s target v Settled = (1 ≤ m.rank s) × IsBeyond v.board (m.key s) target × IsClose m v.board.total v.board s
 Ends m s target v Spent = (1 ≤ m.rank s) × IsBeyond v.board (m.key s) target × (left_of v.turns ≡ 0)
 Ends m s target v Full = (v.settled.was_full ≡ true) × IsBoardFull m s v.board
+    × ((row : ℕ) → row < v.board.rows → v.board.key_at row ≡ Some (m.key s) → IsBeyond v.board (m.key s) target)
 
 -- at most 63 turns for each of so many states, besides those that were finished
 abbrev pub TakesTurns : {G N : Type 0} → ℕ → WorkView G N → WorkView G N → Type 0
@@ -95,8 +102,8 @@ pub record HasEnded {S G N : Type 0} (m : GameModel S) (s : S) (target : ℤ) (o
 
 -- ---- pure plans
 -- each side has as many visits left as the tree below the state has nodes
-abbrev pub HasVisits : {S : Type 0} → GameModel S → S → VisitsView → Type 0
-HasVisits m s visits = (side : Side) → tree_size m s ≤ left_on side visits
+abbrev pub HasVisitsBelow : {S : Type 0} → GameModel S → S → VisitsView → Type 0
+HasVisitsBelow m s visits = (side : Side) → tree_size m s ≤ left_on side visits
 
 -- the bounds seen at the state are as tight as pure plans can make them
 abbrev pub IsPureTight : {S G N : Type 0} → GameModel S → S → BoardView G N → Type 0
@@ -105,6 +112,33 @@ IsPureTight m s v = (side : Side) → IsNoTighter side (serial_bound m side s) (
 -- pure plans alone bring the bounds as close as the target
 abbrev pub IsPureWithin : {S : Type 0} → GameModel S → S → ℤ → Type 0
 IsPureWithin m s target = serial_bound m Two s ≤ℤ (serial_bound m One s +ℤ target)
+
+-- with so many visits, and no full board: the bounds are as tight as pure plans can make them, and no turn is taken where these suffice
+pub record BoundsByPure {S G N : Type 0} (m : GameModel S) (s : S) (target : ℤ) (old new : WorkView G N) (end : SearchEnd) : Type 0 where
+  pub tight : HasVisitsBelow m s old.visits → new.settled.was_full ≡ false → 1 ≤ m.rank s → IsPureTight m s new.board
+  pub at_once : HasVisitsBelow m s old.visits → new.settled.was_full ≡ false → IsPureWithin m s target → (end ≡ Reached) × (new.turns ≡ old.turns)
+
+-- ---- states that are left to other workers
+-- the bounds seen at the state are tighter than pure plans can make them
+abbrev pub IsAhead : {S G N : Type 0} → GameModel S → S → BoardView G N → Type 0
+IsAhead m s v = (serial_bound m One s <ℤ v.seen One (m.key s)) ⊎ (v.seen Two (m.key s) <ℤ serial_bound m Two s)
+
+-- what a state is left for: this is allowed, a turn is left, no claim was full, and another worker has made the bounds tighter than pure plans can
+pub record IsLeavable {S G N : Type 0} (m : GameModel S) (s : S) (may_leave : Bool) (old new : WorkView G N) : Type 0 where
+  pub allowed : IsTrue may_leave
+  pub turn : 1 ≤ left_of old.turns
+  pub not_full : old.settled.was_full ≡ false
+  pub ahead : IsAhead m s new.board
+
+-- a number was found, and lies below the bound
+abbrev pub IsFoundBelow : Option ℤ → ℤ → Type 0
+IsFoundBelow None bound = ⊥
+IsFoundBelow (Some x) bound = x <ℤ bound
+
+-- a number was found, and lies above the bound
+abbrev pub IsFoundAbove : Option ℤ → ℤ → Type 0
+IsFoundAbove None bound = ⊥
+IsFoundAbove (Some x) bound = bound <ℤ x
 
 -- ---- the states after held moves
 -- why not all of them were finished

@@ -1,18 +1,28 @@
 -- What a worker has left, and what it has done.
-use Rattle.std.specs.Prelude.{ℕ, List, true, false, [], ◌∷◌, ◌++◌}
+use Rattle.std.specs.Prelude.{ℕ, Bool, List, true, false, [], ◌∷◌, ◌++◌}
+use Rattle.matrix_game.specs.declared.solver.StageSolver.{StageSolver}
+use Rattle.matrix_game.specs.declared.solver.StageSolver.TheVariants as solvers
 use Rattle.matrix_game.specs.Budget.{Budget}
 use Rattle.serial_ab.specs.Counts.{VisitsView}
-use Rattle.serial_ab.specs.declared.transpositions.Query.{Query}
-use Rattle.serial_ab.specs.declared.transpositions.Memo.{Memo}
+use Rattle.serial_ab.specs.Tables.{TableView}
 use Rattle.bounds_board.specs.Views.{BoardView}
 use Rattle.oracle_search.specs.Finished.{FinishedView}
+
+-- whether stages are solved by linear programs
+abbrev pub is_linear : StageSolver → Bool
+is_linear (solvers.Regret memory) = false
+is_linear solvers.Linear = true
 
 pub record WorkerView : Type 0 where
   pub turns : Budget
   pub visits : VisitsView
   pub settled : FinishedView
-  -- the serial searches that it remembers
-  pub searches : List (Query × Memo)
+  -- the table of its serial searches
+  pub searches : TableView
+  -- whether it solves stages by linear programs, and makes passes
+  pub linear : Bool
+  -- the states that the pass under way has finished
+  pub passed : List ℕ
 
 -- with no full board in mind, as each search begins
 abbrev pub without_full : WorkerView → WorkerView
@@ -26,14 +36,18 @@ with_full w = record w { settled = record w.settled { was_full = true } }
 abbrev pub with_key : WorkerView → ℕ → WorkerView
 with_key w key = record w { settled = record w.settled { keys = w.settled.keys ++ key ∷ [] } }
 
+-- with one more state that the pass has finished
+abbrev pub with_passed : WorkerView → ℕ → WorkerView
+with_passed w key = record w { passed = w.passed ++ key ∷ [] }
+
 -- a worker and the board that it works on
 pub record WorkView (G N : Type 0) : Type 0 where
   pub board : BoardView G N
   pub turns : Budget
   pub visits : VisitsView
   pub settled : FinishedView
-  -- the serial searches that it remembers
-  pub searches : List (Query × Memo)
+  -- the table of its serial searches
+  pub searches : TableView
 
 abbrev pub at_work : {G N : Type 0} → BoardView G N → WorkerView → WorkView G N
 at_work board worker = record { board = board; turns = worker.turns; visits = worker.visits; settled = worker.settled; searches = worker.searches }

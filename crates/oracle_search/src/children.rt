@@ -137,7 +137,7 @@ fn search_child<G: Game, B: Bounds<G>, T: Gate>(
     if gap_at(setup.game, s, row, board) == 0 {
         return Ok(None);
     }
-    let end = match search_row(setup, s, row, 0, worker, board) {
+    let end = match search_row(setup, s, row, 0, true, worker, board) {
         Ok(end) => end,
         Err(_) => return Err(NoMemory),
     };

@@ -65,6 +65,13 @@ impl Settled {
         }
     }
 
+    /// Forgets all keys.
+    pub(crate) fn clear(&mut self)
+        ensures { self.new ≡ record self.old { keys = [] } }
+    {
+        self.keys.clear();
+    }
+
     pub(crate) fn was_full(&self) -> bool
         ensures { result ≡ self.now.was_full }
     {

@@ -1,6 +1,6 @@
 //! How far the bounds at a state are apart.
 
-ghost use Rattle.std.specs.Prelude.{◌≡◌, ◌≤◌, ◌-ℤ◌, ◌≤ℤ◌, ℕ, pos, Some, MatchBool};
+ghost use Rattle.std.specs.Prelude.{◌≡◌, ◌≤◌, ◌-ℤ◌, ◌≤ℤ◌, ℕ, pos, Some, IsTrue, MatchBool};
 ghost use Rattle.sim_game.specs.declared.Side.TheVariants.{One, Two};
 ghost use Rattle.sim_game.specs.Model.{Reachable};
 ghost use Rattle.sim_game.specs.Resolution.{IsStageGap};
@@ -78,6 +78,7 @@ pub(crate) fn ended_early<G: Game, B: Bounds<G>>(
     ensures later { IsLater (B.view board.old) (B.view board.new) }
     ensures entries { (B.view board.new).entries ≡ (B.view board.old).entries }
     ensures end { IsEarlyEnd (G.model g) (B.view board.new) s target result }
+    ensures leaves { result ≡ Some SearchEnd.Settled → IsTrue may_leave }
 {
     let gap = gap_at(g, s, row, board);
     if gap <= target {

@@ -1,15 +1,16 @@
 //! Restricted games that grow by best replies.
 
-ghost use Rattle.std.specs.Prelude.{◌≡◌, ◌≤ℤ◌, ◌≤◌, pos, Some, Err, IfOk};
+ghost use Rattle.std.specs.Prelude.{◌≡◌, ◌≤ℤ◌, ◌+◌, ◌≤◌, pos, Some, Err, IfOk};
 ghost use Rattle.sim_game.specs.declared.Side.{Side};
 ghost use Rattle.sim_game.specs.Model.{Reachable};
 ghost use Rattle.matrix_game.specs.Budget.{left_of};
 ghost use Rattle.restricted_game.specs.declared.held.StepFault.{StepFault};
 ghost use Rattle.restricted_game.specs.Children.{AreChildRows, HasNoRows};
-ghost use Rattle.restricted_game.specs.Held.{HasGrown, held_after};
+ghost use Rattle.restricted_game.specs.Held.{HasGrown, HoldsAll, IsGrown, held_after};
 ghost use Rattle.restricted_game.specs.Gaps.{HasStepGap};
 ghost use Rattle.oracle_search.specs.Workers.{at_work};
 ghost use Rattle.oracle_search.specs.Searches.{HasKept, IsWorked, HasEnded, HasTurn, IsBoardFull, IsFirstHeld};
+ghost use Rattle.oracle_search.specs.Passes.{IsFullHeld};
 
 use crate::children::search_children;
 use crate::ends::{SearchEnd, Stop};
@@ -17,14 +18,14 @@ use crate::gap::{is_within, stopped};
 use crate::gate::Gate;
 use crate::worker::{Setup, Worker};
 use bounds_board::{Bounds, Row};
-use restricted_game::{ChildRows, Restricted, StepEnd, StepFault};
+use restricted_game::{ChildRows, Node, Restricted, StepEnd, StepFault};
 use sim_game::{Game, NoMemory, Side};
 
 /// The moves that a restricted game at a state holds, and the rows of the states after pairs of moves.
 #[derive(Drop)]
-struct Growth {
+pub(crate) struct Growth {
     held: Restricted,
-    children: ChildRows,
+    pub(crate) children: ChildRows,
 }
 
 impl Growth {
@@ -40,6 +41,24 @@ impl Growth {
         let first = (setup.worker % rows, setup.worker % cols);
         Ok(Growth {
             held: Restricted::new(setup.alloc, rows, cols, first)?,
+            children: ChildRows::new(setup.alloc, setup.game, s)?,
+        })
+    }
+
+    /// All moves of both sides, and no row.
+    pub(crate) fn full<G: Game, T: Gate>(
+        setup: &Setup<'_, G, T>,
+        s: G::State,
+    ) -> Result<Growth, NoMemory>
+        requires reachable { Reachable (G.model setup.now.game) s }
+        requires goes_on { 1 ≤ (G.model setup.now.game).rank s }
+        ensures held { IfOk result (λ growth. IsFullHeld (G.model setup.now.game) s growth.held) }
+        ensures children { IfOk result (λ growth. HasNoRows (G.model setup.now.game) s growth.children) }
+    {
+        let rows = setup.game.moves(Side::One, s);
+        let cols = setup.game.moves(Side::Two, s);
+        Ok(Growth {
+            held: Restricted::full(setup.alloc, rows, cols)?,
             children: ChildRows::new(setup.alloc, setup.game, s)?,
         })
     }
@@ -66,6 +85,8 @@ pub(crate) fn grow<G: Game, B: Bounds<G>, T: Gate>(
         (at_work (B.view board.old) worker.old) (at_work (B.view board.new) worker.new) }
     ensures ended { IfOk result (HasEnded (G.model setup.now.game) s target
         (at_work (B.view board.old) worker.old) (at_work (B.view board.new) worker.new)) }
+    ensures turned { IfOk result (λ end. end ≡ SearchEnd.Settled
+        → worker.old.turns.spent + 1 ≤ worker.new.turns.spent) }
 {
     let g = setup.game;
     let mut growth = match Growth::new(setup, s) {
@@ -99,7 +120,7 @@ pub(crate) fn grow<G: Game, B: Bounds<G>, T: Gate>(
 }
 
 /// A step of the restricted game, told to the gate before.
-fn take_turn<G: Game, B: Bounds<G>, T: Gate>(
+pub(crate) fn take_turn<G: Game, B: Bounds<G>, T: Gate>(
     setup: &Setup<'_, G, T>,
     s: G::State,
     row: Row,
@@ -123,6 +144,7 @@ fn take_turn<G: Game, B: Bounds<G>, T: Gate>(
         (B.view board.old) (B.view board.new) s growth.old.held) }
     ensures held { IfOk result (λ end. growth.new.held ≡ held_after growth.old.held end) }
     ensures grown { IfOk result (HasGrown growth.old.held growth.new.held) }
+    ensures all { HoldsAll growth.old.held → IfOk result (λ end. IsGrown end → ⊥) }
     ensures turn { IfOk result (λ _. HasTurn worker.old.turns worker.new.turns) }
     ensures spent { result ≡ Err StepFault.Spent
         → (left_of worker.old.turns ≡ 0) × (worker.new.turns ≡ worker.old.turns) }
@@ -131,8 +153,7 @@ fn take_turn<G: Game, B: Bounds<G>, T: Gate>(
     setup.gate.at_turn(setup.worker, worker.turns().spent());
     growth.held.step(
         setup.game,
-        s,
-        row,
+        Node { state: s, row },
         &mut growth.children,
         board,
         &mut worker.turns,

@@ -7,8 +7,10 @@ mod finished;
 mod gap;
 mod gate;
 mod growth;
+mod passes;
 mod serial_bounds;
 mod state;
+mod sweeps;
 mod worker;
 
 pub use ends::SearchEnd;

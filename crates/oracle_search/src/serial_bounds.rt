@@ -1,14 +1,13 @@
 //! The bounds of a state by pure plans.
 
-ghost use Rattle.std.specs.Prelude.{◌≡◌, ◌≤◌, ◌<ℤ◌, Err, IsTrue, IsSome, IfOk};
-ghost use Rattle.sim_game.specs.Model.{Reachable};
+ghost use Rattle.std.specs.Prelude.{◌≡◌, ◌⊎◌, ◌≤◌, ◌<ℤ◌, Err, IsTrue, IfSome, IfOk};
 ghost use Rattle.sim_game.specs.Sides.{other_side, IsNoTighter, opening_bound};
 ghost use Rattle.sim_game.specs.declared.Side.{Side};
 ghost use Rattle.plan_book.specs.Serial.{serial_bound, tree_size};
 ghost use Rattle.serial_ab.specs.Counts.{left_on};
-ghost use Rattle.restricted_game.specs.Children.{IsRowOf};
 ghost use Rattle.oracle_search.specs.Workers.{at_work};
-ghost use Rattle.oracle_search.specs.Searches.{HasKept, HasVisits, IsPureTight, IsWorked, IsBoardFull, number_in};
+ghost use Rattle.oracle_search.specs.Searches.{IsAtRow, HasVisitsBelow, IsPureTight, IsWorked, IsBoardFull};
+ghost use Rattle.oracle_search.specs.Searches.{IsAhead, number_in, IsFoundBelow, IsFoundAbove};
 
 use crate::gate::Gate;
 use crate::worker::{Setup, Worker};
@@ -26,33 +25,21 @@ fn bound_side<G: Game, B: Bounds<G>, T: Gate>(
     worker: &mut Worker,
     board: &mut B,
 ) -> Result<Option<i64>, BoardFault>
-    requires game { (B.view board.old).game ≡ setup.now.game }
-    requires reachable { Reachable (G.model setup.now.game) s }
-    requires row { IsRowOf (G.model setup.now.game) (B.view board.old) s row }
+    requires here { IsAtRow (G.model setup.now.game) setup.now.game s row (at_work (B.view board.old) worker.old) }
     requires wide { opening_bound (G.model setup.now.game) Side.One <ℤ opening_bound (G.model setup.now.game) Side.Two }
-    requires kept { HasKept (G.model setup.now.game) (at_work (B.view board.old) worker.old) }
     ensures worked { IsWorked (G.model setup.now.game) s
         (at_work (B.view board.old) worker.old) (at_work (B.view board.new) worker.new) }
     ensures same { worker.new ≡ record worker.old { visits = worker.new.visits; searches = worker.new.searches } }
     ensures other { left_on (other_side side) worker.new.visits ≡ left_on (other_side side) worker.old.visits }
     ensures full { result ≡ Err BoardFault.Full → IsBoardFull (G.model setup.now.game) s (B.view board.new) }
+    ensures found { IfOk result (λ n. IfSome n (λ x. x ≡ serial_bound (G.model setup.now.game) side s)) }
     ensures tight { tree_size (G.model setup.now.game) s ≤ left_on side worker.old.visits
         → IfOk result (λ _. IsNoTighter side (serial_bound (G.model setup.now.game) side s)
         ((B.view board.new).seen side ((G.model setup.now.game).key s))) }
 {
     let g = setup.game;
     let range = (opening_bound(g, Side::One), opening_bound(g, Side::Two));
-    match serial_with(
-        setup.alloc,
-        g,
-        s,
-        row,
-        side,
-        range,
-        &mut worker.visits,
-        &mut worker.searches,
-        board,
-    ) {
+    match serial_with(g, s, row, side, range, &mut worker.serial, board) {
         Ok(end) => Ok(number_in(end)),
         Err(BoardFault::Full) => Err(BoardFault::Full),
         Err(BoardFault::NoMemory) => Err(BoardFault::NoMemory),
@@ -73,7 +60,7 @@ fn number_in(end: SerialEnd) -> Option<i64>
 
 /// Whether these bounds are tighter than the numbers that the serial searches of both sides found.
 fn is_ahead(enclosure: Enclosure, lower: Option<i64>, upper: Option<i64>) -> bool
-    ensures { IsTrue result → (IsSome lower) × (IsSome upper) }
+    ensures { IsTrue result → IsFoundBelow lower enclosure.lower ⊎ IsFoundAbove upper enclosure.upper }
 {
     match (lower, upper) {
         (Some(lower), Some(upper)) => enclosure.lower > lower || enclosure.upper < upper,
@@ -90,16 +77,14 @@ pub(crate) fn bound_state<G: Game, B: Bounds<G>, T: Gate>(
     worker: &mut Worker,
     board: &mut B,
 ) -> Result<bool, BoardFault>
-    requires game { (B.view board.old).game ≡ setup.now.game }
-    requires reachable { Reachable (G.model setup.now.game) s }
-    requires row { IsRowOf (G.model setup.now.game) (B.view board.old) s row }
+    requires here { IsAtRow (G.model setup.now.game) setup.now.game s row (at_work (B.view board.old) worker.old) }
     requires wide { opening_bound (G.model setup.now.game) Side.One <ℤ opening_bound (G.model setup.now.game) Side.Two }
-    requires kept { HasKept (G.model setup.now.game) (at_work (B.view board.old) worker.old) }
     ensures worked { IsWorked (G.model setup.now.game) s
         (at_work (B.view board.old) worker.old) (at_work (B.view board.new) worker.new) }
     ensures same { worker.new ≡ record worker.old { visits = worker.new.visits; searches = worker.new.searches } }
     ensures full { result ≡ Err BoardFault.Full → IsBoardFull (G.model setup.now.game) s (B.view board.new) }
-    ensures tight { HasVisits (G.model setup.now.game) s worker.old.visits
+    ensures ahead { IfOk result (λ is_ahead. IsTrue is_ahead → IsAhead (G.model setup.now.game) s (B.view board.new)) }
+    ensures tight { HasVisitsBelow (G.model setup.now.game) s worker.old.visits
         → IfOk result (λ _. IsPureTight (G.model setup.now.game) s (B.view board.new)) }
 {
     match bound_side(setup, s, row, Side::One, worker, board) {

@@ -1,15 +1,17 @@
 //! The search of a state.
 
-ghost use Rattle.std.specs.Prelude.{◌≡◌, ◌≤◌, ◌≤ℤ◌, false, pos, IfOk};
+ghost use Rattle.std.specs.Prelude.{◌≡◌, ◌≢◌, ℕ, ◌+◌, ◌≤◌, ◌≤ℤ◌, true, false, pos, Some, IfOk};
 ghost use Rattle.sim_game.specs.Model.{Reachable};
-ghost use Rattle.restricted_game.specs.Children.{IsRowOf};
+ghost use Rattle.oracle_search.specs.Passes.{TakesPasses};
 ghost use Rattle.oracle_search.specs.Workers.{at_start, at_work};
-ghost use Rattle.oracle_search.specs.Searches.{HasKept, IsWorked, Ends, HasTaken, HasEnded, HasVisits, IsPureTight, IsPureWithin};
+ghost use Rattle.oracle_search.specs.Searches.{HasKept, IsAtRow, IsWorked, Ends, HasTaken, HasEnded};
+ghost use Rattle.oracle_search.specs.Searches.{BoundsByPure, IsLeavable};
 
 use crate::ends::{SearchEnd, Stop};
 use crate::gap::{ended_early, gap_at, stopped};
 use crate::gate::Gate;
 use crate::growth::grow;
+use crate::passes::search_linear;
 use crate::serial_bounds::bound_state;
 use crate::worker::{Setup, Worker};
 use bounds_board::{BoardFault, Bounds, Row};
@@ -21,6 +23,10 @@ use sim_game::{Game, NoMemory};
 /// The double-oracle search of Bošanský et al. (2016): bounds by pure plans first, then a game on a few moves of each
 /// side that grows by best replies, with its children searched before each turn. A state below this one at which the
 /// board shows more than its pure plans and a small gap is left to the worker that has brought it there.
+///
+/// With linear stages, whose gaps are narrow from the first turn on, the search goes by passes over all states, with all
+/// moves held: one that brings the gap to a sixteenth of the range of payoffs, one for the target, and one that brings
+/// each state as close as its stages reach.
 pub fn search<G: Game, B: Bounds<G>, T: Gate>(
     setup: &Setup<'_, G, T>,
     s: G::State,
@@ -35,18 +41,23 @@ pub fn search<G: Game, B: Bounds<G>, T: Gate>(
     ensures worked { IsWorked (G.model setup.now.game) s
         (at_start (B.view board.old) worker.old) (at_work (B.view board.new) worker.new) }
     ensures ends { IfOk result (Ends (G.model setup.now.game) s target (at_work (B.view board.new) worker.new)) }
-    ensures turns { IfOk result (λ end. HasTaken (G.model setup.now.game) s end
+    ensures turns { worker.old.linear ≡ false → IfOk result (λ end. HasTaken (G.model setup.now.game) s end
         (at_start (B.view board.old) worker.old) (at_work (B.view board.new) worker.new)) }
 
-    // With visits for the whole tree, and no full board.
-    ensures pure { HasVisits (G.model setup.now.game) s worker.old.visits → worker.new.settled.was_full ≡ false
-        → 1 ≤ (G.model setup.now.game).rank s
-        → IfOk result (λ _. IsPureTight (G.model setup.now.game) s (B.view board.new)) }
-    ensures at_once { HasVisits (G.model setup.now.game) s worker.old.visits → worker.new.settled.was_full ≡ false
-        → IsPureWithin (G.model setup.now.game) s target
-        → IfOk result (λ end. (end ≡ SearchEnd.Reached) × (worker.new.turns ≡ worker.old.turns)) }
+    // With linear stages: at most three passes of a turn for each state that has a row.
+    ensures owed { worker.old.linear ≡ true → worker.new.settled.was_full ≡ false
+        → IfOk result (λ _. TakesPasses (G.model setup.now.game) 3 (B.view board.new) ((G.model setup.now.game).rank s)
+        worker.old.turns.spent worker.new.turns.spent) }
+    ensures pure { IfOk result (BoundsByPure (G.model setup.now.game) s target
+        (at_start (B.view board.old) worker.old) (at_work (B.view board.new) worker.new)) }
+
+    // The state that was asked for is not left to another worker, and keeps a row.
+    ensures settled { IfOk result (λ end. end ≡ SearchEnd.Settled
+        → worker.old.turns.spent + 1 ≤ worker.new.turns.spent) }
+    ensures rowed { 1 ≤ (G.model setup.now.game).rank s → IfOk result (λ end. end ≢ SearchEnd.Full
+        → (row : ℕ) × ((B.view board.new).key_at row ≡ Some ((G.model setup.now.game).key s))) }
 {
-    worker.begin(setup.game.rank(s));
+    worker.begin();
     search_state(setup, s, target, worker, board)
 }
 
@@ -64,20 +75,30 @@ fn search_state<G: Game, B: Bounds<G>, T: Gate>(
     requires kept { HasKept (G.model setup.now.game) (at_work (B.view board.old) worker.old) }
     ensures worked { IsWorked (G.model setup.now.game) s
         (at_work (B.view board.old) worker.old) (at_work (B.view board.new) worker.new) }
-    ensures ended { IfOk result (HasEnded (G.model setup.now.game) s target
+    ensures ends { IfOk result (Ends (G.model setup.now.game) s target (at_work (B.view board.new) worker.new)) }
+    ensures turns { worker.old.linear ≡ false → IfOk result (λ end. HasTaken (G.model setup.now.game) s end
         (at_work (B.view board.old) worker.old) (at_work (B.view board.new) worker.new)) }
-    ensures pure { HasVisits (G.model setup.now.game) s worker.old.visits → worker.new.settled.was_full ≡ false
-        → 1 ≤ (G.model setup.now.game).rank s
-        → IfOk result (λ _. IsPureTight (G.model setup.now.game) s (B.view board.new)) }
-    ensures at_once { HasVisits (G.model setup.now.game) s worker.old.visits → worker.new.settled.was_full ≡ false
-        → IsPureWithin (G.model setup.now.game) s target
-        → IfOk result (λ end. (end ≡ SearchEnd.Reached) × (worker.new.turns ≡ worker.old.turns)) }
+    ensures owed { worker.old.linear ≡ true → worker.new.settled.was_full ≡ false
+        → IfOk result (λ _. TakesPasses (G.model setup.now.game) 3 (B.view board.new) ((G.model setup.now.game).rank s)
+        worker.old.turns.spent worker.new.turns.spent) }
+    ensures pure { IfOk result (BoundsByPure (G.model setup.now.game) s target
+        (at_work (B.view board.old) worker.old) (at_work (B.view board.new) worker.new)) }
+    ensures settled { IfOk result (λ end. end ≡ SearchEnd.Settled
+        → worker.old.turns.spent + 1 ≤ worker.new.turns.spent) }
+    ensures rowed { 1 ≤ (G.model setup.now.game).rank s → IfOk result (λ end. end ≢ SearchEnd.Full
+        → (row : ℕ) × ((B.view board.new).key_at row ≡ Some ((G.model setup.now.game).key s))) }
 {
     if setup.game.rank(s) == 0 {
         return Ok(SearchEnd::Reached);
     }
     match board.claim(setup.game.key(s)) {
-        Ok(row) => search_row(setup, s, row, target, worker, board),
+        Ok(row) => {
+            if worker.is_linear() {
+                search_linear(setup, s, row, target, worker, board)
+            } else {
+                search_row(setup, s, row, target, false, worker, board)
+            }
+        }
         Err(_) => {
             worker.note_full();
             Ok(SearchEnd::Full)
@@ -85,30 +106,28 @@ fn search_state<G: Game, B: Bounds<G>, T: Gate>(
     }
 }
 
-/// Bounds a state that is no end, by its row.
+/// Bounds a state that is no end, by its row. It may be left to another worker where that is allowed.
 #[cycle(search)]
 pub(crate) fn search_row<G: Game, B: Bounds<G>, T: Gate>(
     setup: &Setup<'_, G, T>,
     s: G::State,
     row: Row,
     target: i64,
+    may_leave: bool,
     worker: &mut Worker,
     board: &mut B,
 ) -> Result<SearchEnd, NoMemory>
-    requires game { (B.view board.old).game ≡ setup.now.game }
-    requires reachable { Reachable (G.model setup.now.game) s }
-    requires row { IsRowOf (G.model setup.now.game) (B.view board.old) s row }
+    requires here { IsAtRow (G.model setup.now.game) setup.now.game s row (at_work (B.view board.old) worker.old) }
     requires target { pos 0 ≤ℤ target }
-    requires kept { HasKept (G.model setup.now.game) (at_work (B.view board.old) worker.old) }
     ensures worked { IsWorked (G.model setup.now.game) s
         (at_work (B.view board.old) worker.old) (at_work (B.view board.new) worker.new) }
     ensures ended { IfOk result (HasEnded (G.model setup.now.game) s target
         (at_work (B.view board.old) worker.old) (at_work (B.view board.new) worker.new)) }
-    ensures pure { HasVisits (G.model setup.now.game) s worker.old.visits → worker.new.settled.was_full ≡ false
-        → IfOk result (λ _. IsPureTight (G.model setup.now.game) s (B.view board.new)) }
-    ensures at_once { HasVisits (G.model setup.now.game) s worker.old.visits → worker.new.settled.was_full ≡ false
-        → IsPureWithin (G.model setup.now.game) s target
-        → IfOk result (λ end. (end ≡ SearchEnd.Reached) × (worker.new.turns ≡ worker.old.turns)) }
+    ensures pure { IfOk result (BoundsByPure (G.model setup.now.game) s target
+        (at_work (B.view board.old) worker.old) (at_work (B.view board.new) worker.new)) }
+    ensures left { IfOk result (λ end. end ≡ SearchEnd.Settled → worker.new.turns.spent ≡ worker.old.turns.spent
+        → IsLeavable (G.model setup.now.game) s may_leave
+        (at_work (B.view board.old) worker.old) (at_work (B.view board.new) worker.new)) }
 {
     let g = setup.game;
     if gap_at(g, s, row, board) == 0 {
@@ -116,8 +135,8 @@ pub(crate) fn search_row<G: Game, B: Bounds<G>, T: Gate>(
     }
     match bound_state(setup, s, row, worker, board) {
         Ok(is_ahead) => {
-            let may_leave = worker.may_leave(g.rank(s));
-            match ended_early(g, s, row, target, is_ahead && may_leave, board) {
+            let is_left = worker.may_leave(may_leave, is_ahead);
+            match ended_early(g, s, row, target, is_left, board) {
                 Some(end) => Ok(end),
                 None => grow(setup, s, row, target, worker, board),
             }

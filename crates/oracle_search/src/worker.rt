@@ -1,14 +1,16 @@
 //! One worker of a search.
 
-ghost use Rattle.std.specs.Prelude.{◌≡◌, ◌≤◌, [], false, IsTrue, MatchBool, OnOk, OnErr};
+ghost use Rattle.std.specs.Prelude.{◌≡◌, ◌≤◌, [], min, false, IsTrue, MatchBool, OnOk, OnErr};
 ghost use Rattle.std.specs.List.{Contains};
 ghost use Rattle.matrix_game.specs.Budget.{left_of};
-ghost use Rattle.oracle_search.specs.Workers.{with_key, with_full, without_full};
+ghost use Rattle.matrix_game.specs.Solvers.{solver_of};
+ghost use Rattle.oracle_search.specs.Workers.{is_linear, with_passed, with_key, with_full, without_full};
 
 use crate::finished::Settled;
 use crate::gate::Gate;
-use matrix_game::{StageMemory, Turns};
-use serial_ab::{TranspositionTable, Visits};
+use indexmap::IndexSet;
+use matrix_game::{SolverKind, StageSolver, Turns};
+use serial_ab::{SerialWorker, TranspositionTable, Visits};
 use sim_game::{Game, NoMemory};
 use std::alloc::Global;
 use std::marker::Model;
@@ -23,31 +25,40 @@ pub struct Setup<'a, G: Game, T: Gate> {
     pub gate: &'a T,
 }
 
-/// How much the memories of a worker may hold: serial searches, some 80 bytes each, and solved stages.
+/// How much the memory of a worker's serial searches may hold, some 80 bytes each, and how it solves stages.
 #[derive(Clone, Copy, Debug)]
 pub struct MemoryLimits {
     pub searches: u32,
-    pub stages: u32,
+    pub stages: SolverKind,
 }
 
 /// What a worker has left, what it has done, and its memories, which change no answer.
 #[derive(Drop)]
 pub struct Worker {
     pub(crate) turns: Turns,
-    pub(crate) visits: Visits,
-    pub(crate) searches: TranspositionTable,
-    pub(crate) stages: StageMemory,
+    pub(crate) serial: SerialWorker,
+    pub(crate) stages: StageSolver,
     settled: Settled,
-    // The rank of the state that its last search began with.
-    first_rank: u32,
+    // The keys of the states that the pass under way has finished.
+    passed: Settled,
+    // Those of the states at which passes of this search made serial searches, and how many of them these closed.
+    bounded: IndexSet<u64>,
+    closed: u64,
 }
 
 impl Model for Worker {
-    ghost use Rattle.oracle_search.specs.Workers.{WorkerView};
+    ghost use Rattle.oracle_search.specs.Workers.{WorkerView, is_linear};
 
     ghost Value = { WorkerView };
 
-    ghost view = { λ w. record { turns = w.turns; visits = w.visits; settled = w.settled; searches = w.searches } };
+    ghost view = { λ w. record {
+      turns = w.turns;
+      visits = w.serial.visits;
+      settled = w.settled;
+      searches = w.serial.table;
+      linear = is_linear w.stages;
+      passed = w.passed.keys;
+    } };
 }
 
 impl Worker {
@@ -57,16 +68,20 @@ impl Worker {
           turns = turns;
           visits = visits;
           settled = record { keys = []; was_full = false };
-          searches = [];
+          searches = record { limit = min limits.searches 262144; stored = [] };
+          linear = is_linear (solver_of limits.stages);
+          passed = [];
         } }
     {
+        let table = TranspositionTable::new(alloc, limits.searches as usize);
         Worker {
             turns,
-            visits,
-            searches: TranspositionTable::new(alloc, limits.searches as usize),
-            stages: StageMemory::new(limits.stages),
+            serial: SerialWorker::new(alloc, visits, table),
+            stages: StageSolver::new(limits.stages),
             settled: Settled::new(alloc),
-            first_rank: 0,
+            passed: Settled::new(alloc),
+            bounded: IndexSet::new(alloc),
+            closed: 0,
         }
     }
 
@@ -79,7 +94,7 @@ impl Worker {
     pub fn visits(&self) -> &Visits
         ensures { result.now ≡ self.now.visits }
     {
-        &self.visits
+        &self.serial.visits
     }
 
     /// The states that it has finished.
@@ -117,6 +132,56 @@ impl Worker {
         self.settled.add(key)
     }
 
+    /// Whether it solves stages by linear programs.
+    pub(crate) fn is_linear(&self) -> bool
+        ensures { result ≡ self.now.linear }
+    {
+        matches!(self.stages, StageSolver::Linear)
+    }
+
+    /// Whether serial searches may be worth it at a state of a pass: it has had none, and of those made so far enough
+    /// have closed their states.
+    pub(crate) fn wants_bounds(&self, rank: u32, key: u64) -> bool {
+        rank >= 2
+            && self.bounded.len() as u64 <= self.closed.saturating_mul(2).saturating_add(8)
+            && !self.bounded.contains(&key)
+    }
+
+    /// Keeps in mind that serial searches of a state were made, and whether they closed it.
+    pub(crate) fn note_bounds(&mut self, key: u64, is_closed: bool) -> Result<(), NoMemory>
+        ensures { self.new ≡ self.old }
+    {
+        if is_closed {
+            self.closed = self.closed.saturating_add(1);
+        }
+        match self.bounded.insert_full(key) {
+            Ok(_) => Ok(()),
+            Err(_) => Err(NoMemory),
+        }
+    }
+
+    /// Begins a pass: it has finished no state.
+    pub(crate) fn begin_pass(&mut self)
+        ensures { self.new ≡ record self.old { passed = [] } }
+    {
+        self.passed.clear();
+    }
+
+    pub(crate) fn has_passed(&self, key: u64) -> bool
+        ensures { MatchBool result (Contains self.now.passed key) (Contains self.now.passed key → ⊥) }
+    {
+        self.passed.has(key)
+    }
+
+    /// Adds the key of a state that the pass has finished and that is not there yet.
+    pub(crate) fn pass(&mut self, key: u64) -> Result<(), NoMemory>
+        requires { Contains self.old.passed key → ⊥ }
+        ensures ok { OnOk result (self.new ≡ with_passed self.old key) }
+        ensures err { OnErr result (self.new ≡ self.old) }
+    {
+        self.passed.add(key)
+    }
+
     /// Keeps in mind that a claim found the board full.
     pub(crate) fn note_full(&mut self)
         ensures { self.new ≡ with_full self.old }
@@ -124,19 +189,26 @@ impl Worker {
         self.settled.set_full(true);
     }
 
-    /// Begins a search at a state of this rank: the full boards of earlier searches are forgotten.
-    pub(crate) fn begin(&mut self, rank: u32)
+    /// Begins a search: the full boards of earlier searches are forgotten.
+    pub(crate) fn begin(&mut self)
         ensures { self.new ≡ without_full self.old }
     {
-        self.first_rank = rank;
+        self.bounded.clear();
+        self.closed = 0;
         self.settled.set_full(false);
     }
 
-    /// Whether a state of this rank may be left to another worker that has searched it: it is below the state that the
-    /// search began with, and no search of this worker has stopped half-way, since a turn is left and no board was full.
-    pub(crate) fn may_leave(&self, rank: u32) -> bool
-        ensures { IsTrue result → (1 ≤ left_of self.now.turns) × (self.now.settled.was_full ≡ false) }
+    /// Whether a state may be left to another worker: it is below the state that was asked for, another worker has
+    /// searched it, and no search of this worker has stopped half-way, since a turn is left and no board was full.
+    /// With linear stages none is left: their gaps are far narrower than those at which a state of regret matching is.
+    pub(crate) fn may_leave(&self, is_below: bool, is_ahead: bool) -> bool
+        ensures { IsTrue result → (IsTrue is_below) × (IsTrue is_ahead)
+            × (1 ≤ left_of self.now.turns) × (self.now.settled.was_full ≡ false) }
     {
-        rank < self.first_rank && self.turns.left() > 0 && !self.settled.was_full()
+        is_below
+            && is_ahead
+            && matches!(self.stages, StageSolver::Regret(_))
+            && self.turns.left() > 0
+            && !self.settled.was_full()
     }
 }

@@ -2,12 +2,12 @@
 use Rattle.std.proofs.Common.{◌≡◌, [], ◌∷◌, pos, negsuc, None, Some, refl}
 use Rattle.oshi_zumo.specs.declared.OshiError.TheVariants.{SizeRange, CoinRange, LeastRange, PlaceRange}
 use Rattle.oshi_zumo.specs.Position.{first_fault}
-use Rattle.oshi_zumo.specs.Rules.{after_bids, bids_from, key_of}
+use Rattle.oshi_zumo.specs.Rules.{after_push, bids_from, oshi_zumo_key}
 
-two_coins_against_one : key_of (record { place = pos 0; one = 2; two = 1 }) ≡ 16449
+two_coins_against_one : oshi_zumo_key (record { place = pos 0; one = 2; two = 1 }) ≡ 16449
 two_coins_against_one = refl
 
-both_bid_one : key_of (after_bids (record { place = pos 0; one = 2; two = 1 }) 1 1) ≡ 16416
+both_bid_one : oshi_zumo_key (after_push (record { place = pos 0; one = 2; two = 1 }) 1 1) ≡ 16416
 both_bid_one = refl
 
 bids_of_two_coins : bids_from 1 2 ≡ 1 ∷ 2 ∷ []

@@ -11,7 +11,7 @@ use Rattle.std.specs.List.{range_with_len}
 use Rattle.oshi_zumo.specs.declared.Setting.{Setting}
 use Rattle.oshi_zumo.specs.declared.State.{State}
 use Rattle.oshi_zumo.specs.Position.{IsPosition}
-use Rattle.oshi_zumo.specs.Rules.{coins_of, is_off, is_over, bids_from, bids, push_of, rank_of, oshi_zumo_game}
+use Rattle.oshi_zumo.specs.Rules.{coins_of, is_off, is_bout_over, bids_from, bids, push_of, oshi_zumo_rank, oshi_zumo_game}
 use Rattle.sim_game.specs.declared.Side.{Side}
 use Rattle.sim_game.specs.declared.Side.TheVariants.{One, Two}
 use Rattle.sim_game.specs.Model.{Turn, IsTurn, Reachable, IsGame, after_turn}
@@ -83,7 +83,7 @@ not_over false one two least p h = elim (cases_lt one least) [
 ]
 
 -- ---- what holds of each reachable state
-pub record IsSound (g : Setting) (s : State) : Type 0 where
+pub record IsOshiZumoSound (g : Setting) (s : State) : Type 0 where
   pub one_high : s.one ≤ g.one
   pub two_high : s.two ≤ g.two
   pub near : unsigned_abs s.place ≤ g.size + 1
@@ -96,8 +96,8 @@ place_on_board : (size : ℕ) (place : ℤ) (poor : Bool) → (ltb size (unsigne
 place_on_board size place poor h = grind (arith, nat_tests)
 
 -- ---- keys
-pub same_state : (s t : State) → s.place ≡ t.place → s.one ≡ t.one → s.two ≡ t.two → s ≡ t
-same_state s t p q r = λ i. record { place = p i; one = q i; two = r i }
+pub same_oshi_zumo_state : (s t : State) → s.place ≡ t.place → s.one ≡ t.one → s.two ≡ t.two → s ≡ t
+same_oshi_zumo_state s t p q r = λ i. record { place = p i; one = q i; two = r i }
 
 -- ---- turns
 pub moves_open : (over : Bool) (xs : List ℕ) (i : ℕ) → i < length (cond over [] xs) → over ≡ false
@@ -126,16 +126,16 @@ sign_small : (z : ℤ) → (negsuc 0 ≤ℤ int_signum z) × (int_signum z ≤�
 sign_small (pos n) = (omega (arith, ints), omega (arith, ints))
 sign_small (negsuc n) = (omega (arith, ints), omega (arith, ints))
 
-pub open_bids : (g : Setting) (side : Side) (s : State) → is_over g s ≡ false → bids g side s ≡ bids_from g.least (coins_of side s)
+pub open_bids : (g : Setting) (side : Side) (s : State) → is_bout_over g s ≡ false → bids g side s ≡ bids_from g.least (coins_of side s)
 open_bids g side s h = ap (λ (b : Bool). cond b [] (bids_from g.least (coins_of side s))) h
 
 module _ (g : Setting) (p : IsPosition g) where
-  pub turn_open : (s : State) (t : Turn) → IsTurn (oshi_zumo_game g) s t → is_over g s ≡ false
-  turn_open s t turn = moves_open (is_over g s) (bids_from g.least s.one) t.one turn.one_below
+  pub bids_open : (s : State) (t : Turn) → IsTurn (oshi_zumo_game g) s t → is_bout_over g s ≡ false
+  bids_open s t turn = moves_open (is_bout_over g s) (bids_from g.least s.one) t.one turn.one_below
 
-  rank_falls : (s : State) (t : Turn) → IsTurn (oshi_zumo_game g) s t → rank_of g (after_turn (oshi_zumo_game g) s t) < rank_of g s
+  rank_falls : (s : State) (t : Turn) → IsTurn (oshi_zumo_game g) s t → oshi_zumo_rank g (after_turn (oshi_zumo_game g) s t) < oshi_zumo_rank g s
   rank_falls s t turn =
-      let over = turn_open s t turn in
+      let over = bids_open s t turn in
       let here = rank_open (is_off g s) s.one s.two g.least p.least_low over in
       let top = max (s.one / g.least) (s.two / g.least) in
       let place_one : t.one < length (bids_from g.least s.one) = rw (open_bids g One s over) at turn.one_below in
@@ -143,46 +143,56 @@ module _ (g : Setting) (p : IsPosition g) where
       let next = after_turn (oshi_zumo_game g) s t in
       let paid_one : next.one / g.least < top = rw (open_bids g One s over) (bid_falls g.least s.one t.one top p.least_low place_one here.1 (omega arith)) in
       let paid_two : next.two / g.least < top = rw (open_bids g Two s over) (bid_falls g.least s.two t.two top p.least_low place_two here.1 (omega arith)) in
-      let rank : rank_of g s ≡ top = ap (λ (b : Bool). cond b 0 top) here.0 in
+      let rank : oshi_zumo_rank g s ≡ top = ap (λ (b : Bool). cond b 0 top) here.0 in
       rw rank (cond_below (is_off g next) (max (next.one / g.least) (next.two / g.least)) top (omega arith))
 
-  sound_root : IsSound g (oshi_zumo_game g).root
+  sound_root : IsOshiZumoSound g (oshi_zumo_game g).root
   sound_root = record {
     one_high = omega arith;
     two_high = omega arith;
     near = omega (arith, p.on_board);
   }
 
-  sound_turn : (s : State) (t : Turn) → IsSound g s → IsTurn (oshi_zumo_game g) s t → IsSound g (after_turn (oshi_zumo_game g) s t)
-  sound_turn s t sound turn =
+  sound_turn : (s : State) (t : Turn) → IsOshiZumoSound g s → IsTurn (oshi_zumo_game g) s t → IsOshiZumoSound g (after_turn (oshi_zumo_game g) s t)
+  sound_turn s t here turn =
       record {
-        one_high = omega (arith, sound.one_high);
-        two_high = omega (arith, sound.two_high);
-        near = omega (arith, ints, place_on_board g.size s.place (ltb s.one g.least && ltb s.two g.least) (turn_open s t turn), push_small (get_or (bids g One s) t.one 0) (get_or (bids g Two s) t.two 0));
+        one_high = omega (arith, here.one_high);
+        two_high = omega (arith, here.two_high);
+        near = omega (
+          arith,
+          ints,
+          place_on_board g.size s.place (ltb s.one g.least && ltb s.two g.least) (bids_open s t turn),
+          push_small
+              (get_or (bids g One s) t.one 0) (get_or (bids g Two s) t.two 0),
+        );
       }
 
-  pub sound : (s : State) → Reachable (oshi_zumo_game g) s → IsSound g s
-  sound = reachable_induction (oshi_zumo_game g) (IsSound g) sound_root (λ s t _ here turn. sound_turn s t here turn)
+  pub oshi_zumo_sound : (s : State) → Reachable (oshi_zumo_game g) s → IsOshiZumoSound g s
+  oshi_zumo_sound = reachable_induction (oshi_zumo_game g) (IsOshiZumoSound g) sound_root (λ s t _ here turn. sound_turn s t here turn)
 
   -- the fields of the key
-  pub in_bits : (s : State) → Reachable (oshi_zumo_game g) s → (unsigned_abs s.place ≤ 9) × (s.one ≤ 31) × (s.two ≤ 31)
-  in_bits s r = let here = sound s r in (omega (arith, here.near, p.size_high), omega (arith, here.one_high, p.one_high), omega (arith, here.two_high, p.two_high))
+  pub coins_in_bits : (s : State) → Reachable (oshi_zumo_game g) s → (unsigned_abs s.place ≤ 9) × (s.one ≤ 31) × (s.two ≤ 31)
+  coins_in_bits s r = let here = oshi_zumo_sound s r in (omega (arith, here.near, p.size_high), omega (arith, here.one_high, p.one_high), omega (arith, here.two_high, p.two_high))
 
-  end_moves : (side : Side) (s : State) → rank_of g s ≡ 0 → length (bids g side s) ≡ 0
+  end_moves : (side : Side) (s : State) → oshi_zumo_rank g s ≡ 0 → length (bids g side s) ≡ 0
   end_moves side s h = rw (over_at_end (is_off g s) s.one s.two g.least p.least_low h) refl
 
-  moves_count : (side : Side) (s : State) (top : ℕ) → is_over g s ≡ false → coins_of side s ≤ top → (1 ≤ length (bids g side s)) × (length (bids g side s) ≤ max 1 (top + 1 - g.least))
+  moves_count : (side : Side) (s : State) (top : ℕ) → is_bout_over g s ≡ false → coins_of side s ≤ top → (1 ≤ length (bids g side s)) × (length (bids g side s) ≤ max 1 (top + 1 - g.least))
   moves_count side s top over h = rw (open_bids g side s over) (bids_count g.least (coins_of side s) top h)
 
-  some_moves : (side : Side) (s : State) → 1 ≤ rank_of g s → 1 ≤ length (bids g side s)
+  some_moves : (side : Side) (s : State) → 1 ≤ oshi_zumo_rank g s → 1 ≤ length (bids g side s)
   some_moves side s h = (moves_count side s (coins_of side s) (not_over (is_off g s) s.one s.two g.least p.least_low h) (omega arith)).0
 
-  few_moves : (side : Side) (s : State) → IsSound g s → length (bids g side s) ≤ (oshi_zumo_game g).width
-  few_moves One s here = cond_short (is_over g s) (bids_from g.least s.one) (oshi_zumo_game g).width (omega (arith, bids_count g.least s.one g.one here.one_high))
-  few_moves Two s here = cond_short (is_over g s) (bids_from g.least s.two) (oshi_zumo_game g).width (omega (arith, bids_count g.least s.two g.two here.two_high))
+  few_moves : (side : Side) (s : State) → IsOshiZumoSound g s → length (bids g side s) ≤ (oshi_zumo_game g).width
+  few_moves One s here = cond_short (is_bout_over g s) (bids_from g.least s.one) (oshi_zumo_game g).width (omega (arith, bids_count g.least s.one g.one here.one_high))
+  few_moves Two s here = cond_short (is_bout_over g s) (bids_from g.least s.two) (oshi_zumo_game g).width (omega (arith, bids_count g.least s.two g.two here.two_high))
 
-  rank_high : (s : State) → IsSound g s → rank_of g s ≤ 31
-  rank_high s here = omega (arith, cond_below (is_off g s) (max (s.one / g.least) (s.two / g.least)) 32 (omega (arith, div-le_self s.one g.least, div-le_self s.two g.least, here.one_high, here.two_high, p.one_high, p.two_high)))
+  rank_high : (s : State) → IsOshiZumoSound g s → oshi_zumo_rank g s ≤ 31
+  rank_high s here = omega (
+    arith,
+    cond_below (is_off g s) (max (s.one / g.least) (s.two / g.least)) 32
+        (omega (arith, div-le_self s.one g.least, div-le_self s.two g.least, here.one_high, here.two_high, p.one_high, p.two_high)),
+  )
 
   pub oshi_zumo_is_game : IsGame (oshi_zumo_game g)
   oshi_zumo_is_game = record {
@@ -193,13 +203,13 @@ module _ (g : Setting) (p : IsPosition g) where
     high_most = omega (arith, ints);
     end_moves = λ side s r h. end_moves side s h;
     other_moves = λ side s r h. some_moves side s h;
-    moves_high = λ side s r. few_moves side s (sound s r);
-    rank_high = λ s r. rank_high s (sound s r);
+    moves_high = λ side s r. few_moves side s (oshi_zumo_sound s r);
+    rank_high = λ s r. rank_high s (oshi_zumo_sound s r);
     rank_falls = λ s t r turn. rank_falls s t turn;
     payoff_low = λ s r h. (sign_small s.place).0;
     payoff_high = λ s r h. (sign_small s.place).1;
-    same_key = λ s t r r' e. let here = in_bits s r in let there = in_bits t r' in same_state s t (omega (arith, ints)) (omega (arith, ints)) (omega (arith, ints));
-    key_high = λ s r. let here = sound s r in omega (arith, ints);
+    same_key = λ s t r r' e. let here = coins_in_bits s r in let there = coins_in_bits t r' in same_oshi_zumo_state s t (omega (arith, ints)) (omega (arith, ints)) (omega (arith, ints));
+    key_high = λ s r. let here = oshi_zumo_sound s r in omega (arith, ints);
     draws_low = λ s a b r h h'. omega arith;
     draws_high = λ s a b r h h'. omega arith;
     chance_low = λ s t r h. omega arith;

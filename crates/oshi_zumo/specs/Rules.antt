@@ -18,8 +18,8 @@ abbrev pub is_off : Setting → State → Bool
 is_off g s = nat_lt g.size (unsigned_abs s.place)
 
 -- the wrestler is off, or neither side has the least bid
-abbrev pub is_over : Setting → State → Bool
-is_over g s = is_off g s || (nat_lt s.one g.least && nat_lt s.two g.least)
+abbrev pub is_bout_over : Setting → State → Bool
+is_bout_over g s = is_off g s || (nat_lt s.one g.least && nat_lt s.two g.least)
 
 -- what a side with these coins may bid: the least bid up to its coins, or 0 alone where it has too few
 abbrev pub bids_from : ℕ → ℕ → List ℕ
@@ -27,7 +27,7 @@ bids_from least coins = if nat_lt coins least then 0 ∷ [] else range_with_len 
 
 -- what a side may bid; nothing at an end
 abbrev pub bids : Setting → Side → State → List ℕ
-bids g side s = if is_over g s then [] else bids_from g.least (coins_of side s)
+bids g side s = if is_bout_over g s then [] else bids_from g.least (coins_of side s)
 
 -- the higher bidder pushes the wrestler one place toward the other side, and a tie moves nothing
 abbrev pub push_of : ℕ → ℕ → ℤ
@@ -37,31 +37,31 @@ push_of one two =
     pos 0
 
 -- both bids are paid
-abbrev pub after_bids : State → ℕ → ℕ → State
-after_bids s one two = record { place = s.place +ℤ push_of one two; one = s.one - one; two = s.two - two }
+abbrev pub after_push : State → ℕ → ℕ → State
+after_push s one two = record { place = s.place +ℤ push_of one two; one = s.one - one; two = s.two - two }
 
 -- how many least bids the richer side can still pay
-abbrev pub rank_of : Setting → State → ℕ
-rank_of g s = if is_off g s then 0 else max (s.one / g.least) (s.two / g.least)
+abbrev pub oshi_zumo_rank : Setting → State → ℕ
+oshi_zumo_rank g s = if is_off g s then 0 else max (s.one / g.least) (s.two / g.least)
 
 -- the place plus 16, One's coins and Two's coins, in 5 bits each
-abbrev pub key_of : State → ℕ
-key_of s = (unsigned_abs (s.place +ℤ pos 16) * 2 ^ 5 + s.one) * 2 ^ 5 + s.two
+abbrev pub oshi_zumo_key : State → ℕ
+oshi_zumo_key s = (unsigned_abs (s.place +ℤ pos 16) * 2 ^ 5 + s.one) * 2 ^ 5 + s.two
 
 -- ---- the game
-abbrev pub first_state : Setting → State
-first_state g = record { place = g.place; one = g.one; two = g.two }
+abbrev pub oshi_zumo_root : Setting → State
+oshi_zumo_root g = record { place = g.place; one = g.one; two = g.two }
 
 abbrev pub oshi_zumo_game : Setting → GameModel State
 oshi_zumo_game g = record {
-  root = first_state g;
+  root = oshi_zumo_root g;
   moves = λ side s. length (bids g side s);
   draws = λ s one two. 1;
   chance = λ s one two draw. whole_chance;
-  drawn = λ s one two draw. after_bids s (slice_index (bids g One s) one) (slice_index (bids g Two s) two);
+  drawn = λ s one two draw. after_push s (slice_index (bids g One s) one) (slice_index (bids g Two s) two);
   payoff = λ s. int_signum s.place;
-  rank = rank_of g;
-  key = key_of;
+  rank = oshi_zumo_rank g;
+  key = oshi_zumo_key;
   label = λ side s i. slice_index (bids g side s) i;
   low = neg_ℤ (pos 1);
   high = pos 1;
@@ -77,13 +77,18 @@ pub record KeepsRules (g : Setting) : Type 0 where
   -- a bid can be paid
   pub paid : (side : Side) (s : State) (i : ℕ) → i < length (bids g side s) → slice_index (bids g side s) i ≤ coins_of side s
   pub follows : (s : State) (t : Turn)
-      → after_turn (oshi_zumo_game g) s t ≡ after_bids s (slice_index (bids g One s) t.one) (slice_index (bids g Two s) t.two)
+      → after_turn (oshi_zumo_game g) s t ≡ after_push s (slice_index (bids g One s) t.one) (slice_index (bids g Two s) t.two)
+  -- each pair of moves has one draw, of the whole weight
+  pub draws : (s : State) (one two : ℕ) → (oshi_zumo_game g).draws s one two ≡ 1
+  pub chance : (s : State) (one two draw : ℕ) → (oshi_zumo_game g).chance s one two draw ≡ whole_chance
   -- an end is where the wrestler is off, or where neither side has the least bid
   pub ends : (s : State) → IsEnd (oshi_zumo_game g) s ↔ ((g.size < unsigned_abs s.place) ⊎ ((s.one < g.least) × (s.two < g.least)))
   pub payoff : (s : State) → (oshi_zumo_game g).payoff s ≡ int_signum s.place
-  pub rank : (s : State) → (oshi_zumo_game g).rank s ≡ rank_of g s
+  pub rank : (s : State) → (oshi_zumo_game g).rank s ≡ oshi_zumo_rank g s
+  pub key : (s : State) → (oshi_zumo_game g).key s ≡ oshi_zumo_key s
   pub low : (oshi_zumo_game g).low ≡ neg_ℤ (pos 1)
   pub high : (oshi_zumo_game g).high ≡ pos 1
   pub width : (oshi_zumo_game g).width ≡ max 1 (max (g.one + 1 - g.least) (g.two + 1 - g.least))
+  pub chance_free : (oshi_zumo_game g).chance_free ≡ true
   pub same_state : (s t : State) → Reachable (oshi_zumo_game g) s → Reachable (oshi_zumo_game g) t
       → (oshi_zumo_game g).key s ≡ (oshi_zumo_game g).key t → s ≡ t

@@ -5,7 +5,7 @@ ghost use Rattle.std.specs.Prelude.{◌≡◌, ◌<◌, ◌≤◌, length, slice
 ghost use Rattle.oshi_zumo.specs.declared.Setting.{Setting};
 ghost use Rattle.oshi_zumo.specs.Laws.{oshi_zumo_is_game};
 ghost use Rattle.oshi_zumo.specs.Position.{first_fault, setting_of, IsPosition, IsSettingOf};
-ghost use Rattle.oshi_zumo.specs.Rules.{bids_from, coins_of, is_off, is_over, oshi_zumo_game, push_of, KeepsRules};
+ghost use Rattle.oshi_zumo.specs.Rules.{bids_from, coins_of, is_off, is_bout_over, oshi_zumo_game, push_of, KeepsRules};
 
 mod refusals;
 
@@ -97,7 +97,7 @@ impl Setting {
     /// Whether the wrestler is off the board or neither side has the least bid.
     #[inline]
     fn is_over(self, s: State) -> bool
-        ensures { result ≡ is_over self s }
+        ensures { result ≡ is_bout_over self s }
     {
         self.is_off(s) || (s.one < self.least && s.two < self.least)
     }

@@ -32,7 +32,8 @@ step_weights : {S : Type 0} (m : GameModel S) (side : Side) (s : S) (total : ℕ
 step_weights m side s total weights numbers bound step = subst (λ (n : ℕ). count_below n (λ i. get_or weights i 0) ≡ total) step.one_each (count_list weights ∙ step.sums)
 
 -- a number that each child's number is no tighter than bounds the mean
-pub mean_within : {S : Type 0} (m : GameModel S) → IsGame m → (side : Side) (s : S) (numbers : ℕ → ℕ → ℕ → ℤ) (own reply : ℕ) (limit : ℤ) → Reachable m s → own < m.moves side s → reply < m.moves (other_side side) s
+pub mean_within : {S : Type 0} (m : GameModel S) → IsGame m → (side : Side) (s : S) (numbers : ℕ → ℕ → ℕ → ℤ) (own reply : ℕ) (limit : ℤ)
+    → Reachable m s → own < m.moves side s → reply < m.moves (other_side side) s
     → ((d : ℕ) → d < draws_of m side s own reply → IsNoTighter side (numbers own reply d) limit) → IsNoTighter side (cell m side s numbers own reply) limit
 mean_within m game side s numbers own reply limit r p q h =
     looser_cancel side whole_chance _ _ (omega arith)
@@ -42,7 +43,8 @@ mean_within m game side s numbers own reply limit r p q h =
     (looser_sum side (draws_of m side s own reply) _ _ (λ d u. looser_times side (chance_of m side s own reply d) _ _ (h d u)))))
 
 -- such a number bounds what the step proves
-step_within : {S : Type 0} (m : GameModel S) → IsGame m → (side : Side) (s : S) (total : ℕ) (weights : List ℕ) (numbers : ℕ → ℕ → ℕ → ℤ) (bound limit : ℤ) → Reachable m s → IsStep m side s total weights numbers bound
+step_within : {S : Type 0} (m : GameModel S) → IsGame m
+    → (side : Side) (s : S) (total : ℕ) (weights : List ℕ) (numbers : ℕ → ℕ → ℕ → ℤ) (bound limit : ℤ) → Reachable m s → IsStep m side s total weights numbers bound
     → ((own reply d : ℕ) → own < m.moves side s → reply < m.moves (other_side side) s → d < draws_of m side s own reply → 1 ≤ get_or weights own 0 → IsNoTighter side (numbers own reply d) limit)
     → IsNoTighter side bound limit
 step_within m game side s total weights numbers bound limit r step h =
@@ -63,15 +65,18 @@ end_within m game One s r e = opening_at_end m game Two s r e
 end_within m game Two s r e = opening_at_end m game One s r e
 
 -- a backed bound stays within the opening bound of the other side
-pub backed_within : {S : Type 0} (m : GameModel S) (game : IsGame m) (side : Side) (s : S) (bound : ℤ) → Reachable m s → IsBacked m side s bound → IsNoTighter side bound (opening_bound m (other_side side))
+pub backed_within : {S : Type 0} (m : GameModel S) (game : IsGame m) (side : Side) (s : S) (bound : ℤ) → Reachable m s → IsBacked m side s bound
+    → IsNoTighter side bound (opening_bound m (other_side side))
 backed_within m game side s bound r (by_opening s' bound' h) = looser_trans side _ _ _ h (opening_sides m game side)
 backed_within m game side s bound r (by_end s' bound' e h) = looser_trans side _ _ _ h (end_within m game side s r e)
 backed_within m game side s bound r (by_step s' bound' total weights numbers step children) =
     step_within m game side s total weights numbers bound _ r step (λ own reply d p q u w.
-    backed_within m game side (child_of m side s own reply d) (numbers own reply d) (reachable_turn m s (turn_of side own reply d) r (side_turn m side s own reply d p q u)) (children own reply d p q u w))
+    backed_within m game side (child_of m side s own reply d) (numbers own reply d)
+    (reachable_turn m s (turn_of side own reply d) r (side_turn m side s own reply d p q u)) (children own reply d p q u w))
 
 -- a lower step and an upper step over numbers that meet prove bounds that meet
-steps_meet : {S : Type 0} (m : GameModel S) → IsGame m → (s : S) (total_one total_two : ℕ) (weights_one weights_two : List ℕ) (numbers_one numbers_two : ℕ → ℕ → ℕ → ℤ) (lower upper : ℤ) → Reachable m s
+steps_meet : {S : Type 0} (m : GameModel S) → IsGame m
+    → (s : S) (total_one total_two : ℕ) (weights_one weights_two : List ℕ) (numbers_one numbers_two : ℕ → ℕ → ℕ → ℤ) (lower upper : ℤ) → Reachable m s
     → IsStep m One s total_one weights_one numbers_one lower → IsStep m Two s total_two weights_two numbers_two upper
     → ((a b d : ℕ) → a < m.moves One s → b < m.moves Two s → d < m.draws s a b → 1 ≤ get_or weights_one a 0 → 1 ≤ get_or weights_two b 0 → numbers_one a b d ≤ℤ numbers_two b a d)
     → lower ≤ℤ upper
@@ -90,11 +95,13 @@ steps_meet m game s total_one total_two weights_one weights_two numbers_one numb
     (looser_rounded Two _))) in
     let left : (pos (total_two * total_one) *ℤ lower) ≤ℤ sum_below k (λ b. pos (v b) *ℤ sum_below n (λ a. pos (w a) *ℤ cell_one a b)) =
     looser_left One _ _ _
-    (sum_weights k v (pos total_one *ℤ lower) ∙ ap (λ (i : ℕ). pos i *ℤ (pos total_one *ℤ lower)) (step_weights m Two s total_two weights_two numbers_two upper two) ∙ times_times total_two total_one lower)
+    (sum_weights k v (pos total_one *ℤ lower)
+    ∙ ap (λ (i : ℕ). pos i *ℤ (pos total_one *ℤ lower)) (step_weights m Two s total_two weights_two numbers_two upper two) ∙ times_times total_two total_one lower)
     (sum_mono k _ _ (λ b q. times_mono (v b) _ _ (one.proves b q))) in
     let right : sum_below n (λ a. pos (w a) *ℤ sum_below k (λ b. pos (v b) *ℤ cell_two a b)) ≤ℤ (pos (total_one * total_two) *ℤ upper) =
     looser_right One _ _ _
-    (sum_weights n w (pos total_two *ℤ upper) ∙ ap (λ (i : ℕ). pos i *ℤ (pos total_two *ℤ upper)) (step_weights m One s total_one weights_one numbers_one lower one) ∙ times_times total_one total_two upper)
+    (sum_weights n w (pos total_two *ℤ upper)
+    ∙ ap (λ (i : ℕ). pos i *ℤ (pos total_two *ℤ upper)) (step_weights m One s total_one weights_one numbers_one lower one) ∙ times_times total_one total_two upper)
     (sum_mono n _ _ (λ a p. times_mono (w a) _ _ (two.proves a p))) in
     let middle : sum_below k (λ b. pos (v b) *ℤ sum_below n (λ a. pos (w a) *ℤ cell_one a b)) ≤ℤ sum_below n (λ a. pos (w a) *ℤ sum_below k (λ b. pos (v b) *ℤ cell_two a b)) =
     looser_left One _ _ _ (replies_first n k w v cell_one)

@@ -22,7 +22,8 @@ use Rattle.plan_book.proofs.BookLemmas.{same_side_true, and_left, and_right, IsR
 use Rattle.plan_book.proofs.ExpectedLemmas.{is_other}
 
 -- ---- reached states
-kept_more : {S : Type 0} (m : GameModel S) (side : Side) (rows : ℕ → Option SheetRow) (s : S) (h : List Turn) (t : Turn) → IsKeptHistory m side rows s h → IsKeptTurn m side rows (after_history m s h) t
+kept_more : {S : Type 0} (m : GameModel S) (side : Side) (rows : ℕ → Option SheetRow) (s : S) (h : List Turn) (t : Turn)
+    → IsKeptHistory m side rows s h → IsKeptTurn m side rows (after_history m s h) t
     → IsKeptHistory m side rows s (h ++ t ∷ [])
 kept_more m side rows s [] t kept last = (last, tt)
 kept_more m side rows s (u ∷ h) t kept last = (kept.0, kept_more m side rows (after_turn m s u) h t kept.1 last)
@@ -34,7 +35,8 @@ after_more m s (u ∷ h) t = after_more m (after_turn m s u) h t
 pub reached_root : {S : Type 0} (m : GameModel S) (side : Side) (rows : ℕ → Option SheetRow) → IsReached m side rows m.root
 reached_root m side rows = record { history = []; kept = tt; leads = refl }
 
-pub reached_turn : {S : Type 0} (m : GameModel S) (side : Side) (rows : ℕ → Option SheetRow) (s : S) (t : Turn) → IsReached m side rows s → IsKeptTurn m side rows s t → IsReached m side rows (after_turn m s t)
+pub reached_turn : {S : Type 0} (m : GameModel S) (side : Side) (rows : ℕ → Option SheetRow) (s : S) (t : Turn) → IsReached m side rows s
+    → IsKeptTurn m side rows s t → IsReached m side rows (after_turn m s t)
 reached_turn m side rows s t r turn = record {
   history = r.history ++ t ∷ [];
   kept = kept_more m side rows m.root r.history t r.kept (rw r.leads turn);
@@ -59,7 +61,8 @@ pub record IsFound (P : Entry → Type 0) (side : Side) (key : ℕ) (e : Entry) 
   pub is_key : e.key ≡ key
   pub is_side : e.side ≡ side
 
-kept_after : (P : Entry → Type 0) (side : Side) (key : ℕ) (here : Bool) (kept : Option Entry) (e f : Entry) → ((g : Entry) → kept ≡ Some g → IsFound P side key g) → (here ≡ true → IsFound P side key e)
+kept_after : (P : Entry → Type 0) (side : Side) (key : ℕ) (here : Bool) (kept : Option Entry) (e f : Entry)
+    → ((g : Entry) → kept ≡ Some g → IsFound P side key g) → (here ≡ true → IsFound P side key e)
     → cond here (Some e) kept ≡ Some f → IsFound P side key f
 kept_after P side key false kept e f before first h = before f h
 kept_after P side key true kept e f before first h = let it : e ≡ f = cc in subst (IsFound P side key) it (first refl)
@@ -77,7 +80,8 @@ best_found : (P : Entry → Type 0) (side : Side) (entries : List Entry) (key : 
 best_found P side entries key e all h = found_from P side entries key None e all (λ g h'. absurd (cc)) h
 
 -- the entry behind a row
-pub row_entry : (P : Entry → Type 0) (side : Side) (entries : List Entry) (key : ℕ) (r : SheetRow) → All P entries → best_row side entries key ≡ Some r → (e : Entry) × IsFound P side key e × (row_of e ≡ r)
+pub row_entry : (P : Entry → Type 0) (side : Side) (entries : List Entry) (key : ℕ) (r : SheetRow) → All P entries
+    → best_row side entries key ≡ Some r → (e : Entry) × IsFound P side key e × (row_of e ≡ r)
 row_entry P side entries key r all h = go (best_entry side entries key) refl h
   where
     go : (o : Option Entry) → best_entry side entries key ≡ o → option_map row_of o ≡ Some r → (e : Entry) × IsFound P side key e × (row_of e ≡ r)
@@ -91,7 +95,8 @@ best_keyed side entries key r h =
     ap (λ (x : SheetRow). x.key) (sym behind.2) ∙ behind.1.is_key
 
 -- what a book has at a state is the bound of the best row there
-pub book_row : {S : Type 0} (m : GameModel S) → IsGame m → (total : ℕ) (Known : Side → S → ℤ → Type 0) (entries : List Entry) → All (IsEntry m total Known) entries → (side : Side) (s : S) → Reachable m s
+pub book_row : {S : Type 0} (m : GameModel S) → IsGame m → (total : ℕ) (Known : Side → S → ℤ → Type 0) (entries : List Entry)
+    → All (IsEntry m total Known) entries → (side : Side) (s : S) → Reachable m s
     → book_bound m entries side s ≡ bound_or m side s (best_row side entries (m.key s))
 book_row {S} m game total Known entries each side s r = go (best_entry side entries (m.key s)) refl
   where
@@ -140,9 +145,11 @@ module _ {S : Type 0} (m : GameModel S) (game : IsGame m) (entries : List Entry)
             } in
             let child : S = child_of m e.side s own reply d in
             let next = reached_turn m e.side (best_row e.side entries) s (turn_of e.side own reply d) reached turn in
-            let kept : bound_or m e.side child (best_row e.side entries (m.key child)) ≡ bound_or m e.side child (row_at rows (m.key child)) = ap (bound_or m e.side child) (sym (best.kept child next)) in
+            let kept : bound_or m e.side child (best_row e.side entries (m.key child)) ≡ bound_or m e.side child (row_at rows (m.key child)) =
+            ap (bound_or m e.side child) (sym (best.kept child next)) in
             let booked : IsNoTighter e.side (entry.numbers own reply d) (book_bound m entries e.side child) =
-            subst (λ (x : S). own < m.moves e.side x → reply < m.moves (other_side e.side) x → d < draws_of m e.side x own reply → IsBooked m entries e.side (child_of m e.side x own reply d) (entry.numbers own reply d))
+            subst (λ (x : S). own < m.moves e.side x → reply < m.moves (other_side e.side) x → d < draws_of m e.side x own reply
+            → IsBooked m entries e.side (child_of m e.side x own reply d) (entry.numbers own reply d))
             same (λ p' q' u'. entry.known own reply d p' q' u' w) p q u in
             looser_right e.side _ _ _ (book_row m game total (IsBooked m entries) entries closed e.side child (reached_reachable m e.side (best_row e.side entries) child next) ∙ kept) booked);
       }

@@ -16,7 +16,8 @@ use Rattle.plan_book.specs.Entries.{IsEntry}
 use Rattle.plan_book.specs.Books.{same_side, best_posted, is_tighter, beats, better_entry, best_entry}
 
 -- ---- one more entry
-cond_swap : (a b : Bool) (side : Side) (x y z : ℤ) → cond a (better side x (cond b (better side y z) z)) (cond b (better side y z) z) ≡ cond b (better side y (cond a (better side x z) z)) (cond a (better side x z) z)
+cond_swap : (a b : Bool) (side : Side) (x y z : ℤ)
+    → cond a (better side x (cond b (better side y z) z)) (cond b (better side y z) z) ≡ cond b (better side y (cond a (better side x z) z)) (cond a (better side x z) z)
 cond_swap true true side x y z = better_swap side x y z
 cond_swap true false side x y z = refl
 cond_swap false true side x y z = refl
@@ -49,7 +50,9 @@ both_true a b p q = rw (p, q) refl
 -- what was posted last
 pub best_last : {S : Type 0} (m : GameModel S) (es : List Entry) (e : Entry) → IsNoTighter e.side e.bound (best_posted m (es ++ e ∷ []) e.side e.key)
 best_last m es e =
-    looser_right e.side _ _ _ (sym (best_push m es e e.side e.key ∙ ap (λ (b : Bool). cond b (better e.side e.bound (best_posted m es e.side e.key)) (best_posted m es e.side e.key)) (both_true _ _ (same_side_self e.side) (eqb_self e.key))))
+    looser_right e.side _ _ _
+    (sym (best_push m es e e.side e.key
+    ∙ ap (λ (b : Bool). cond b (better e.side e.bound (best_posted m es e.side e.key)) (best_posted m es e.side e.key)) (both_true _ _ (same_side_self e.side) (eqb_self e.key))))
     (better_left e.side e.bound (best_posted m es e.side e.key))
 
 pub best_opening : {S : Type 0} (m : GameModel S) (es : List Entry) (side : Side) (key : ℕ) → IsNoTighter side (opening_bound m side) (best_posted m es side key)
@@ -84,7 +87,8 @@ best_has m (e ∷ es) side key P start each =
     (best_has m es side key P start (All-tail (λ x. x.side ≡ side → x.key ≡ key → P x.bound) e es each))
 
 -- a bound of a lawful entry is backed
-pub entry_backed : {S : Type 0} (m : GameModel S) (total : ℕ) (Known : Side → S → ℤ → Type 0) (e : Entry) (s : S) → IsGame m → IsEntry m total Known e → Reachable m s → e.key ≡ m.key s → IsBacked m e.side s e.bound
+pub entry_backed : {S : Type 0} (m : GameModel S) (total : ℕ) (Known : Side → S → ℤ → Type 0) (e : Entry) (s : S) → IsGame m
+    → IsEntry m total Known e → Reachable m s → e.key ≡ m.key s → IsBacked m e.side s e.bound
 entry_backed m total Known e s game lawful r k =
     let same : lawful.state ≡ s = game.same_key lawful.state s lawful.reachable r (lawful.is_key ∙ k) in
     subst (λ (z : _). IsBacked m e.side z e.bound) same (by_step lawful.state e.bound total e.weights lawful.numbers lawful.step lawful.backed)

@@ -119,7 +119,15 @@ wheel_size = refl
 -- ---- the stage without draws
 -- a row for a history in which another draw was made is dropped
 abbrev late : Plan
-late = record { total = 2; rows = record { place = AtHistory (record { one = 0; two = 0; draw = 1 } ∷ []); weights = 2 ∷ [] } ∷ record { place = AtHistory (record { one = 0; two = 1; draw = 0 } ∷ []); weights = 1 ∷ 1 ∷ [] } ∷ [] }
+late =
+    record {
+      total = 2;
+      rows = record {
+        place =
+            AtHistory (record { one = 0; two = 0; draw = 1 } ∷ []);
+        weights = 2 ∷ [];
+      } ∷ record { place = AtHistory (record { one = 0; two = 1; draw = 0 } ∷ []); weights = 1 ∷ 1 ∷ [] } ∷ [];
+    }
 
 late_without : without_draws late ≡ record { total = 2; rows = record { place = OfMoves (record { one = 0; two = 1 } ∷ []); weights = 1 ∷ 1 ∷ [] } ∷ [] }
 late_without = refl

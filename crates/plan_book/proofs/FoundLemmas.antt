@@ -36,7 +36,8 @@ key_listed (e ∷ es) key = key_step (is_eq (nat_cmp key e.0)) e.1 _ _ (key_list
 
 -- ---- rows by key
 -- a row of the key, or none
-row_step : (here others : Bool) (r : SheetRow) (found : Option SheetRow) (rest : Option SheetRow) → (here ≡ true → found ≡ Some r) → rest ≡ cond others found None → cond here (Some r) rest ≡ cond (here || others) found None
+row_step : (here others : Bool) (r : SheetRow) (found : Option SheetRow) (rest : Option SheetRow) → (here ≡ true → found ≡ Some r)
+    → rest ≡ cond others found None → cond here (Some r) rest ≡ cond (here || others) found None
 row_step true others r found rest h e = sym (h refl)
 row_step false others r found rest h e = e
 
@@ -45,7 +46,8 @@ none_step true true found rest h e = e
 none_step true false found rest h e = e ∙ sym (h refl)
 none_step false others found rest h e = e
 
-keys_step : (f : ℕ → Option SheetRow) (k : ℕ) (ks : List ℕ) (o : Option SheetRow) → f k ≡ o → ((r : SheetRow) → o ≡ Some r → r.key ≡ k) → map (λ r. r.key) (filter_map f ks) ≡ filter (λ j. is_some (f j)) ks
+keys_step : (f : ℕ → Option SheetRow) (k : ℕ) (ks : List ℕ) (o : Option SheetRow) → f k ≡ o → ((r : SheetRow) → o ≡ Some r → r.key ≡ k)
+    → map (λ r. r.key) (filter_map f ks) ≡ filter (λ j. is_some (f j)) ks
     → map (λ r. r.key) (cons_option o (filter_map f ks)) ≡ cond (is_some o) (k ∷ filter (λ j. is_some (f j)) ks) (filter (λ j. is_some (f j)) ks)
 keys_step f k ks None e keyed h = h
 keys_step f k ks (Some r) e keyed h = let here = keyed r refl in rw (here, h) refl
@@ -96,7 +98,8 @@ some_and : (o : Option SheetRow) (P : SheetRow → Type 0) → IsSomeAnd o P →
 some_and None P h = absurd h
 some_and (Some r) P h = refl
 
-module _ {S : Type 0} (m : GameModel S) (side : Side) (rows : ℕ → Option SheetRow) (before after : ℕ → Option ℕ) (nothing : (key : ℕ) → before key ≡ None) (walk : IsGathered m side rows m.root before after) where
+module _ {S : Type 0} (m : GameModel S) (side : Side) (rows : ℕ → Option SheetRow) (before after : ℕ → Option ℕ)
+    (nothing : (key : ℕ) → before key ≡ None) (walk : IsGathered m side rows m.root before after) where
   not_before : (key : ℕ) → IsSome (before key) → ⊥
   not_before key h = let h' = subst IsSome (nothing key) h in absurd (cc)
 
@@ -139,7 +142,8 @@ found_sheet m side entries ks before after sheet_rows listed rising nothing walk
     let keyed : (k : ℕ) (r : SheetRow) → f k ≡ Some r → r.key ≡ k = best_keyed side entries in
     record {
       rising = rw (is, row_keys f keyed ks) (IsStrictlyIncreasing-filter (λ k. is_some (f k)) ks rising);
-      kept = λ s r. rw is (listed_row f keyed ks (m.key s) ∙ none_or (list_any (eqb (m.key s)) ks) (f (m.key s)) (λ some. sym (listed (m.key s)) ∙ reached_found m side f before after nothing walk s r some));
+      kept = λ s r. rw is (listed_row f keyed ks (m.key s)
+          ∙ none_or (list_any (eqb (m.key s)) ks) (f (m.key s)) (λ some. sym (listed (m.key s)) ∙ reached_found m side f before after nothing walk s r some));
       only = rw is (All-from_recursion (IsFoundRow m side entries) (filter_map f ks) (rows_all f (IsFoundRow m side entries) ks (λ k r here e.
           let it = found_reached m side f before after nothing walk k (listed k ∙ here) in
           let key : r.key ≡ k = keyed k r e in

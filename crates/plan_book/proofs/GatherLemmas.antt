@@ -79,7 +79,8 @@ concat_has (suc n) f i k h p = elim (cases_lt i n) [
       (length (concat_below n f) + k, rw length-append (omega arith), λ d. get_or-append-add (concat_below n f) (f n) k d ∙ ap (λ (x : ℕ). get_or (f x) k d) (sym same))
 ]
 
-concat_from : {X : Type 0} (n : ℕ) (f : ℕ → List X) (j : ℕ) → j < length (concat_below n f) → (i : ℕ) × (i < n) × ((k : ℕ) × (k < length (f i)) × ((d : X) → get_or (concat_below n f) j d ≡ get_or (f i) k d))
+concat_from : {X : Type 0} (n : ℕ) (f : ℕ → List X) (j : ℕ) → j < length (concat_below n f)
+    → (i : ℕ) × (i < n) × ((k : ℕ) × (k < length (f i)) × ((d : X) → get_or (concat_below n f) j d ≡ get_or (f i) k d))
 concat_from zero f j h = absurd (omega arith)
 concat_from (suc n) f j h = elim (cases_lt j (length (concat_below n f))) [
   | inl earlier ↦
@@ -149,4 +150,5 @@ module _ {S : Type 0} (m : GameModel S) (side : Side) (weights : List ℕ) (s : 
 -- a row more, of the keys that are left
 pub row_taken : {K R : Type 0} (f : K → Option R) (rows : List R) (left rest : List K) (key : K) (row : R) (whole : List R) → left ≡ key ∷ rest → f key ≡ Some row
     → rows ++ filter_map f left ≡ whole → (rows ++ row ∷ []) ++ filter_map f rest ≡ whole
-row_taken f rows left rest key row whole e is h = append_assoc rows (row ∷ []) (filter_map f rest) ∙ sym (ap (λ xs. rows ++ filter_map f xs) e ∙ ap (λ o. rows ++ cons_option o (filter_map f rest)) is) ∙ h
+row_taken f rows left rest key row whole e is h =
+    append_assoc rows (row ∷ []) (filter_map f rest) ∙ sym (ap (λ xs. rows ++ filter_map f xs) e ∙ ap (λ o. rows ++ cons_option o (filter_map f rest)) is) ∙ h

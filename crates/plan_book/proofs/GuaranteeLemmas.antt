@@ -54,7 +54,8 @@ value_by_turns : {S : Type 0} (m : GameModel S) (side : Side) (own reply : Plan)
 value_by_turns m One own reply turns s history h = rw (goes_on m s h) (
     spread bound_scale (λ a. get_or (weights_at m One own s history) a 0) (λ b. get_or (weights_at m Two reply s history) b 0) (m.draws s) (m.chance s)
     (λ a b d. expected m own reply turns (m.drawn s a b d) (history ++ turn_of One a b d ∷ [])) (m.moves One s) (m.moves Two s)
-    ∙ replies_first (m.moves One s) (m.moves Two s) _ _ (λ a b. sum_below (m.draws s a b) (λ d. pos (m.chance s a b d) *ℤ value m One own reply turns (m.drawn s a b d) (history ++ turn_of One a b d ∷ []))))
+    ∙ replies_first (m.moves One s)
+    (m.moves Two s) _ _ (λ a b. sum_below (m.draws s a b) (λ d. pos (m.chance s a b d) *ℤ value m One own reply turns (m.drawn s a b d) (history ++ turn_of One a b d ∷ []))))
 value_by_turns m Two own reply turns s history h = rw (goes_on m s h) (
     spread bound_scale (λ a. get_or (weights_at m One reply s history) a 0) (λ b. get_or (weights_at m Two own s history) b 0) (m.draws s) (m.chance s)
     (λ a b d. expected m reply own turns (m.drawn s a b d) (history ++ turn_of Two b a d ∷ [])) (m.moves One s) (m.moves Two s))

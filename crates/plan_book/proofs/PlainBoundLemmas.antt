@@ -91,7 +91,8 @@ module _ {S : Type 0} (m : GameModel S) (game : IsGame m) (free : IsTrue m.chanc
         best_times side (m.moves side s - 1) bound_scale _ _ (λ own i. best_times (other_side side) (m.moves (other_side side) s - 1) bound_scale _ _ (λ reply j.
         let p : own < m.moves side s = omega (arith, owns) in
         let q : reply < m.moves (other_side side) s = omega (arith, replies) in
-        cell_is s (λ a b d. serial_within m side turns (child_of m side s a b d)) own reply r p q ∙ value_within turns (next_of m side s own reply) (next_reachable m game free side s own reply r p q))))
+        cell_is s (λ a b d. serial_within m side turns (child_of m side s a b d)) own reply r p q
+        ∙ value_within turns (next_of m side s own reply) (next_reachable m game free side s own reply r p q))))
   ]
 
   -- ---- backed bounds
@@ -100,7 +101,8 @@ module _ {S : Type 0} (m : GameModel S) (game : IsGame m) (free : IsTrue m.chanc
   to_plain s bound r (by_end s' bound' e h) = plain.by_end s bound e h
   to_plain s bound r (by_step s' bound' total weights numbers step children) =
       plain.by_step s bound total weights (λ own reply. numbers own reply 0) ((step_is s total weights numbers bound r).0 step) (λ own reply p q w.
-      to_plain (next_of m side s own reply) (numbers own reply 0) (next_reachable m game free side s own reply r p q) (children own reply 0 p q (omega (arith, one_draw m game free side s own reply r p q)) w))
+      to_plain (next_of m side s own reply) (numbers own reply 0) (next_reachable m game free side s own reply r p q)
+      (children own reply 0 p q (omega (arith, one_draw m game free side s own reply r p q)) w))
 
   from_plain : (s : S) (bound : ℤ) → Reachable m s → IsPlainBacked m side s bound → IsBacked m side s bound
   from_plain s bound r (plain.by_opening s' bound' h) = by_opening s bound h
@@ -165,12 +167,14 @@ module _ {S : Type 0} (m : GameModel S) (game : IsGame m) (free : IsTrue m.chanc
     λ h. record {
       rising = h.rising;
       kept = λ s r. h.kept s (plain_reached m game free side (best_row side entries) s r);
-      only = All-weaker (AreOf (IsReached m side (best_row side entries))) (AreOf (IsPlainReached m side (best_row side entries))) (λ r here. (here.0, reached_plain m game free side (best_row side entries) here.0 here.1, here.2, here.3)) rows h.only;
+      only = All-weaker (AreOf (IsReached m side (best_row side entries))) (AreOf (IsPlainReached m side (best_row side entries)))
+          (λ r here. (here.0, reached_plain m game free side (best_row side entries) here.0 here.1, here.2, here.3)) rows h.only;
     },
     λ h. record {
       rising = h.rising;
       kept = λ s r. h.kept s (reached_plain m game free side (best_row side entries) s r);
-      only = All-weaker (AreOf (IsPlainReached m side (best_row side entries))) (AreOf (IsReached m side (best_row side entries))) (λ r here. (here.0, plain_reached m game free side (best_row side entries) here.0 here.1, here.2, here.3)) rows h.only;
+      only = All-weaker (AreOf (IsPlainReached m side (best_row side entries))) (AreOf (IsReached m side (best_row side entries)))
+          (λ r here. (here.0, plain_reached m game free side (best_row side entries) here.0 here.1, here.2, here.3)) rows h.only;
     },
   )
 

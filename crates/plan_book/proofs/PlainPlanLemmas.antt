@@ -48,7 +48,8 @@ none_of : (a : Bool) → false ≡ (a && false)
 none_of true = refl
 none_of false = refl
 
-matches_more : (d : Bool) (t u : Moves) (k : List Moves) (o : Option (List Moves)) → cond d ((eqb t.one u.one && eqb t.two u.two) && matches o k) false ≡ matches (cond d (option_map (λ j. t ∷ j) o) None) (u ∷ k)
+matches_more : (d : Bool) (t u : Moves) (k : List Moves) (o : Option (List Moves))
+    → cond d ((eqb t.one u.one && eqb t.two u.two) && matches o k) false ≡ matches (cond d (option_map (λ j. t ∷ j) o) None) (u ∷ k)
 matches_more true t u k None = sym (none_of (eqb t.one u.one && eqb t.two u.two))
 matches_more true t u k (Some j) = refl
 matches_more false t u k o = refl
@@ -121,7 +122,8 @@ module _ {S : Type 0} (m : GameModel S) (game : IsGame m) (free : IsTrue m.chanc
     plain turns s k = plain_sum m (without_draws one) (without_draws two) turns s k
 
     turn_is : (c turns : ℕ) (s : S) (k : List Moves) (a b : ℕ) → Reachable m s → a < m.moves One s → b < m.moves Two s → c ≡ whole_chance
-        → expected m one two turns (next_state m s a b) (first_draws (k ++ record { one = a; two = b } ∷ [])) ≡ pos (c ^ turns) *ℤ plain turns (next_state m s a b) (k ++ record { one = a; two = b } ∷ [])
+        → expected m one two turns (next_state m s a b) (first_draws (k ++ record { one = a; two = b } ∷ [])) ≡ pos (c ^ turns)
+        *ℤ plain turns (next_state m s a b) (k ++ record { one = a; two = b } ∷ [])
         → sum_below (m.draws s a b) (λ d. pos (get_or (weights_at m One one s (first_draws k)) a 0 * get_or (weights_at m Two two s (first_draws k)) b 0 * m.chance s a b d)
         *ℤ expected m one two turns (m.drawn s a b d) (first_draws k ++ record { one = a; two = b; draw = d } ∷ []))
         ≡ pos (c ^ suc turns) *ℤ (pos (get_or (plain_weights m One (without_draws one) s k) a 0 * get_or (plain_weights m Two (without_draws two) s k) b 0)
@@ -131,7 +133,8 @@ module _ {S : Type 0} (m : GameModel S) (game : IsGame m) (free : IsTrue m.chanc
         let w : ℕ = get_or (weights_at m One one s (first_draws k)) a 0 in
         let v : ℕ = get_or (weights_at m Two two s (first_draws k)) b 0 in
         sum_one (m.draws s a b) _ (one_draw m game free One s a b r p q)
-        ∙ ap (λ (x : ℕ). pos (w * v * x) *ℤ expected m one two turns (next_state m s a b) (first_draws k ++ record { one = a; two = b; draw = 0 } ∷ [])) (whole_draw m game free One s a b r p q ∙ sym is)
+        ∙ ap (λ (x : ℕ). pos (w * v * x) *ℤ expected m one two turns (next_state m s a b) (first_draws k ++ record { one = a; two = b; draw = 0 } ∷ []))
+        (whole_draw m game free One s a b r p q ∙ sym is)
         ∙ ap (λ (h : List Turn). pos (w * v * c) *ℤ expected m one two turns (next_state m s a b) h) (sym (map-append _ k (record { one = a; two = b } ∷ [])))
         ∙ ap (λ (x : ℤ). pos (w * v * c) *ℤ x) below
         ∙ regroup w v c (c ^ turns) (plain turns (next_state m s a b) next)
@@ -168,12 +171,14 @@ module _ {S : Type 0} (m : GameModel S) (game : IsGame m) (free : IsTrue m.chanc
         ≡ pos (c ^ n) *ℤ (pos bound_scale *ℤ plain_sum_of m side (without_draws own) (without_draws reply) n m.root [])
     right_is = ap (λ (x : ℤ). pos bound_scale *ℤ x) (sum_is side) ∙ times_swap bound_scale (c ^ n) _
 
-    to_plain : (bound : ℤ) → IsNoTighter side (pos (whole (plan_of_one side own reply) (plan_of_two side own reply) ^ n) *ℤ bound) (pos bound_scale *ℤ expected m (plan_of_one side own reply) (plan_of_two side own reply) n m.root [])
+    to_plain : (bound : ℤ) → IsNoTighter side (pos (whole (plan_of_one side own reply) (plan_of_two side own reply) ^ n) *ℤ bound)
+        (pos bound_scale *ℤ expected m (plan_of_one side own reply) (plan_of_two side own reply) n m.root [])
         → IsNoTighter side (pos ((own.total * reply.total) ^ n) *ℤ bound) (pos bound_scale *ℤ plain_sum_of m side (without_draws own) (without_draws reply) n m.root [])
     to_plain bound h = looser_cancel side (c ^ n) _ _ (one-le-pow n c (omega (arith, is))) (looser_left side _ _ _ (left_is bound) (looser_right side _ _ _ right_is h))
 
     from_plain : (bound : ℤ) → IsNoTighter side (pos ((own.total * reply.total) ^ n) *ℤ bound) (pos bound_scale *ℤ plain_sum_of m side (without_draws own) (without_draws reply) n m.root [])
-        → IsNoTighter side (pos (whole (plan_of_one side own reply) (plan_of_two side own reply) ^ n) *ℤ bound) (pos bound_scale *ℤ expected m (plan_of_one side own reply) (plan_of_two side own reply) n m.root [])
+        → IsNoTighter side (pos (whole (plan_of_one side own reply) (plan_of_two side own reply) ^ n) *ℤ bound)
+        (pos bound_scale *ℤ expected m (plan_of_one side own reply) (plan_of_two side own reply) n m.root [])
     from_plain bound h = looser_left side _ _ _ (sym (left_is bound)) (looser_right side _ _ _ (sym right_is) (looser_times side (c ^ n) _ _ h))
 
   pub plain_plans : (c : ℕ) → c ≡ whole_chance → HasPlainPlans m

@@ -77,6 +77,7 @@ module _ {S : Type 0} (m : GameModel S) (side : Side) (sheet : Sheet) (s : S) (h
   plays_no_row row e h = by_row (Some row) e ∙ ap (λ (b : Bool). cond b row.weights (one_move sheet.total (m.moves side s) 0)) (other_fails _ _ _ h)
 
 -- the row at the place that a search of the rows finds
-pub row_found_at : (rows slice : List SheetRow) (key at place : ℕ) (row : SheetRow) → slice ≡ rows → at ≡ key → row_at slice at ≡ slice_get slice place → place < length slice → row ≡ get_or slice place row
+pub row_found_at : (rows slice : List SheetRow) (key at place : ℕ) (row : SheetRow) → slice ≡ rows → at ≡ key
+    → row_at slice at ≡ slice_get slice place → place < length slice → row ≡ get_or slice place row
     → row_at rows key ≡ Some row
 row_found_at rows slice key at place row same keyed here within is = rw (← same, ← keyed) (here ∙ slice_get_read slice (length slice) place row refl within is)

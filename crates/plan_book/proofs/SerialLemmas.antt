@@ -78,7 +78,8 @@ module _ {S : Type 0} (m : GameModel S) (game : IsGame m) (side : Side) where
 
 -- ---- the bounds of a lawful sheet
 module _ {S : Type 0} (m : GameModel S) (game : IsGame m) (sheet : Sheet) (lawful : IsLawful m sheet) where
-  bound_backed_within : (turns : ℕ) (s : S) → Reachable m s → m.rank s ≤ turns → (found_row : Option SheetRow) → row_at sheet.rows (m.key s) ≡ found_row → IsBacked m sheet.side s (bound_or m sheet.side s found_row)
+  bound_backed_within : (turns : ℕ) (s : S) → Reachable m s → m.rank s ≤ turns → (found_row : Option SheetRow)
+      → row_at sheet.rows (m.key s) ≡ found_row → IsBacked m sheet.side s (bound_or m sheet.side s found_row)
   bound_backed_within turns s r h None e = elim (cases_eq (m.rank s) 0) [
     | inl stop ↦ rw (is_same (m.rank s) 0 stop) (by_end s _ stop (looser_refl sheet.side (end_bound m s)))
     | inr on ↦ rw (is_other (m.rank s) 0 on) (by_opening s _ (looser_refl sheet.side (opening_bound m sheet.side)))
@@ -88,7 +89,8 @@ module _ {S : Type 0} (m : GameModel S) (game : IsGame m) (sheet : Sheet) (lawfu
       by_step s row.bound sheet.total row.weights _ (row_step m game sheet lawful s row r e) (λ own reply d p q u w.
       let turn = side_turn m sheet.side s own reply d p q u in
       let lower = game.rank_falls s (turn_of sheet.side own reply d) r turn in
-      bound_backed_within turns (child_of m sheet.side s own reply d) (reachable_turn m s (turn_of sheet.side own reply d) r turn) (omega arith) (row_at sheet.rows (m.key (child_of m sheet.side s own reply d))) refl)
+      bound_backed_within turns (child_of m sheet.side s own reply d) (reachable_turn m s (turn_of sheet.side own reply d) r turn) (omega arith)
+      (row_at sheet.rows (m.key (child_of m sheet.side s own reply d))) refl)
 
   pub bound_backed : (s : S) → Reachable m s → IsBacked m sheet.side s (bound_at m sheet.side sheet.rows s)
   bound_backed s r = bound_backed_within (m.rank s) s r (omega arith) (row_at sheet.rows (m.key s)) refl

@@ -22,7 +22,8 @@ cell_mono m side s numbers others own reply h =
 
 -- a step stays one over numbers that are no worse
 pub step_mono : {S : Type 0} (m : GameModel S) (side : Side) (s : S) (total : ℕ) (weights : List ℕ) (numbers others : ℕ → ℕ → ℕ → ℤ) (bound : ℤ) → IsStep m side s total weights numbers bound
-    → ((own reply d : ℕ) → own < m.moves side s → reply < m.moves (other_side side) s → d < draws_of m side s own reply → 1 ≤ get_or weights own 0 → IsNoTighter side (numbers own reply d) (others own reply d))
+    → ((own reply d : ℕ) → own < m.moves side s → reply < m.moves (other_side side) s → d < draws_of m side s own reply → 1 ≤ get_or weights own 0
+    → IsNoTighter side (numbers own reply d) (others own reply d))
     → IsStep m side s total weights others bound
 step_mono m side s total weights numbers others bound step h = record {
   goes_on = step.goes_on;

@@ -49,7 +49,8 @@ replies_first n m w v f =
 module _ (side : Side) (owns replies : ℕ) (w v : ℕ → ℕ) (count : ℕ → ℕ → ℕ) (c : ℕ → ℕ → ℕ → ℕ) (numbers values : ℕ → ℕ → ℕ → ℤ)
     (whole : ℕ) (children : (own reply draw : ℕ) → own < owns → reply < replies → draw < count own reply → IsNoTighter side (pos whole *ℤ numbers own reply draw) (values own reply draw)) where
   draws_step : (own reply : ℕ) → own < owns → reply < replies
-      → IsNoTighter side (pos (whole * whole_chance) *ℤ rounded side (sum_below (count own reply) (λ d. pos (c own reply d) *ℤ numbers own reply d))) (sum_below (count own reply) (λ d. pos (c own reply d) *ℤ values own reply d))
+      → IsNoTighter side (pos (whole * whole_chance) *ℤ rounded side (sum_below (count own reply) (λ d. pos (c own reply d) *ℤ numbers own reply d)))
+      (sum_below (count own reply) (λ d. pos (c own reply d) *ℤ values own reply d))
   draws_step own reply p q =
       let mean : ℤ = sum_below (count own reply) (λ d. pos (c own reply d) *ℤ numbers own reply d) in
       let scaled : IsNoTighter side (pos whole *ℤ (pos whole_chance *ℤ rounded side mean)) (pos whole *ℤ mean) = looser_times side whole _ _ (looser_rounded side mean) in
@@ -71,7 +72,8 @@ module _ (side : Side) (owns replies : ℕ) (w v : ℕ → ℕ) (count : ℕ →
       (looser_left side _ _ _ (sym scaled) (looser_sum side owns _ _ (λ own p. looser_times side (w own) _ _ (draws_step own reply p q))))
 
   pub state_step : (total others : ℕ) (bound : ℤ) → count_below replies v ≡ others
-      → ((reply : ℕ) → reply < replies → IsNoTighter side (pos total *ℤ bound) (sum_below owns (λ own. pos (w own) *ℤ rounded side (sum_below (count own reply) (λ d. pos (c own reply d) *ℤ numbers own reply d)))))
+      → ((reply : ℕ) → reply < replies → IsNoTighter side (pos total *ℤ bound)
+      (sum_below owns (λ own. pos (w own) *ℤ rounded side (sum_below (count own reply) (λ d. pos (c own reply d) *ℤ numbers own reply d)))))
       → IsNoTighter side (pos (total * others * whole_chance * whole) *ℤ bound)
       (sum_below replies (λ reply. pos (v reply) *ℤ sum_below owns (λ own. pos (w own) *ℤ sum_below (count own reply) (λ d. pos (c own reply d) *ℤ values own reply d))))
   state_step total others bound e h =

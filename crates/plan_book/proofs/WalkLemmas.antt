@@ -63,7 +63,8 @@ own_move_is One own reply draw = refl
 own_move_is Two own reply draw = refl
 
 pub item_below : {S : Type 0} (m : GameModel S) → IsGame m → (side : Side) (rows : ℕ → Option SheetRow) (s : S) (weights : List ℕ) (row : SheetRow) (k : ℕ) (child : S)
-    → IsReached m side rows s → rows (m.key s) ≡ Some row → row.weights ≡ weights → k < length (children_of m side weights s) → child ≡ get_or (children_of m side weights s) k child → IsBelow m side rows s child
+    → IsReached m side rows s → rows (m.key s) ≡ Some row → row.weights ≡ weights → k < length (children_of m side weights s)
+    → child ≡ get_or (children_of m side weights s) k child → IsBelow m side rows s child
 item_below m game side rows s weights row k child r is same h item =
     let c = item_child m side weights s k child h in
     let t : Turn = turn_of side c.own c.reply c.draw in
@@ -135,7 +136,8 @@ module _ {S : Type 0} (m : GameModel S) (side : Side) (rows : ℕ → Option She
   }
 
   all_followed : (weights : List ℕ) (row : SheetRow) (s : S) (now : ℕ → Option ℕ) → IsGame m → rows (m.key s) ≡ Some row → row.weights ≡ weights
-      → ((k : ℕ) (d : S) → k < length (children_of m side weights s) → IsSome (rows (m.key (get_or (children_of m side weights s) k d))) → IsSome (now (m.key (get_or (children_of m side weights s) k d))))
+      → ((k : ℕ) (d : S) → k < length (children_of m side weights s) → IsSome (rows (m.key (get_or (children_of m side weights s) k d)))
+      → IsSome (now (m.key (get_or (children_of m side weights s) k d))))
       → IsFollowed m side rows now s
   all_followed weights row s now game is same_weights done = λ u turn some.
       let parts = turn_parts m side s u turn.turn in
@@ -163,7 +165,8 @@ module _ {S : Type 0} (m : GameModel S) (side : Side) (rows : ℕ → Option She
   }
 
 -- the best entry of a key whose place is known
-pub entry_here : (side : Side) (entries : List Entry) (places : ℕ → Option ℕ) (key place : ℕ) (e : Entry) → ArePlaces side entries places → places key ≡ Some place → e ≡ get_or entries place e → best_entry side entries key ≡ Some e
+pub entry_here : (side : Side) (entries : List Entry) (places : ℕ → Option ℕ) (key place : ℕ) (e : Entry) → ArePlaces side entries places
+    → places key ≡ Some place → e ≡ get_or entries place e → best_entry side entries key ≡ Some e
 entry_here side entries places key place e are at item =
     let within : place < length entries = subst (λ (o : Option ℕ). IfSome o (λ i. i < length entries)) at (are.within key) in
     sym (are.best key) ∙ ap (option_and_then (slice_get entries)) at ∙ item_at entries place e within item
@@ -174,8 +177,10 @@ row_here side entries key e h = ap (option_map row_of) h
 pub some_is : {X : Type 0} (o : Option X) (x : X) → o ≡ Some x → IsSome o
 some_is o x e = rw e refl
 
-pub walk_done : {S : Type 0} (m : GameModel S) (side : Side) (rows : ℕ → Option SheetRow) (s : S) (weights : List ℕ) (row : SheetRow) (items : List S) (index : ℕ) (before now : ℕ → Option ℕ) → IsGame m → IsReached m side rows s
-    → rows (m.key s) ≡ Some row → row.weights ≡ weights → items ≡ children_of m side weights s → index ≡ length items → IsWalking m side rows s items index before now → IsGathered m side rows s before now
+pub walk_done : {S : Type 0} (m : GameModel S) (side : Side) (rows : ℕ → Option SheetRow) (s : S) (weights : List ℕ) (row : SheetRow)
+    (items : List S) (index : ℕ) (before now : ℕ → Option ℕ) → IsGame m → IsReached m side rows s
+    → rows (m.key s) ≡ Some row → row.weights ≡ weights → items ≡ children_of m side weights s → index ≡ length items
+    → IsWalking m side rows s items index before now → IsGathered m side rows s before now
 walk_done {S} m side rows s weights row items index before now game r is same e last walk =
     walk_end m side rows s weights row before now game r is same
     (subst (λ (xs : List S). IsWalking m side rows s xs (length xs) before now) e (subst (λ (n : ℕ). IsWalking m side rows s items n before now) last walk))

@@ -23,7 +23,11 @@ impl Model for Book {
 
     ghost Value = { BookView };
 
-    ghost view = { λ b. record { total = b.total; entries = b.entries.items; room = vec_capacity b.entries - vec_len b.entries } };
+    ghost view = { λ b. record {
+      total = b.total;
+      entries = b.entries.items;
+      room = vec_capacity b.entries - vec_len b.entries;
+    } };
 
     ghost invariant = { λ b. All (λ e. sum e.weights ≡ b.total) b.entries.items };
 }

@@ -30,7 +30,7 @@ pub fn children<G: Game>(
 }
 
 /// The weight of a move, which is 0 where the list has none for it.
-fn weight_of(weights: &[u32], own: u32) -> u32
+pub fn weight_of(weights: &[u32], own: u32) -> u32
     ensures { result ≡ slice_index weights.now own }
 {
     weights.get(own as usize).copied().unwrap_or(0)
@@ -66,7 +66,8 @@ fn add_pair<G: Game>(
     requires reachable { Reachable (G.model g) s }
     requires own { own < (G.model g).moves side s }
     requires reply { reply < (G.model g).moves (other_side side) s }
-    ensures { IfOk result (λ _. children.new.items ≡ children.old.items ++ children_of_pair (G.model g) side s own reply) }
+    ensures { IfOk result (λ _.
+        children.new.items ≡ children.old.items ++ children_of_pair (G.model g) side s own reply) }
 {
     let a = side.move_of_one(own, reply);
     let b = side.move_of_two(own, reply);

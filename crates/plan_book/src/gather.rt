@@ -69,7 +69,8 @@ pub fn gather<G: Game>(
 ) -> Result<(), NoMemory>
     requires reached { IsReached (G.model g) side (best_row side entries.now) s }
     requires places { ArePlaces side entries.now (get nat_cmp best.now) }
-    ensures { IfOk result (λ _. IsGathered (G.model g) side (best_row side entries.now) s (get nat_cmp found.old) (get nat_cmp found.new)) }
+    ensures { IfOk result (λ _.
+        IsGathered (G.model g) side (best_row side entries.now) s (get nat_cmp found.old) (get nat_cmp found.new)) }
 {
     let key = g.key(s);
     let Some(&place) = best.get(&key) else {

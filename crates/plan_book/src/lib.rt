@@ -21,7 +21,7 @@ pub use book::Book;
 pub use bounds::{bound_of, place_of};
 pub use chance_free::chance_free_games;
 pub use crossing::crosses;
-pub use follow::children;
+pub use follow::{children, weight_of};
 use seq::Seq;
 use sim_game::{Game, Side};
 pub use weights::{is_whole, weights_of};
@@ -67,7 +67,8 @@ pub fn sheet_guarantees<G: Game>(_g: &G, _sheet: &Sheet)
 /// What a plan of One guarantees is at most what a plan of Two guarantees.
 pub fn guarantees_meet<G: Game>(_g: &G)
     ensures { let m = G.model _g.now in
-        (one two : Plan) (lower upper : ℤ) → Guarantees m Side.One one lower → Guarantees m Side.Two two upper → lower ≤ℤ upper }
+        (one two : Plan) (lower upper : ℤ)
+        → Guarantees m Side.One one lower → Guarantees m Side.Two two upper → lower ≤ℤ upper }
 {}
 
 /// A backed bound of One is at most a backed bound of Two.
@@ -87,5 +88,6 @@ pub fn serial_backed<G: Game>(_g: &G, _side: Side, _s: G::State)
 pub fn sheet_backed<G: Game>(_g: &G, _sheet: &Sheet, _s: G::State)
     requires lawful { IsLawful (G.model _g.now) _sheet.now }
     requires reachable { Reachable (G.model _g.now) _s }
-    ensures { IsBacked (G.model _g.now) _sheet.now.side _s (bound_at (G.model _g.now) _sheet.now.side _sheet.now.rows _s) }
+    ensures { let m = G.model _g.now in
+        IsBacked m _sheet.now.side _s (bound_at m _sheet.now.side _sheet.now.rows _s) }
 {}

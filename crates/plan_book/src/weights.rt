@@ -35,9 +35,11 @@ pub fn weights_of<G: Game>(g: G, sheet: &Sheet, s: G::State) -> Option<&[u32]>
     requires reachable { Reachable (G.model g) s }
     ensures plays { let m = G.model g in
         (history : List Turn) → MatchOption result
-        (weights_at m sheet.now.side (plan_of sheet.now) s history ≡ one_move sheet.now.total (m.moves sheet.now.side s) 0)
+        (weights_at m sheet.now.side (plan_of sheet.now) s history
+        ≡ one_move sheet.now.total (m.moves sheet.now.side s) 0)
         (λ weights. weights_at m sheet.now.side (plan_of sheet.now) s history ≡ weights.now) }
-    ensures whole { IfSome result (λ weights. AreWeights ((G.model g).moves sheet.now.side s) sheet.now.total weights.now) }
+    ensures whole { IfSome result (λ weights.
+        AreWeights ((G.model g).moves sheet.now.side s) sheet.now.total weights.now) }
 {
     let rows = sheet.rows.as_slice();
     match place_of(rows, g.key(s)) {

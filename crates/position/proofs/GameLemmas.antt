@@ -1,5 +1,5 @@
 -- The games, one by one: what was built, and that a position has one game.
-use Rattle.std.proofs.Common.{subst}
+use Rattle.std.proofs.Common.{sym, subst}
 use Rattle.sim_game.specs.Model.{GameModel, IsGame}
 use Rattle.goofspiel.specs.Laws.{goofspiel_is_game}
 use Rattle.goofspiel.specs.Rules.{goofspiel_game}
@@ -15,11 +15,11 @@ use Rattle.tron.proofs.PositionLemmas as tron_position
 use Rattle.pursuit.specs.Laws.{pursuit_is_game}
 use Rattle.pursuit.specs.Rules.{pursuit_game}
 use Rattle.pursuit.proofs.PositionLemmas as pursuit_position
-use Rattle.certificate.specs.declared.report.PositionText.{PositionText}
-use Rattle.certificate.specs.declared.report.PositionText.TheVariants as texts
+use Rattle.certificate.specs.declared.positions.PositionText.{PositionText}
+use Rattle.certificate.specs.declared.positions.PositionText.TheVariants as texts
 use Rattle.position.specs.declared.games.AnyGame.{AnyGame}
 use Rattle.position.specs.declared.games.AnyGame.TheVariants.{Goofspiel, OshiZumo, Tron, GoofspielDrawn, Pursuit}
-use Rattle.position.specs.Games.{IsGameOf, state_of, model_of, OfGame, IsSameGame}
+use Rattle.position.specs.Games.{IsGameOf, state_type, model_of, OfSame, OfGame, IsSameGame}
 
 pub one_game : (text : PositionText) (g h : AnyGame) → IsGameOf text g → IsGameOf text h → IsSameGame g h
 one_game (texts.Goofspiel one two prizes score pay) g h (a, g_is, p) (b, h_is, q) = rw g_is (b, h_is, goofspiel_position.one_setting one two prizes score pay a.setting b.setting p q)
@@ -29,12 +29,16 @@ one_game (texts.GoofspielDrawn one two prizes score pay) g h (a, g_is, p) (b, h_
 one_game (texts.Pursuit nodes edges one two rounds) g h (a, g_is, p) (b, h_is, q) = rw g_is (b, h_is, pursuit_position.one_setting nodes edges one two rounds a.setting b.setting p q)
 
 -- a property of the model of one is one of that of the other
-pub of_same : (P : (S : Type 0) → GameModel S → Type 0) (g h : AnyGame) → IsSameGame g h → P (state_of g) (model_of g) → P (state_of h) (model_of h)
+pub of_same : (P : (S : Type 0) → GameModel S → Type 0) (g h : AnyGame) → IsSameGame g h → P (state_type g) (model_of g) → P (state_type h) (model_of h)
 of_same P (Goofspiel g) h (other, is, same) p = rw is (subst (λ s. P _ (goofspiel_game s)) same p)
 of_same P (OshiZumo g) h (other, is, same) p = rw is (subst (λ s. P _ (oshi_zumo_game s)) same p)
 of_same P (Tron g) h (other, is, same) p = rw is (subst (λ s. P _ (tron_game s)) same p)
 of_same P (GoofspielDrawn g) h (other, is, same) p = rw is (subst (λ s. P _ (drawn_game s)) same p)
 of_same P (Pursuit g) h (other, is, same) p = rw is (subst (λ s. P _ (pursuit_game s)) same p)
+
+-- what holds of a game that this is holds of this
+pub of_this : (P : (S : Type 0) → GameModel S → Type 0) (any : AnyGame) → OfSame any P → P (state_type any) (model_of any)
+of_this P any (g, same, p) = subst (λ g. P (state_type g) (model_of g)) (sym same) p
 
 pub is_game : (g : AnyGame) → IsGame (model_of g)
 is_game (Goofspiel g) = goofspiel_is_game g.setting g.valid
@@ -45,9 +49,9 @@ is_game (Pursuit g) = pursuit_is_game g.setting g.valid
 
 -- what follows from a property of the game
 pub of_game_weaker : (text : PositionText) (P Q : (S : Type 0) → GameModel S → Type 0) → ((S : Type 0) (m : GameModel S) → P S m → Q S m) → OfGame text P → OfGame text Q
-of_game_weaker text P Q by (g, is, p) = (g, is, by (state_of g) (model_of g) p)
+of_game_weaker text P Q by (g, is, p) = (g, is, by (state_type g) (model_of g) p)
 
 -- two properties of the game are of one game
 pub of_one_game : (text : PositionText) (P Q : (S : Type 0) → GameModel S → Type 0) (R : Type 0) → ((S : Type 0) (m : GameModel S) → IsGame m → P S m → Q S m → R) → OfGame text P → OfGame text Q → R
 of_one_game text P Q R by (g, is, p) (h, it, q) =
-    by (state_of h) (model_of h) (is_game h) (of_same P g h (one_game text g h is it) p) q
+    by (state_type h) (model_of h) (is_game h) (of_same P g h (one_game text g h is it) p) q

@@ -10,23 +10,25 @@ use Rattle.serde_json.specs.Data.{Data}
 use Rattle.serde_json.specs.View.{view, items_view, members_view}
 use Rattle.serde_json.specs.declared.value.Value.{Value}
 use Rattle.position.specs.declared.error.InputError.TheVariants.{Kind, Range}
-use Rattle.position.specs.declared.error.Field.{Field}
+use Rattle.certificate.specs.declared.fields.Field.{Field}
+use Rattle.certificate.specs.declared.positions.GameKind.{GameKind}
 use Rattle.position.specs.Objects.{list_of, names_of, is_known, is_whole, is_byte, byte_of, byte_in, whole_in, bytes_in}
 
 pub list_of_items : (vs : List Value) → list_of (items_view vs) ≡ map view vs
 list_of_items [] = refl
 list_of_items (v ∷ vs) = ap (λ (ds : List Data). view v ∷ ds) (list_of_items vs)
 
-pub known_members : (known : List Field) (ms : List (String Global × Value)) → list_all (is_known known) (names_of (members_view ms)) ≡ list_all (λ k. is_known known (string_bytes k)) (keys_of ms)
-known_members known [] = refl
-known_members known (m ∷ ms) = rw (known_members known ms) refl
+pub known_members : (game : GameKind) (ms : List (String Global × Value)) → list_all (is_known game) (names_of (members_view ms)) ≡ list_all (λ k. is_known game (string_bytes k)) (keys_of ms)
+known_members game [] = refl
+known_members game (m ∷ ms) = rw (known_members game ms) refl
 
 filter_map-map : {A B C : Type 0} (f : B → Option C) (g : A → B) (xs : List A) → filter_map f (map g xs) ≡ filter_map (λ x. f (g x)) xs
 filter_map-map f g [] = refl
 filter_map-map {A} {B} {C} f g (x ∷ xs) = rw (filter_map-map f g xs) refl
 
 -- what the tests on the items decide
-pub bytes_in_view : (field : Field) (most : ℕ) (vs : List Value) (whole small : Bool) → whole ≡ list_all (λ v. is_whole (view v)) vs → small ≡ (nat_le (length vs) most && list_all (λ v. is_byte (view v)) vs)
+pub bytes_in_view : (field : Field) (most : ℕ) (vs : List Value) (whole small : Bool) → whole ≡ list_all (λ v. is_whole (view v)) vs
+    → small ≡ (nat_le (length vs) most && list_all (λ v. is_byte (view v)) vs)
     → bytes_in field most (map view vs) ≡ cond whole (cond small (Ok (filter_map (λ v. byte_in (view v)) vs)) (Err (Range field))) (Err (Kind field))
 unfolding bytes_in
 bytes_in_view field most vs whole small w s = rw (w, s, list_all-map is_whole view vs, list_all-map is_byte view vs, length-map vs view, filter_map-map byte_in view vs) refl
@@ -45,7 +47,8 @@ pub bytes_fit : (vs : List Value) → (length (filter_map (λ v. byte_in (view v
 bytes_fit [] = (omega arith, All-nil (λ n. n ≤ 255))
 bytes_fit (v ∷ vs) =
     let more = bytes_fit vs in
-    elim (byte_in (view v)) as (λ o. byte_in (view v) ≡ o → (length (cons_option o (filter_map (λ v. byte_in (view v)) vs)) ≤ length (v ∷ vs)) × All (λ n. n ≤ 255) (cons_option o (filter_map (λ v. byte_in (view v)) vs))) [
+    elim (byte_in (view v)) as (λ o. byte_in (view v) ≡ o
+    → (length (cons_option o (filter_map (λ v. byte_in (view v)) vs)) ≤ length (v ∷ vs)) × All (λ n. n ≤ 255) (cons_option o (filter_map (λ v. byte_in (view v)) vs))) [
       | None ↦ λ is. (omega (arith, more.0), more.1)
       | Some n ↦ λ is. (omega (arith, more.0), All-cons (λ n. n ≤ 255) n (filter_map (λ v. byte_in (view v)) vs) (byte_in-le (view v) n is) more.1)
     ] refl

@@ -1,11 +1,8 @@
--- The games, one by one: their fields in a position, how these are read, the first rule that a position breaks, and the
--- model of its game.
-use Rattle.std.specs.Prelude.{◌≡◌, ◌<◌, ◌^◌, pos, neg_ℤ, List, [], ◌∷◌, length, codes, bytes_eq, if◌then◌else◌, Option, option_map, Result, Ok, Err}
+-- The games, one by one: the position that an object gives, the first rule that it breaks, and the model of its game.
+use Rattle.std.specs.Prelude.{◌≡◌, ◌<◌, ◌^◌, length, Option, option_map, Result, Ok}
 use Rattle.std.proofs.Common.{arith}
 use Rattle.serde_json.specs.Data.{Data}
 use Rattle.sim_game.specs.Model.{GameModel}
-use Rattle.goofspiel.specs.declared.Pay.{Pay}
-use Rattle.goofspiel.specs.declared.Pay.TheVariants.{Margin, Win}
 use Rattle.goofspiel.specs.declared.Goofspiel.{Goofspiel as GoofspielGame}
 use Rattle.goofspiel.specs.declared.State.{State as GoofspielState}
 use Rattle.goofspiel.specs.Position as goofspiel
@@ -26,90 +23,20 @@ use Rattle.pursuit.specs.declared.State.{State as PursuitState}
 use Rattle.pursuit.specs.Position as pursuit
 use Rattle.pursuit.specs.Rules.{pursuit_game}
 use Rattle.certificate.specs.declared.positions.GameKind.{GameKind}
-use Rattle.certificate.specs.declared.positions.GameKind.TheVariants as kinds
-use Rattle.certificate.specs.declared.report.PositionText.{PositionText}
-use Rattle.certificate.specs.declared.report.PositionText.TheVariants as texts
-use Rattle.certificate.specs.Positions.{Cards, goofspiel_of, goofspiel_drawn_of}
+use Rattle.certificate.specs.declared.positions.PositionText.{PositionText}
+use Rattle.certificate.specs.declared.positions.PositionText.TheVariants as texts
+use Rattle.certificate.specs.Positions.{fields_of, position_with}
 use Rattle.certificate.specs.Ranges.{IsPositionInRange}
 use Rattle.position.specs.declared.error.InputError.{InputError}
 use Rattle.position.specs.declared.error.InputError.TheVariants as errors
-use Rattle.position.specs.declared.error.Field.{Field}
-use Rattle.position.specs.declared.error.Field.TheVariants as fields
 use Rattle.position.specs.declared.games.AnyGame.{AnyGame}
 use Rattle.position.specs.declared.games.AnyGame.TheVariants.{Goofspiel, OshiZumo, Tron, GoofspielDrawn, Pursuit}
-use Rattle.position.specs.Objects.{◌>>=◌, between, natural, text_at, bytes_at}
+use Rattle.position.specs.Objects.{◌>>=◌, values_at}
 
--- ---- the fields
-abbrev pub ask_fields : List Field
-ask_fields = fields.Gap ∷ fields.Weight ∷ fields.Turns ∷ fields.Visits ∷ fields.Rows ∷ fields.Workers ∷ []
-
--- the fields that an object of the game has, and no others
-abbrev pub fields_of : GameKind → List Field
-fields_of kinds.Goofspiel = fields.Game ∷ fields.One ∷ fields.Two ∷ fields.Prizes ∷ fields.Score ∷ fields.Pay ∷ ask_fields
-fields_of kinds.OshiZumo = fields.Game ∷ fields.Size ∷ fields.One ∷ fields.Two ∷ fields.Least ∷ fields.Place ∷ ask_fields
-fields_of kinds.Tron = fields.Game ∷ fields.Height ∷ fields.Width ∷ fields.Walls ∷ fields.One ∷ fields.Two ∷ ask_fields
-fields_of kinds.GoofspielDrawn = fields.Game ∷ fields.One ∷ fields.Two ∷ fields.Prizes ∷ fields.Score ∷ fields.Pay ∷ ask_fields
-fields_of kinds.Pursuit = fields.Game ∷ fields.Nodes ∷ fields.Edges ∷ fields.One ∷ fields.Two ∷ fields.Rounds ∷ ask_fields
-
--- ---- how they are read
-unfoldable pub pay_at : Data → Result Pay InputError
-pay_at d = do
-  word ← text_at fields.Pay d
-  if bytes_eq word (codes "margin") then Ok Margin else
-      (if bytes_eq word (codes "win") then Ok Win else Err (errors.Range fields.Pay))
-
-unfoldable pub cards_at : Data → Result Cards InputError
-cards_at d = do
-  one ← bytes_at fields.One 255 d
-  two ← bytes_at fields.Two 255 d
-  prizes ← bytes_at fields.Prizes 255 d
-  score ← between fields.Score (neg_ℤ (pos 1000000)) (pos 1000000) d
-  pay ← pay_at d
-  Ok (one, (two, (prizes, (score, pay))))
-
-unfoldable pub goofspiel_at : Data → Result PositionText InputError
-goofspiel_at d = do
-  cards ← cards_at d
-  Ok (goofspiel_of cards)
-
-unfoldable pub oshi_zumo_at : Data → Result PositionText InputError
-oshi_zumo_at d = do
-  size ← natural fields.Size 0 255 d
-  one ← natural fields.One 0 255 d
-  two ← natural fields.Two 0 255 d
-  least ← natural fields.Least 0 255 d
-  place ← between fields.Place (neg_ℤ (pos 128)) (pos 127) d
-  Ok (texts.OshiZumo size one two least place)
-
-unfoldable pub tron_at : Data → Result PositionText InputError
-tron_at d = do
-  height ← natural fields.Height 0 255 d
-  width ← natural fields.Width 0 255 d
-  walls ← bytes_at fields.Walls 255 d
-  one ← natural fields.One 0 255 d
-  two ← natural fields.Two 0 255 d
-  Ok (texts.Tron height width walls one two)
-
-unfoldable pub goofspiel_drawn_at : Data → Result PositionText InputError
-goofspiel_drawn_at d = do
-  cards ← cards_at d
-  Ok (goofspiel_drawn_of cards)
-
-unfoldable pub pursuit_at : Data → Result PositionText InputError
-pursuit_at d = do
-  nodes ← natural fields.Nodes 0 255 d
-  edges ← bytes_at fields.Edges 1024 d
-  one ← natural fields.One 0 255 d
-  two ← natural fields.Two 0 255 d
-  rounds ← natural fields.Rounds 0 255 d
-  Ok (texts.Pursuit nodes edges one two rounds)
-
-unfoldable pub text_of : GameKind → Data → Result PositionText InputError
-text_of kinds.Goofspiel d = goofspiel_at d
-text_of kinds.OshiZumo d = oshi_zumo_at d
-text_of kinds.Tron d = tron_at d
-text_of kinds.GoofspielDrawn d = goofspiel_drawn_at d
-text_of kinds.Pursuit d = pursuit_at d
+unfoldable pub position_text_in : GameKind → Data → Result PositionText InputError
+position_text_in game d = do
+  vs ← values_at (fields_of game) d
+  Ok (position_with game vs)
 
 -- ---- the game of a position
 -- the lists are short enough for their game
@@ -122,11 +49,11 @@ HasShortLists (texts.Pursuit nodes edges one two rounds) = length edges < 2 ^ 31
 
 -- the lists of a position that a report may have are short
 pub HasShortLists-in_range : (text : PositionText) → IsPositionInRange text → HasShortLists text
-HasShortLists-in_range (texts.Goofspiel one two prizes score pay) fits = (omega (arith, fits.0.few), omega (arith, fits.1.few), omega (arith, fits.2.few))
+HasShortLists-in_range (texts.Goofspiel one two prizes score pay) fits = (omega (arith, fits.0.few), omega (arith, fits.1.0.few), omega (arith, fits.1.1.0.few))
 HasShortLists-in_range (texts.OshiZumo size one two least place) fits = tt
-HasShortLists-in_range (texts.Tron height width walls one two) fits = omega (arith, fits.2.few)
-HasShortLists-in_range (texts.GoofspielDrawn one two prizes score pay) fits = (omega (arith, fits.0.few), omega (arith, fits.1.few), omega (arith, fits.2.few))
-HasShortLists-in_range (texts.Pursuit nodes edges one two rounds) fits = omega (arith, fits.1.few)
+HasShortLists-in_range (texts.Tron height width walls one two) fits = omega (arith, fits.1.1.0.few)
+HasShortLists-in_range (texts.GoofspielDrawn one two prizes score pay) fits = (omega (arith, fits.0.few), omega (arith, fits.1.0.few), omega (arith, fits.1.1.0.few))
+HasShortLists-in_range (texts.Pursuit nodes edges one two rounds) fits = omega (arith, fits.1.0.few)
 
 -- the first rule of the game that the position breaks
 abbrev pub fault_of : PositionText → Option InputError
@@ -146,23 +73,27 @@ IsGameOf (texts.Pursuit nodes edges one two rounds) game = (g : PursuitGame) × 
 
 -- ---- its model
 -- the states of the game
-abbrev pub state_of : AnyGame → Type 0
-state_of (Goofspiel g) = GoofspielState
-state_of (OshiZumo g) = OshiZumoState
-state_of (Tron g) = TronState
-state_of (GoofspielDrawn g) = DrawnState
-state_of (Pursuit g) = PursuitState
+abbrev pub state_type : AnyGame → Type 0
+state_type (Goofspiel g) = GoofspielState
+state_type (OshiZumo g) = OshiZumoState
+state_type (Tron g) = TronState
+state_type (GoofspielDrawn g) = DrawnState
+state_type (Pursuit g) = PursuitState
 
-abbrev pub model_of : (g : AnyGame) → GameModel (state_of g)
+abbrev pub model_of : (g : AnyGame) → GameModel (state_type g)
 model_of (Goofspiel g) = goofspiel_game g.setting
 model_of (OshiZumo g) = oshi_zumo_game g.setting
 model_of (Tron g) = tron_game g.setting
 model_of (GoofspielDrawn g) = drawn_game g.setting
 model_of (Pursuit g) = pursuit_game g.setting
 
+-- the property holds of a game that this is
+abbrev pub OfSame : AnyGame → ((S : Type 0) → GameModel S → Type 0) → Type 0
+OfSame any P = (g : AnyGame) × (any ≡ g) × P (state_type g) (model_of g)
+
 -- the property holds of the game of the position, which can be played
 abbrev pub OfGame : PositionText → ((S : Type 0) → GameModel S → Type 0) → Type 0
-OfGame text P = (g : AnyGame) × IsGameOf text g × P (state_of g) (model_of g)
+OfGame text P = (g : AnyGame) × IsGameOf text g × P (state_type g) (model_of g)
 
 -- both are of one kind and have one setting, of which the model is made
 abbrev pub IsSameGame : AnyGame → AnyGame → Type 0

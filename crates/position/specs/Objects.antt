@@ -1,14 +1,24 @@
 -- What stands in a JSON object, or the refusal.
-use Rattle.std.specs.Prelude.{◌≡◌, ℕ, ℤ, pos, negsuc, Bool, ◌&&◌, ◌||◌, List, [], ◌∷◌, length, nat_lt, int_lt, nat_le, if◌then◌else◌, bytes_eq, is_some, Option, Some, None, option_and_then, Result, Ok, Err}
+use Rattle.std.specs.Prelude.{◌≡◌, ℕ, ℤ, pos, negsuc, Bool, true, false, ◌&&◌, ◌||◌, List, [], ◌∷◌, length, nat_lt, int_lt, nat_le, if◌then◌else◌, bytes_eq, is_some, Option, Some, None, option_and_then, Result, Ok, Err}
 use Rattle.std.specs.List.{list_any, list_all, filter_map}
 use Rattle.std.specs.Str.{is_utf8}
 use Rattle.serde_json.specs.Data.{Data, Members, no_members, member, Items, no_items, item}
 use Rattle.serde_json.specs.Find.{get, as_number, as_i64, as_str, as_array, as_object}
 use Rattle.serde_json.specs.Read.{read}
-use Rattle.position.specs.declared.error.Field.{Field}
+use Rattle.certificate.specs.declared.fields.Field.{Field}
+use Rattle.certificate.specs.declared.fields.Field.TheVariants as fields
+use Rattle.certificate.specs.declared.fields.FieldKind.{FieldKind}
+use Rattle.certificate.specs.declared.fields.FieldKind.TheVariants as holds
+use Rattle.certificate.specs.declared.fields.Absent.{Absent}
+use Rattle.certificate.specs.declared.fields.Absent.TheVariants.{Refused, Number, Word}
+use Rattle.certificate.specs.declared.fields.Value.{Value}
+use Rattle.certificate.specs.declared.fields.Value.TheVariants as values
+use Rattle.certificate.specs.declared.positions.GameKind.{GameKind}
+use Rattle.certificate.specs.declared.report.TheConstants.{ASK}
+use Rattle.certificate.specs.Fields.{name_of, word_in, FieldRow, AskRow, Fits}
+use Rattle.certificate.specs.Positions.{fields_of}
 use Rattle.position.specs.declared.error.InputError.{InputError}
 use Rattle.position.specs.declared.error.InputError.TheVariants as errors
-use Rattle.position.specs.Refusals.{name_of}
 
 infixl 10 ◌>>=◌
 abbrev pub ◌>>=◌ : {A B : Type 0} → Result A InputError → (A → Result B InputError) → Result B InputError
@@ -47,16 +57,6 @@ unfoldable pub between : Field → ℤ → ℤ → Data → Result ℤ InputErro
 between field low high d = do
   z ← whole_at field d
   if int_lt z low || int_lt high z then Err (errors.Range field) else Ok z
-
--- a natural number from low to high
-abbrev pub natural_of : Field → ℕ → ℕ → ℤ → Result ℕ InputError
-natural_of field low high (pos n) = if nat_lt n low || nat_lt high n then Err (errors.Range field) else Ok n
-natural_of field low high (negsuc n) = Err (errors.Range field)
-
-unfoldable pub natural : Field → ℕ → ℕ → Data → Result ℕ InputError
-natural field low high d = do
-  z ← whole_at field d
-  natural_of field low high z
 
 unfoldable pub text_at : Field → Data → Result (List ℕ) InputError
 text_at field d = do
@@ -111,14 +111,66 @@ abbrev pub names_of : Members → List (List ℕ)
 names_of no_members = []
 names_of (member name d ms) = name ∷ names_of ms
 
-abbrev pub is_known : List Field → List ℕ → Bool
-is_known known name = list_any (λ f. bytes_eq (name_of f) name) known
+-- the name is that of a field of the game, or of what is asked
+abbrev pub is_known : GameKind → List ℕ → Bool
+is_known game name =
+    bytes_eq (name_of fields.Game) name
+    || (list_any (λ (row : FieldRow). bytes_eq (name_of row.0) name) (fields_of game) || list_any (λ (row : AskRow). bytes_eq (name_of row.0) name) ASK)
 
 unfoldable pub members_at : Data → Result Members InputError
 members_at d = or_refuse (as_object d) errors.NotObject
 
--- every name in the object is that of a field
-unfoldable pub known_at : List Field → Data → Result (Unit {0}) InputError
-known_at known d = do
+-- every name in the object is known
+unfoldable pub known_at : GameKind → Data → Result (Unit {0}) InputError
+known_at game d = do
   members ← members_at d
-  if list_all (is_known known) (names_of members) then Ok tt else Err errors.Unknown
+  if list_all (is_known game) (names_of members) then Ok tt else Err errors.Unknown
+
+-- ---- the values of fields
+
+unfoldable pub value_at : Field → FieldKind → Data → Result Value InputError
+value_at field (holds.Number low high) d = do
+  z ← between field low high d
+  Ok (values.Number z)
+value_at field (holds.List most) d = do
+  ns ← bytes_at field most d
+  Ok (values.List ns)
+value_at field (holds.Word choices) d = do
+  text ← text_at field d
+  w ← or_refuse (word_in choices text) (errors.Range field)
+  Ok (values.Word w)
+
+-- the values of the fields of a game
+unfoldable pub values_at : List FieldRow → Data → Result (List Value) InputError
+values_at [] d = Ok []
+values_at (row ∷ rows) d = do
+  v ← value_at row.0 row.1 d
+  vs ← values_at rows d
+  Ok (v ∷ vs)
+
+-- what an absent field means, if it may be absent
+abbrev pub default_of : Absent → Option Value
+default_of Refused = None
+default_of (Number z) = Some (values.Number z)
+default_of (Word w) = Some (values.Word w)
+
+abbrev pub IsDefaultOf : FieldKind → Absent → Type 0
+IsDefaultOf kind Refused = Unit {0}
+IsDefaultOf kind (Number z) = Fits kind (values.Number z)
+IsDefaultOf kind (Word w) = Fits kind (values.Word w)
+
+abbrev pub or_default : Option Value → Bool → Result Value InputError → Result Value InputError
+or_default (Some v) false read = Ok v
+or_default (Some v) true read = read
+or_default None given read = read
+
+unfoldable pub asked_at : AskRow → Data → Result Value InputError
+asked_at row d = or_default (default_of row.2) (is_some (get (name_of row.0) d)) (value_at row.0 row.1 d)
+
+-- the values of the fields of what is asked
+unfoldable pub all_asked_at : List AskRow → Data → Result (List Value) InputError
+all_asked_at [] d = Ok []
+all_asked_at (row ∷ rows) d = do
+  v ← asked_at row d
+  vs ← all_asked_at rows d
+  Ok (v ∷ vs)

@@ -1,16 +1,18 @@
 -- The position that bytes give and what is asked of it, or the first refusal.
-use Rattle.std.specs.Prelude.{ℕ, pos, List, length, nat_lt, if◌then◌else◌, is_some, Option, Some, None, Result, Ok, Err}
+use Rattle.std.specs.Prelude.{ℕ, List, length, nat_lt, if◌then◌else◌, is_some, Option, Some, None, Result, Ok, Err}
 use Rattle.serde_json.specs.Data.{Data}
 use Rattle.serde_json.specs.Find.{as_object}
 use Rattle.certificate.specs.declared.positions.GameKind.{GameKind}
-use Rattle.certificate.specs.declared.report.PositionText.{PositionText}
+use Rattle.certificate.specs.declared.positions.PositionText.{PositionText}
 use Rattle.certificate.specs.declared.report.Ask.{Ask}
+use Rattle.certificate.specs.declared.report.TheConstants.{ASK}
 use Rattle.certificate.specs.Positions.{game_of}
-use Rattle.position.specs.declared.error.Field.TheVariants as fields
+use Rattle.certificate.specs.Asks.{ask_with}
+use Rattle.certificate.specs.declared.fields.Field.TheVariants as fields
 use Rattle.position.specs.declared.error.InputError.{InputError}
 use Rattle.position.specs.declared.error.InputError.TheVariants as errors
-use Rattle.position.specs.Objects.{◌>>=◌, or_refuse, between, natural, text_at, json_of, known_at}
-use Rattle.position.specs.Games.{fields_of, text_of, fault_of}
+use Rattle.position.specs.Objects.{◌>>=◌, or_refuse, text_at, json_of, known_at, all_asked_at}
+use Rattle.position.specs.Games.{position_text_in, fault_of}
 pub use Rattle.position.specs.Objects.{Fails, Gives}
 
 unfoldable pub game_at : Data → Result GameKind InputError
@@ -20,13 +22,8 @@ game_at d = do
 
 unfoldable pub ask_at : Data → Result Ask InputError
 ask_at d = do
-  gap ← between fields.Gap (pos 0) (pos 8000000000) d
-  weight ← natural fields.Weight 8192 1048576 d
-  turns ← natural fields.Turns 0 1099511627776 d
-  visits ← natural fields.Visits 0 1099511627776 d
-  rows ← natural fields.Rows 1 1048576 d
-  workers ← natural fields.Workers 1 16 d
-  Ok (record { gap = gap; weight = weight; turns = turns; visits = visits; rows = rows; workers = workers })
+  vs ← all_asked_at ASK d
+  Ok (ask_with vs)
 
 -- a position that breaks no rule of its game
 abbrev pub refuse_if : Option InputError → Result (Unit {0}) InputError
@@ -47,8 +44,8 @@ pub record TaskText : Type 0 where
 unfoldable pub task_of : Data → Result TaskText InputError
 task_of d = do
   game ← game_at d
-  _ ← known_at (fields_of game) d
-  text ← text_of game d
+  _ ← known_at game d
+  text ← position_text_in game d
   ask ← ask_at d
   _ ← refuse_if (fault_of text)
   Ok (record { text = text; ask = ask })

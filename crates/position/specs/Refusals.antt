@@ -1,4 +1,4 @@
--- What is told of a refusal: its number, its words, and the name of a field.
+-- What is told of a refusal: its number and its words.
 use Rattle.std.specs.Prelude.{ℕ, List, [], ◌++◌, codes}
 use Rattle.goofspiel.specs.Refusals as goofspiel
 use Rattle.oshi_zumo.specs.Refusals as oshi_zumo
@@ -6,31 +6,7 @@ use Rattle.tron.specs.Refusals as tron
 use Rattle.pursuit.specs.Refusals as pursuit
 use Rattle.position.specs.declared.error.InputError.{InputError}
 use Rattle.position.specs.declared.error.InputError.TheVariants.{NotJson, NotObject, Missing, Unknown, Kind, Range, GameName, Goofspiel, OshiZumo, Tron, Pursuit, TooLong, NoMemory}
-use Rattle.position.specs.declared.error.Field.{Field}
-use Rattle.position.specs.declared.error.Field.TheVariants as fields
-
-abbrev pub name_of : Field → List ℕ
-name_of fields.Game = codes "game"
-name_of fields.One = codes "one"
-name_of fields.Two = codes "two"
-name_of fields.Prizes = codes "prizes"
-name_of fields.Score = codes "score"
-name_of fields.Pay = codes "pay"
-name_of fields.Size = codes "size"
-name_of fields.Least = codes "least"
-name_of fields.Place = codes "place"
-name_of fields.Height = codes "height"
-name_of fields.Width = codes "width"
-name_of fields.Walls = codes "walls"
-name_of fields.Nodes = codes "nodes"
-name_of fields.Edges = codes "edges"
-name_of fields.Rounds = codes "rounds"
-name_of fields.Gap = codes "gap"
-name_of fields.Weight = codes "weight"
-name_of fields.Turns = codes "turns"
-name_of fields.Visits = codes "visits"
-name_of fields.Rows = codes "rows"
-name_of fields.Workers = codes "workers"
+use Rattle.certificate.specs.Fields.{name_of}
 
 -- want of memory has the number 0 and no words
 abbrev pub code_of : InputError → ℕ

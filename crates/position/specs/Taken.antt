@@ -18,8 +18,8 @@ abbrev pub Takes : Option (List ℕ) → Option (List ℕ) → ℕ → Type 0
 Takes old new n = (bs : List ℕ) × Consumes old new bs × (length bs ≡ n)
 
 -- at most n bytes were taken
-abbrev pub TakesAtMost : Option (List ℕ) → Option (List ℕ) → ℕ → Type 0
-TakesAtMost old new n = (bs : List ℕ) × Consumes old new bs × length bs ≤ n
+abbrev pub ConsumesAtMost : Option (List ℕ) → Option (List ℕ) → ℕ → Type 0
+ConsumesAtMost old new n = (bs : List ℕ) × Consumes old new bs × length bs ≤ n
 
 -- a front of the bytes was appended, and not all of them
 abbrev pub AppendsFront : Option (List ℕ) → Option (List ℕ) → List ℕ → Type 0

@@ -1,10 +1,12 @@
-//! Why bytes are no position, and the fields of a position.
+//! Why bytes are no position.
 
 ghost use Rattle.std.specs.Prelude.{◌≡◌, ◌++◌, OnOk};
 ghost use Rattle.text.specs.Texts.{Adds};
-ghost use Rattle.position.specs.Refusals.{name_of, code_of, words_of};
+ghost use Rattle.certificate.specs.Fields.{name_of};
+ghost use Rattle.position.specs.Refusals.{code_of, words_of};
 ghost use Rattle.position.specs.declared.error.InputError.TheVariants.{NoMemory};
 
+use certificate::Field;
 use goofspiel::GoofspielError;
 use oshi_zumo::OshiError;
 use pursuit::PursuitError;
@@ -13,63 +15,6 @@ use std::alloc::{AllocError, AllocFailed};
 use text::Text;
 use thiserror::Error;
 use tron::TronError;
-
-/// A field of the object.
-#[derive(Clone, Copy, Debug, PartialEq, Eq)]
-pub enum Field {
-    Game,
-    One,
-    Two,
-    Prizes,
-    Score,
-    Pay,
-    Size,
-    Least,
-    Place,
-    Height,
-    Width,
-    Walls,
-    Nodes,
-    Edges,
-    Rounds,
-    Gap,
-    Weight,
-    Turns,
-    Visits,
-    Rows,
-    Workers,
-}
-
-impl Field {
-    /// The field's name in the object.
-    pub fn name(self) -> &'static str
-        ensures { result.now ≡ name_of self }
-    {
-        match self {
-            Field::Game => "game",
-            Field::One => "one",
-            Field::Two => "two",
-            Field::Prizes => "prizes",
-            Field::Score => "score",
-            Field::Pay => "pay",
-            Field::Size => "size",
-            Field::Least => "least",
-            Field::Place => "place",
-            Field::Height => "height",
-            Field::Width => "width",
-            Field::Walls => "walls",
-            Field::Nodes => "nodes",
-            Field::Edges => "edges",
-            Field::Rounds => "rounds",
-            Field::Gap => "gap",
-            Field::Weight => "weight",
-            Field::Turns => "turns",
-            Field::Visits => "visits",
-            Field::Rows => "rows",
-            Field::Workers => "workers",
-        }
-    }
-}
 
 /// The first refusal of the bytes.
 #[derive(Clone, Copy, Debug, PartialEq, Eq, Error)]

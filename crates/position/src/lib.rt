@@ -2,7 +2,6 @@
 #![tactic(auto)]
 
 mod error;
-mod fields;
 mod games;
 mod memory_sink;
 mod memory_source;
@@ -14,7 +13,8 @@ mod sink;
 mod source;
 mod standard;
 
-pub use error::{Field, InputError};
+pub use certificate::Field;
+pub use error::InputError;
 pub use games::{AnyGame, GameVisitor, build, position_has_one_game};
 pub use memory_sink::MemorySink;
 pub use memory_source::MemorySource;
@@ -23,6 +23,3 @@ pub use reading::{Task, position};
 pub use sink::{Sink, write_all};
 pub use source::{Failed, ReadError, Source, read_all};
 pub use standard::{StdSink, StdSource};
-
-#[cfg(test)]
-mod tests;

@@ -1,8 +1,8 @@
 //! A sink into memory of a given room, whose chosen calls fail.
 
-ghost use Rattle.std.specs.Prelude.{◌≡◌, [], ◌<◌, ◌≤◌, ◌+◌, ◌-◌, ◌^◌, ◌↔◌, ◌⊎◌, min, length, Some, Contains, IsErr, IfOk, vec_capacity};
+ghost use Rattle.std.specs.Prelude.{◌≡◌, [], ◌<◌, ◌≤◌, ◌+◌, ◌-◌, ◌^◌, ◌↔◌, ◌⊎◌, min, length, Some, Contains, IsErr, IfOk, OnOk, MatchResult, vec_capacity};
 ghost use Rattle.std.specs.Io.KnownBytes.{WriteAppends};
-ghost use Rattle.position.specs.Causes.{HasCause};
+ghost use Rattle.position.specs.Causes.{HasCause, IsCalm};
 ghost use Rattle.position.specs.Memory.{room_left};
 
 use crate::pieces::is_listed;
@@ -27,7 +27,14 @@ impl Model for MemorySink {
 
     ghost Value = { Store };
 
-    ghost view = { λ s. record { written = s.bytes.items; room = s.room; chunk = s.chunk; failing = s.failing.items; calls = s.calls; faults = s.faults } };
+    ghost view = { λ s. record {
+      written = s.bytes.items;
+      room = s.room;
+      chunk = s.chunk;
+      failing = s.failing.items;
+      calls = s.calls;
+      faults = s.faults;
+    } };
 
     ghost invariant = { λ s. 0 < s.chunk × length s.bytes.items ≤ s.room × s.room ≤ vec_capacity s.bytes };
 }
@@ -36,7 +43,14 @@ impl MemorySink {
     pub fn new(room: Vec<u8>, chunk: u32, fail: Vec<u32>) -> MemorySink
         requires empty { room.items ≡ [] }
         requires some { 0 < chunk }
-        ensures { result ≡ record { written = []; room = vec_capacity room; chunk = chunk; failing = fail.items; calls = 0; faults = 0 } }
+        ensures { result ≡ record {
+          written = [];
+          room = vec_capacity room;
+          chunk = chunk;
+          failing = fail.items;
+          calls = 0;
+          faults = 0;
+        } }
     {
         MemorySink {
             room: room.capacity(),
@@ -72,10 +86,13 @@ impl Sink for MemorySink {
         ensures bound { IfOk result (λ n. n ≤ length piece.now) }
         ensures bytes { WriteAppends (Some self.old.written) (Some self.new.written) result piece.now }
         ensures cause { HasCause self.old.faults self.new.faults result }
+        ensures calm { OnOk result (IsCalm self.old.faults self.new.faults) }
         // The calls in the list fail, and so does one that finds no room. Others take what they can.
         ensures fails { IsErr result ↔ (Contains self.old.failing self.old.calls ⊎ (room_left self.old ≡ 0)) }
         ensures takes { IfOk result (λ n. n ≡ min (min (length piece.now) (room_left self.old)) self.old.chunk) }
-        // Each call is counted, up to the last value of the type. The list, the chunk and the room stay.
+        // Each call that fails is counted and each call, both up to the last value of the type. All else stays.
+        ensures faults { MatchResult result (λ _. self.new.faults ≡ self.old.faults)
+            (λ _. self.new.faults ≡ min (self.old.faults + 1) (2 ^ 64 - 1)) }
         ensures counted { self.new.calls ≡ min (self.old.calls + 1) (2 ^ 64 - 1) }
         ensures listed { self.new.failing ≡ self.old.failing }
         ensures chunk { self.new.chunk ≡ self.old.chunk }

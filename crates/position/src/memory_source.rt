@@ -1,8 +1,8 @@
 //! A source over bytes in memory whose chosen calls fail.
 
-ghost use Rattle.std.specs.Prelude.{◌≡◌, ◌<◌, ◌≤◌, ◌+◌, ◌-◌, ◌^◌, ◌↔◌, min, length, Some, Contains, IsErr, IfOk};
+ghost use Rattle.std.specs.Prelude.{◌≡◌, ◌<◌, ◌≤◌, ◌+◌, ◌-◌, ◌^◌, ◌↔◌, min, length, Some, Contains, IsErr, IfOk, OnOk, MatchResult};
 ghost use Rattle.std.specs.Io.KnownBytes.{ReadConsumes};
-ghost use Rattle.position.specs.Causes.{HasCause};
+ghost use Rattle.position.specs.Causes.{HasCause, IsCalm};
 
 use crate::pieces::{copy_from, is_listed};
 use crate::{Failed, Source};
@@ -24,7 +24,12 @@ impl Model for MemorySource {
 
     ghost Value = { Feed };
 
-    ghost view = { λ s. record { left = drop s.at s.bytes.items; failing = s.failing.items; calls = s.calls; faults = s.faults } };
+    ghost view = { λ s. record {
+      left = drop s.at s.bytes.items;
+      failing = s.failing.items;
+      calls = s.calls;
+      faults = s.faults;
+    } };
 
     ghost invariant = { λ s. s.at ≤ length s.bytes.items };
 }
@@ -52,10 +57,13 @@ impl Source for MemorySource {
         ensures bound { IfOk result (λ n. n ≤ length into.new) }
         ensures bytes { ReadConsumes (Some self.old.left) (Some self.new.left) result into.new }
         ensures cause { HasCause self.old.faults self.new.faults result }
+        ensures calm { OnOk result (IsCalm self.old.faults self.new.faults) }
         // The calls in the list fail, and others give as much as the piece has room for.
         ensures fails { IsErr result ↔ Contains self.old.failing self.old.calls }
         ensures fills { IfOk result (λ n. n ≡ min (length into.old) (length self.old.left)) }
-        // Each call is counted, up to the last value of the type, and the list stays.
+        // Each call that fails is counted and each call, both up to the last value of the type, and the list stays.
+        ensures faults { MatchResult result (λ _. self.new.faults ≡ self.old.faults)
+            (λ _. self.new.faults ≡ min (self.old.faults + 1) (2 ^ 64 - 1)) }
         ensures counted { self.new.calls ≡ min (self.old.calls + 1) (2 ^ 64 - 1) }
         ensures listed { self.new.failing ≡ self.old.failing }
     {

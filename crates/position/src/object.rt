@@ -1,13 +1,19 @@
 //! The fields of an object.
 
-ghost use Rattle.std.specs.Prelude.{◌≡◌, ◌≤◌, ◌≤ℤ◌, ◌&&◌, length, nat_le, IfOk, map, string_bytes};
-ghost use Rattle.std.specs.List.{list_all, filter_map};
+ghost use Rattle.std.specs.Prelude.{◌≡◌, ◌≤ℤ◌, ◌&&◌, length, nat_le, IfOk, bytes_eq, map, string_bytes};
+ghost use Rattle.std.specs.List.{list_all, list_any, filter_map};
 ghost use Rattle.std.specs.BTreeMap.{keys};
 ghost use Rattle.serde_json.specs.View.{view, items_view, members_view};
+ghost use Rattle.certificate.specs.declared.report.TheConstants.{ASK};
+ghost use Rattle.certificate.specs.Asks.{asked_kinds};
+ghost use Rattle.certificate.specs.Fields.{name_of, Fits, AllFit};
 ghost use Rattle.certificate.specs.Ranges.{IsByteList};
-ghost use Rattle.position.specs.Objects.{Gives, member_at, whole_at, between, natural, text_at, json_of, byte_in, is_whole, is_byte, bytes_in, bytes_at, is_known, known_at, items_at, members_at};
+ghost use Rattle.position.specs.Objects.{Gives, member_at, whole_at, between, text_at, json_of, byte_in, is_whole, is_byte, bytes_in, bytes_at, is_known, known_at, items_at, members_at, value_at, values_at, IsDefaultOf, asked_at, all_asked_at};
 
 use crate::{Field, InputError};
+use certificate::{
+    ASK, ASKED, Absent, AskRow, FIELDS, FieldKind, FieldRow, GameKind, Value as FieldValue,
+};
 use seq::Seq;
 use serde_json::{Category, Map, Value};
 use std::alloc::{AllocError, Global};
@@ -44,12 +50,7 @@ fn whole(field: Field, object: &Value) -> Result<i64, InputError>
 
 /// A whole number from `low` to `high`.
 #[tactic(auto, unfolding(crate::specs::Objects::between))]
-pub(crate) fn number_between(
-    field: Field,
-    low: i64,
-    high: i64,
-    object: &Value,
-) -> Result<i64, InputError>
+fn number_between(field: Field, low: i64, high: i64, object: &Value) -> Result<i64, InputError>
     ensures exact { Gives (λ z. z) result (between field low high (view object.now)) }
     ensures low { IfOk result (λ z. low ≤ℤ z) }
     ensures high { IfOk result (λ z. z ≤ℤ high) }
@@ -59,29 +60,6 @@ pub(crate) fn number_between(
         return Err(InputError::Range { field });
     }
     Ok(z)
-}
-
-/// A natural number from `low` to `high`.
-#[tactic(auto, unfolding(crate::specs::Objects::natural))]
-pub(crate) fn natural_number(
-    field: Field,
-    low: u64,
-    high: u64,
-    object: &Value,
-) -> Result<u64, InputError>
-    ensures exact { Gives (λ n. n) result (natural field low high (view object.now)) }
-    ensures low { IfOk result (λ n. low ≤ n) }
-    ensures high { IfOk result (λ n. n ≤ high) }
-{
-    let z = whole(field, object)?;
-    if z < 0 {
-        return Err(InputError::Range { field });
-    }
-    let n = z as u64;
-    if n < low || high < n {
-        return Err(InputError::Range { field });
-    }
-    Ok(n)
 }
 
 #[tactic(auto, unfolding(crate::specs::Objects::text_at))]
@@ -151,7 +129,7 @@ fn items(field: Field, object: &Value) -> Result<&Vec<Value>, InputError>
 
 /// At most `most` whole numbers from 0 to 255.
 #[tactic(auto, using(crate::proofs::ValueLemmas::list_of_items), unfolding(crate::specs::Objects::bytes_at))]
-pub(crate) fn byte_list(
+fn byte_list(
     alloc: Global,
     field: Field,
     most: usize,
@@ -164,16 +142,34 @@ pub(crate) fn byte_list(
     bytes_from(alloc, field, most, items)
 }
 
-fn is_name_of(fields: &[Field], name: &str) -> bool
-    ensures { result ≡ is_known fields.now name.now }
+fn is_of_game(rows: &[FieldRow], name: &str) -> bool
+    ensures { result ≡ list_any (λ row. bytes_eq (name_of row.0) name.now) rows.now }
 {
-    fields.iter().any(|field| field.name() == name)
+    rows.iter().any(|row| row.0.name() == name)
 }
 
-fn are_known(fields: &[Field], members: &Map<String, Value>) -> bool
-    ensures { result ≡ list_all (λ k. is_known fields.now (string_bytes k)) (keys members.now) }
+fn is_asked(rows: &[AskRow], name: &str) -> bool
+    ensures { result ≡ list_any (λ row. bytes_eq (name_of row.0) name.now) rows.now }
 {
-    members.keys().all(|name| is_name_of(fields, name.as_str()))
+    rows.iter().any(|row| row.0.name() == name)
+}
+
+fn is_known(game: GameKind, name: &str) -> bool
+    ensures { result ≡ is_known game name.now }
+{
+    if Field::Game.name() == name {
+        return true;
+    }
+    if is_of_game(game.fields(), name) {
+        return true;
+    }
+    is_asked(&ASK, name)
+}
+
+fn are_known(game: GameKind, members: &Map<String, Value>) -> bool
+    ensures { result ≡ list_all (λ k. is_known game (string_bytes k)) (keys members.now) }
+{
+    members.keys().all(|name| is_known(game, name.as_str()))
 }
 
 #[tactic(auto, unfolding(crate::specs::Objects::members_at))]
@@ -183,14 +179,95 @@ fn members(object: &Value) -> Result<&Map<String, Value>, InputError>
     object.as_object().ok_or(InputError::NotObject)
 }
 
-/// Refuses an object that has a name of another field.
+/// Refuses an object that has a name of no field of the game or of what is asked.
 #[tactic(auto, using(crate::proofs::ValueLemmas::known_members), unfolding(crate::specs::Objects::known_at))]
-pub(crate) fn only_known(fields: &[Field], object: &Value) -> Result<(), InputError>
-    ensures { Gives (λ u. u) result (known_at fields.now (view object.now)) }
+pub(crate) fn only_known(game: GameKind, object: &Value) -> Result<(), InputError>
+    ensures { Gives (λ u. u) result (known_at game (view object.now)) }
 {
     let members = members(object)?;
-    if !are_known(fields, members) {
+    if !are_known(game, members) {
         return Err(InputError::Unknown);
     }
     Ok(())
+}
+
+#[tactic(auto, unfolding(crate::specs::Objects::value_at))]
+fn value(
+    alloc: Global,
+    field: Field,
+    kind: FieldKind,
+    object: &Value,
+) -> Result<FieldValue, InputError>
+    ensures exact { Gives (λ v. v) result (value_at field kind (view object.now)) }
+    ensures fits { IfOk result (Fits kind) }
+{
+    match kind {
+        FieldKind::Number(low, high) => {
+            let z = number_between(field, low, high, object)?;
+            Ok(FieldValue::Number(z))
+        }
+        FieldKind::List(most) => {
+            let ns = byte_list(alloc, field, most, object)?;
+            Ok(FieldValue::List(ns))
+        }
+        FieldKind::Word(choices) => {
+            let text = text(field, object)?;
+            let word = choices
+                .word(text.as_bytes())
+                .ok_or(InputError::Range { field })?;
+            Ok(FieldValue::Word(word))
+        }
+    }
+}
+
+/// The values of the fields of a game.
+#[tactic(auto, unfolding(crate::specs::Objects::values_at))]
+pub(crate) fn values(
+    alloc: Global,
+    rows: &[FieldRow; FIELDS],
+    object: &Value,
+) -> Result<[FieldValue; FIELDS], InputError>
+    ensures exact { Gives (λ vs. vs) result (values_at rows.now (view object.now)) }
+    ensures fits { IfOk result (AllFit (map (λ row. row.1) rows.now)) }
+{
+    let [a, b, c, d, e] = *rows;
+    let a = value(alloc, a.0, a.1, object)?;
+    let b = value(alloc, b.0, b.1, object)?;
+    let c = value(alloc, c.0, c.1, object)?;
+    let d = value(alloc, d.0, d.1, object)?;
+    let e = value(alloc, e.0, e.1, object)?;
+    Ok([a, b, c, d, e])
+}
+
+/// A field of what is asked, or its default where it is absent and has one.
+#[tactic(auto, unfolding(crate::specs::Objects::asked_at))]
+fn asked(alloc: Global, row: AskRow, object: &Value) -> Result<FieldValue, InputError>
+    requires { IsDefaultOf row.1 row.2 }
+    ensures exact { Gives (λ v. v) result (asked_at row (view object.now)) }
+    ensures fits { IfOk result (Fits row.1) }
+{
+    let (field, kind, absent) = row;
+    let is_given = object.get(field.name()).is_some();
+    match absent {
+        Absent::Number(z) if !is_given => Ok(FieldValue::Number(z)),
+        Absent::Word(word) if !is_given => Ok(FieldValue::Word(word)),
+        _ => value(alloc, field, kind, object),
+    }
+}
+
+/// The values of the fields of what is asked.
+#[tactic(auto, unfolding(crate::specs::Objects::all_asked_at))]
+pub(crate) fn all_asked(alloc: Global, object: &Value) -> Result<[FieldValue; ASKED], InputError>
+    ensures exact { Gives (λ vs. vs) result (all_asked_at ASK (view object.now)) }
+    ensures fits { IfOk result (AllFit asked_kinds) }
+{
+    let [a, b, c, d, e, f, g] = ASK;
+    let a = asked(alloc, a, object)?;
+    let b = asked(alloc, b, object)?;
+    let c = asked(alloc, c, object)?;
+    let d = asked(alloc, d, object)?;
+    let e = asked(alloc, e, object)?;
+    let f = asked(alloc, f, object)?;
+    let g = asked(alloc, g, object)?;
+    Ok([a, b, c, d, e, f, g])
 }

@@ -1,8 +1,8 @@
 //! A source and a sink that never fail.
 
-ghost use Rattle.std.specs.Prelude.{◌≡◌, ◌<◌, ◌≤◌, ◌+◌, ◌-◌, ◌^◌, min, length, IfOk, Ok, Some, None};
+ghost use Rattle.std.specs.Prelude.{◌≡◌, ◌<◌, ◌≤◌, ◌+◌, ◌-◌, ◌^◌, min, length, IfOk, OnOk, Ok, Some, None};
 ghost use Rattle.std.specs.Io.KnownBytes.{WriteAppends};
-ghost use Rattle.position.specs.Causes.{HasCause};
+ghost use Rattle.position.specs.Causes.{HasCause, IsCalm};
 
 use crate::pieces::copy_from;
 use crate::{Failed, Sink, Source};
@@ -84,6 +84,7 @@ impl Sink for PlainSink {
         ensures bound { IfOk result (λ n. n ≤ length piece.now) }
         ensures bytes { WriteAppends None None result piece.now }
         ensures cause { HasCause 0 0 result }
+        ensures calm { OnOk result (IsCalm 0 0) }
     {
         self.taken = self.taken.saturating_add(piece.len() as u64);
         Ok(piece.len())

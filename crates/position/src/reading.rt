@@ -6,9 +6,8 @@ ghost use Rattle.certificate.specs.Ranges.{IsAskInRange, IsPositionInRange};
 ghost use Rattle.position.specs.Games.{IsGameOf};
 ghost use Rattle.position.specs.Position.{Gives, game_at, ask_at, object_at, task_of, position_of};
 
-use crate::fields::fields;
 use crate::games::position_text;
-use crate::object::{json, natural_number, number_between, only_known, text};
+use crate::object::{all_asked, json, only_known, text};
 use crate::{AnyGame, Field, InputError, build};
 use certificate::{Ask, GameKind, PositionText};
 use serde_json::Value;
@@ -34,24 +33,12 @@ fn game(object: &Value) -> Result<GameKind, InputError>
 }
 
 #[tactic(auto, unfolding(crate::specs::Position::ask_at))]
-fn ask(object: &Value) -> Result<Ask, InputError>
+fn ask(alloc: Global, object: &Value) -> Result<Ask, InputError>
     ensures exact { Gives (λ a. a) result (ask_at (view object.now)) }
     ensures in_range { IfOk result IsAskInRange }
 {
-    let gap = number_between(Field::Gap, 0, 8_000_000_000, object)?;
-    let weight = natural_number(Field::Weight, 8192, 1_048_576, object)?;
-    let turns = natural_number(Field::Turns, 0, 1_099_511_627_776, object)?;
-    let visits = natural_number(Field::Visits, 0, 1_099_511_627_776, object)?;
-    let rows = natural_number(Field::Rows, 1, 1_048_576, object)?;
-    let workers = natural_number(Field::Workers, 1, 16, object)?;
-    Ok(Ask {
-        gap,
-        weight: weight as u32,
-        turns,
-        visits,
-        rows: rows as u32,
-        workers: workers as u32,
-    })
+    let values = all_asked(alloc, object)?;
+    Ok(Ask::with_values(values))
 }
 
 /// The object that the bytes are, of which there are not too many.
@@ -75,9 +62,9 @@ fn task_in(alloc: Global, object: &Value) -> Result<Task, InputError>
     ensures ask { IfOk result (λ t. IsAskInRange t.ask) }
 {
     let kind = game(object)?;
-    only_known(fields(kind), object)?;
+    only_known(kind, object)?;
     let text = position_text(alloc, kind, object)?;
-    let ask = ask(object)?;
+    let ask = ask(alloc, object)?;
     let game = build(&text)?;
     Ok(Task { text, game, ask })
 }

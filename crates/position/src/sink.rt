@@ -2,7 +2,7 @@
 
 ghost use Rattle.std.specs.Prelude.{◌<◌, ◌≤◌, length, IfOk, OnOk, OnErr};
 ghost use Rattle.std.specs.Io.KnownBytes.{WriteAppends, Appends};
-ghost use Rattle.position.specs.Causes.{HasCause};
+ghost use Rattle.position.specs.Causes.{HasCause, IsCalm};
 ghost use Rattle.position.specs.Taken.{SinkState, AppendsFront};
 
 use crate::Failed;
@@ -17,7 +17,8 @@ pub trait Sink {
         ensures some { IfOk result (λ n. 0 < n) }
         ensures bound { IfOk result (λ n. n ≤ length piece.now) }
         ensures bytes { WriteAppends (state self.old).written (state self.new).written result piece.now }
-        ensures cause { HasCause (state self.old).faults (state self.new).faults result };
+        ensures cause { HasCause (state self.old).faults (state self.new).faults result }
+        ensures calm { OnOk result (IsCalm (state self.old).faults (state self.new).faults) };
 }
 
 /// Writes all of the bytes.
@@ -26,6 +27,7 @@ pub fn write_all<K: Sink>(sink: &mut K, bytes: &[u8]) -> Result<(), Failed>
     // A proper prefix was written.
     ensures err { OnErr result (AppendsFront (K.state sink.old).written (K.state sink.new).written bytes.now) }
     ensures cause { HasCause (K.state sink.old).faults (K.state sink.new).faults result }
+    ensures calm { OnOk result (IsCalm (K.state sink.old).faults (K.state sink.new).faults) }
 {
     let mut at = 0;
     while at < bytes.len() {

@@ -1,9 +1,9 @@
 //! A source of bytes.
 
-ghost use Rattle.std.specs.Prelude.{◌≡◌, ◌≢◌, ◌<◌, ◌≤◌, ◌+◌, length, IfOk};
+ghost use Rattle.std.specs.Prelude.{◌≡◌, ◌≢◌, ◌<◌, ◌≤◌, ◌+◌, length, IfOk, OnOk};
 ghost use Rattle.std.specs.Io.KnownBytes.{ReadConsumes, Consumes, IsAtEnd};
-ghost use Rattle.position.specs.Causes.{Rose, HasCause};
-ghost use Rattle.position.specs.Taken.{SourceState, Takes, TakesAtMost};
+ghost use Rattle.position.specs.Causes.{Rose, HasCause, IsCalm};
+ghost use Rattle.position.specs.Taken.{SourceState, Takes, ConsumesAtMost};
 ghost use Rattle.position.specs.declared.source.ReadError.TheVariants.{NoMemory};
 
 use std::alloc::{AllocError, AllocFailed, Global};
@@ -22,7 +22,8 @@ pub trait Source {
         requires { 0 < length into.old }
         ensures bound { IfOk result (λ n. n ≤ length into.new) }
         ensures bytes { ReadConsumes (state self.old).left (state self.new).left result into.new }
-        ensures cause { HasCause (state self.old).faults (state self.new).faults result };
+        ensures cause { HasCause (state self.old).faults (state self.new).faults result }
+        ensures calm { OnOk result (IsCalm (state self.old).faults (state self.new).faults) };
 }
 
 /// Why a source was not read to its end.
@@ -76,9 +77,9 @@ pub fn read_all<S: Source>(alloc: Global, source: &mut S, limit: u64) -> Result<
     ensures too_long { result ≡ Err ReadError.TooLong
         → Takes (S.state source.old).left (S.state source.new).left (limit + 1) }
     ensures others { result ≢ Err ReadError.TooLong
-        → TakesAtMost (S.state source.old).left (S.state source.new).left limit }
+        → ConsumesAtMost (S.state source.old).left (S.state source.new).left limit }
     ensures failed { result ≡ Err ReadError.Failed → Rose (S.state source.old).faults (S.state source.new).faults }
-    ensures later { (S.state source.old).faults ≤ (S.state source.new).faults }
+    ensures calm { result ≢ Err ReadError.Failed → IsCalm (S.state source.old).faults (S.state source.new).faults }
 {
     let mut bytes = Vec::new(alloc);
     let mut piece = [0u8; PIECE];

@@ -5,7 +5,7 @@ use Rattle.plan_book.specs.Serial.{serial_bound}
 use Rattle.pursuit.specs.declared.PursuitError.TheVariants.{NodesRange, EdgeOdd, EdgeRange, EdgeLoop, PlaceRange, RoundsRange}
 use Rattle.pursuit.specs.declared.State.{State}
 use Rattle.pursuit.specs.Position.{first_fault}
-use Rattle.pursuit.specs.Rules.{Graph, after_moves, first_of, game_from, graph_from, graph_of_edges, key_of, payoff_of, rank_of, reach, ways, width_of}
+use Rattle.pursuit.specs.Rules.{Graph, after_round, first_of, game_from, graph_from, graph_of_edges, pursuit_key, pursuit_payoff, pursuit_rank, reach, ways, width_of}
 
 abbrev path : Graph
 path = graph_of_edges 3 (0 ∷ 1 ∷ 1 ∷ 2 ∷ [])
@@ -18,18 +18,18 @@ two_rounds = first_of 0 2 2
 
 -- One has come to the middle, Two has stayed
 abbrev in_the_middle : State
-in_the_middle = after_moves two_rounds 1 2
+in_the_middle = after_round two_rounds 1 2
 
-key_one_round : key_of one_round ≡ 1026
+key_one_round : pursuit_key one_round ≡ 1026
 key_one_round = refl
 
-key_two_rounds : key_of two_rounds ≡ 2050
+key_two_rounds : pursuit_key two_rounds ≡ 2050
 key_two_rounds = refl
 
-key_in_the_middle : key_of in_the_middle ≡ 1058
+key_in_the_middle : pursuit_key in_the_middle ≡ 1058
 key_in_the_middle = refl
 
-key_caught : key_of (after_moves in_the_middle 2 2) ≡ 32834
+key_caught : pursuit_key (after_round in_the_middle 2 2) ≡ 32834
 key_caught = refl
 
 width_of_path : width_of path ≡ 3
@@ -41,7 +41,7 @@ from_an_end = refl
 from_the_middle : ways path One in_the_middle ≡ 0 ∷ 1 ∷ 2 ∷ []
 from_the_middle = refl
 
-nowhere_without_rounds : ways path Two (after_moves one_round 0 2) ≡ []
+nowhere_without_rounds : ways path Two (after_round one_round 0 2) ≡ []
 nowhere_without_rounds = refl
 
 -- the sets of neighbours give the same list
@@ -51,16 +51,16 @@ sets_of_path = refl
 edge_twice : reach (graph_of_edges 3 (1 ∷ 0 ∷ 0 ∷ 1 ∷ 1 ∷ 2 ∷ [])) 1 ≡ 0 ∷ 1 ∷ 2 ∷ []
 edge_twice = refl
 
-places_changed : after_moves in_the_middle 2 1 ≡ record { one = 2; two = 1; rounds = 0; caught = true }
+places_changed : after_round in_the_middle 2 1 ≡ record { one = 2; two = 1; rounds = 0; caught = true }
 places_changed = refl
 
-caught_in_the_last_round : payoff_of (after_moves in_the_middle 2 1) ≡ pos 1
+caught_in_the_last_round : pursuit_payoff (after_round in_the_middle 2 1) ≡ pos 1
 caught_in_the_last_round = refl
 
-escaped : payoff_of (after_moves one_round 1 2) ≡ neg_ℤ (pos 1)
+escaped : pursuit_payoff (after_round one_round 1 2) ≡ neg_ℤ (pos 1)
 escaped = refl
 
-caught_at_once : rank_of (first_of 1 1 5) ≡ 0
+caught_at_once : pursuit_rank (first_of 1 1 5) ≡ 0
 caught_at_once = refl
 
 -- one round is too few, and two are enough

@@ -109,7 +109,8 @@ gathered_more edges count sets arcs more l rows before one two = record {
       let back = eqb (second_node edges count) a && eqb (first_node edges count) b in
       let n = length edges / 2 in
       let last = rw (in_range n count l) at (list_any_more (joins edges a b) (edge_numbers edges) count 0 (omega (arith, length-range_with_len 0 n))) in
-      two a b ∙ ap (λ (x : Bool). x || back) (one a b ∙ ap (λ (x : Bool). x || there) (before.joined a b)) ∙ or_assoc (list_any (joins edges a b) (take count (edge_numbers edges))) there back ∙ sym last;
+      two a b ∙ ap (λ (x : Bool). x || back) (one a b ∙ ap (λ (x : Bool). x || there) (before.joined a b))
+      ∙ or_assoc (list_any (joins edges a b) (take count (edge_numbers edges))) there back ∙ sym last;
 }
 
 pub gathered_all : (edges : List ℕ) (count : ℕ) (sets : List ℕ) → length edges / 2 ≤ count → IsGathered edges count sets → (a b : ℕ) → is_joined_in sets a b ≡ is_joined edges a b

@@ -11,8 +11,8 @@ use Rattle.plan_book.specs.Steps.{cell}
 use Rattle.plan_book.proofs.StepLemmas.{cell_mono, rounded_tightest}
 use Rattle.pursuit.specs.declared.Setting.{Setting}
 use Rattle.pursuit.specs.declared.State.{State}
-use Rattle.pursuit.specs.Laws.{goes_on, open_ways, rank_below, rank_now}
-use Rattle.pursuit.specs.Rules.{Graph, after_moves, first_state, game_from, graph_from, graph_of, node_of, pursuit_game, rank_of, reach, ways, HasMoreRounds, IsLongerChase}
+use Rattle.pursuit.specs.Laws.{chase_not_over, open_ways, rank_below, rank_now}
+use Rattle.pursuit.specs.Rules.{Graph, after_round, pursuit_root, game_from, graph_from, graph_of, node_of, pursuit_game, pursuit_rank, reach, ways, HasMoreRounds, IsLongerChase}
 
 -- ---- the best of numbers
 better_mono : (side : Side) (x y z w : ℤ) → x ≤ℤ z → y ≤ℤ w → better side x y ≤ℤ better side z w
@@ -43,14 +43,14 @@ rank_more : (caught : Bool) (few many : ℕ) → few ≤ many → cond caught 0 
 rank_more true few many h = omega arith
 rank_more false few many h = h
 
-more_rank : (s t : State) → HasMoreRounds s t → rank_of s ≤ rank_of t
-more_rank s t more = subst (λ (b : Bool). rank_of s ≤ cond b 0 t.rounds) more.caught (rank_more s.caught s.rounds t.rounds more.rounds)
+more_rank : (s t : State) → HasMoreRounds s t → pursuit_rank s ≤ pursuit_rank t
+more_rank s t more = subst (λ (b : Bool). pursuit_rank s ≤ cond b 0 t.rounds) more.caught (rank_more s.caught s.rounds t.rounds more.rounds)
 
 same_node : (side : Side) (s t : State) → HasMoreRounds s t → node_of side s ≡ node_of side t
 same_node One s t more = more.one
 same_node Two s t more = more.two
 
-more_after : (s t : State) (one two : ℕ) → HasMoreRounds s t → HasMoreRounds (after_moves s one two) (after_moves t one two)
+more_after : (s t : State) (one two : ℕ) → HasMoreRounds s t → HasMoreRounds (after_round s one two) (after_round t one two)
 more_after s t one two more = record {
   one = refl;
   two = refl;
@@ -68,61 +68,61 @@ module _ (r : Graph) where
   stepped first turns s one two =
       best_upto One one (λ own. best_upto Two two (λ reply. cell (game_from r first) One s (λ a b d. within first turns (child_of (game_from r first) One s a b d)) own reply))
 
-  within_end : (first : State) (turns : ℕ) (s : State) → rank_of s ≡ 0 → within first turns s ≡ end_bound (game_from r first) s
+  within_end : (first : State) (turns : ℕ) (s : State) → pursuit_rank s ≡ 0 → within first turns s ≡ end_bound (game_from r first) s
   within_end first zero s h = refl
-  within_end first (suc turns) s h = rw (eq-eqb (rank_of s) 0 h) refl
+  within_end first (suc turns) s h = rw (eq-eqb (pursuit_rank s) 0 h) refl
 
-  within_step : (first : State) (turns : ℕ) (s : State) → 1 ≤ rank_of s → within first (suc turns) s ≡ stepped first turns s (length (ways r One s) - 1) (length (ways r Two s) - 1)
-  within_step first turns s h = rw (ne_eqb (rank_of s) 0 (λ none. absurd (omega arith))) refl
+  within_step : (first : State) (turns : ℕ) (s : State) → 1 ≤ pursuit_rank s → within first (suc turns) s ≡ stepped first turns s (length (ways r One s) - 1) (length (ways r Two s) - 1)
+  within_step first turns s h = rw (ne_eqb (pursuit_rank s) 0 (λ none. absurd (omega arith))) refl
 
   cell_least : (first s : State) (numbers : ℕ → ℕ → ℕ → ℤ) (own reply : ℕ) → least ≤ℤ numbers own reply 0 → least ≤ℤ cell (game_from r first) One s numbers own reply
   cell_least first s numbers own reply h = rounded_tightest One _ least (omega (arith, ints))
 
   within_least : (first : State) (turns : ℕ) (s : State) → least ≤ℤ within first turns s
   within_least first zero s = end_least s.caught
-  within_least first (suc turns) s = elim (cases_eq (rank_of s) 0) [
+  within_least first (suc turns) s = elim (cases_eq (pursuit_rank s) 0) [
     | inl stop ↦ rw (within_end first (suc turns) s stop) (end_least s.caught)
     | inr on ↦ rw (within_step first turns s (omega arith))
         (upto_least One (length (ways r One s) - 1) _ least (λ own. upto_least Two (length (ways r Two s) - 1) _ least (λ reply.
         cell_least first s (λ a b d. within first turns (child_of (game_from r first) One s a b d)) own reply (within_least first turns _))))
   ]
 
-  same_ways : (side : Side) (s t : State) → HasMoreRounds s t → 1 ≤ rank_of s → ways r side s ≡ ways r side t
+  same_ways : (side : Side) (s t : State) → HasMoreRounds s t → 1 ≤ pursuit_rank s → ways r side s ≡ ways r side t
   same_ways side s t more h =
-      open_ways r side s (goes_on s.caught s.rounds h) ∙ ap (reach r) (same_node side s t more)
-      ∙ sym (open_ways r side t (goes_on t.caught t.rounds (omega (arith, more_rank s t more))))
+      open_ways r side s (chase_not_over s.caught s.rounds h) ∙ ap (reach r) (same_node side s t more)
+      ∙ sym (open_ways r side t (chase_not_over t.caught t.rounds (omega (arith, more_rank s t more))))
 
-  more_child : (first last s t : State) (own reply draw : ℕ) → HasMoreRounds s t → 1 ≤ rank_of s
+  more_child : (first last s t : State) (own reply draw : ℕ) → HasMoreRounds s t → 1 ≤ pursuit_rank s
       → HasMoreRounds (child_of (game_from r first) One s own reply draw) (child_of (game_from r last) One t own reply draw)
   more_child first last s t own reply draw more h =
-      let goes : List ℕ → List ℕ → State = λ xs ys. after_moves t (get_or xs own 0) (get_or ys reply 0) in
+      let goes : List ℕ → List ℕ → State = λ xs ys. after_round t (get_or xs own 0) (get_or ys reply 0) in
       let e : goes (ways r One s) (ways r Two s) ≡ goes (ways r One t) (ways r Two t) =
       ap (λ (xs : List ℕ). goes xs (ways r Two s)) (same_ways One s t more h) ∙ ap (goes (ways r One t)) (same_ways Two s t more h) in
       subst (HasMoreRounds (child_of (game_from r first) One s own reply draw)) e (more_after s t (get_or (ways r One s) own 0) (get_or (ways r Two s) reply 0) more)
 
   -- at an end, or where the other has no rounds left
-  more_end : (first last : State) (n k : ℕ) (s t : State) → HasMoreRounds s t → rank_of s ≡ 0 → within first n s ≤ℤ within last k t
+  more_end : (first last : State) (n k : ℕ) (s t : State) → HasMoreRounds s t → pursuit_rank s ≡ 0 → within first n s ≤ℤ within last k t
   more_end first last n k s t more h = elim (cases_Bool s.caught) [
     | inl caught ↦
         let there : t.caught ≡ true = sym more.caught ∙ caught in
-        let none : rank_of t ≡ 0 = rw there refl in
+        let none : pursuit_rank t ≡ 0 = rw there refl in
         rw (within_end first n s h, within_end last k t none, caught, there) (int_le_refl _)
     | inr free ↦ rw (within_end first n s h, free) (within_least last k t)
   ]
 
-  child_rank : (first s : State) (own reply draw n : ℕ) → 1 ≤ rank_of s → rank_of s ≤ suc n → rank_of (child_of (game_from r first) One s own reply draw) ≤ n
+  child_rank : (first s : State) (own reply draw n : ℕ) → 1 ≤ pursuit_rank s → pursuit_rank s ≤ suc n → pursuit_rank (child_of (game_from r first) One s own reply draw) ≤ n
   child_rank first s own reply draw n h l =
       let next : State = child_of (game_from r first) One s own reply draw in
-      rank_below next.caught next.rounds n (omega (arith, (rank_now s.caught s.rounds (goes_on s.caught s.rounds h)).0))
+      rank_below next.caught next.rounds n (omega (arith, (rank_now s.caught s.rounds (chase_not_over s.caught s.rounds h)).0))
 
-  pub more_within : (first last : State) (n k : ℕ) (s t : State) → HasMoreRounds s t → rank_of s ≤ n → rank_of t ≤ k → within first n s ≤ℤ within last k t
+  pub more_within : (first last : State) (n k : ℕ) (s t : State) → HasMoreRounds s t → pursuit_rank s ≤ n → pursuit_rank t ≤ k → within first n s ≤ℤ within last k t
   more_within first last zero k s t more p q = more_end first last zero k s t more (omega arith)
   more_within first last (suc n) zero s t more p q = more_end first last (suc n) zero s t more (omega (arith, more_rank s t more))
-  more_within first last (suc n) (suc k) s t more p q = elim (cases_eq (rank_of s) 0) [
+  more_within first last (suc n) (suc k) s t more p q = elim (cases_eq (pursuit_rank s) 0) [
     | inl stop ↦ more_end first last (suc n) (suc k) s t more stop
     | inr on ↦
-        let some : 1 ≤ rank_of s = omega arith in
-        let also : 1 ≤ rank_of t = omega (arith, more_rank s t more) in
+        let some : 1 ≤ pursuit_rank s = omega arith in
+        let also : 1 ≤ pursuit_rank t = omega (arith, more_rank s t more) in
         let one = length (ways r One s) - 1 in
         let two = length (ways r Two s) - 1 in
         let counts : stepped last k t (length (ways r One t) - 1) (length (ways r Two t) - 1) ≡ stepped last k t one two =
@@ -136,11 +136,11 @@ module _ (r : Graph) where
   ]
 
   pub more_bound : (first last s t : State) → HasMoreRounds s t → serial_bound (game_from r first) One s ≤ℤ serial_bound (game_from r last) One t
-  more_bound first last s t more = more_within first last (rank_of s) (rank_of t) s t more (omega arith) (omega arith)
+  more_bound first last s t more = more_within first last (pursuit_rank s) (pursuit_rank t) s t more (omega arith) (omega arith)
 
-pub longer_bound : (few many : Setting) → IsLongerChase few many → serial_bound (pursuit_game few) One (first_state few) ≤ℤ serial_bound (pursuit_game many) One (first_state many)
+pub longer_bound : (few many : Setting) → IsLongerChase few many → serial_bound (pursuit_game few) One (pursuit_root few) ≤ℤ serial_bound (pursuit_game many) One (pursuit_root many)
 longer_bound few many longer =
     let graph : graph_of few ≡ graph_of many = ap (λ (n : ℕ). graph_from n few.neighbours) longer.nodes ∙ ap (graph_from many.nodes) longer.neighbours in
-    let more : HasMoreRounds (first_state few) (first_state many) = record { one = longer.one; two = longer.two; caught = rw (longer.one, longer.two) refl; rounds = longer.rounds } in
-    subst (λ (r : Graph). serial_bound (pursuit_game few) One (first_state few) ≤ℤ serial_bound (game_from r (first_state many)) One (first_state many)) graph
-    (more_bound (graph_of few) (first_state few) (first_state many) (first_state few) (first_state many) more)
+    let more : HasMoreRounds (pursuit_root few) (pursuit_root many) = record { one = longer.one; two = longer.two; caught = rw (longer.one, longer.two) refl; rounds = longer.rounds } in
+    subst (λ (r : Graph). serial_bound (pursuit_game few) One (pursuit_root few) ≤ℤ serial_bound (game_from r (pursuit_root many)) One (pursuit_root many)) graph
+    (more_bound (graph_of few) (pursuit_root few) (pursuit_root many) (pursuit_root few) (pursuit_root many) more)

@@ -17,7 +17,7 @@ use Rattle.pursuit.specs.declared.State.{State}
 use Rattle.state_key.specs.Sets.{is_in, with_number, members}
 use Rattle.state_key.proofs.SetLemmas.{bit_clear, filter_agrees, in_with, members_count, ones_with, with_below}
 use Rattle.pursuit.specs.Position.{IsPosition}
-use Rattle.pursuit.specs.Rules.{Graph, degree, greatest_below, width_of, reach, node_of, is_over, ways, rank_of, key_of, graph_from, graph_of, pursuit_game}
+use Rattle.pursuit.specs.Rules.{Graph, degree, greatest_below, width_of, reach, node_of, is_chase_over, ways, pursuit_rank, pursuit_key, graph_from, graph_of, pursuit_game}
 
 -- ---- sets and lists of nodes
 -- the nodes of a set that passes a test, below the number of nodes
@@ -68,9 +68,9 @@ over_at_end : (caught : Bool) (rounds : ℕ) → cond caught 0 rounds ≡ 0 → 
 over_at_end true rounds h = refl
 over_at_end false rounds h = eq-eqb rounds 0 h
 
-pub goes_on : (caught : Bool) (rounds : ℕ) → 1 ≤ cond caught 0 rounds → (caught || eqb rounds 0) ≡ false
-goes_on true rounds h = absurd (omega arith)
-goes_on false rounds h = ne_eqb rounds 0 (λ none. absurd (omega arith))
+pub chase_not_over : (caught : Bool) (rounds : ℕ) → 1 ≤ cond caught 0 rounds → (caught || eqb rounds 0) ≡ false
+chase_not_over true rounds h = absurd (omega arith)
+chase_not_over false rounds h = ne_eqb rounds 0 (λ none. absurd (omega arith))
 
 pub rank_now : (caught : Bool) (rounds : ℕ) → (caught || eqb rounds 0) ≡ false → (cond caught 0 rounds ≡ rounds) × (1 ≤ rounds)
 rank_now true rounds h = absurd (cc)
@@ -86,21 +86,21 @@ payoff_small false = (omega (arith, ints), omega (arith, ints))
 
 -- ---- where the game goes on
 module _ (r : Graph) (side : Side) (s : State) where
-  pub open_ways : is_over s ≡ false → ways r side s ≡ reach r (node_of side s)
+  pub open_ways : is_chase_over s ≡ false → ways r side s ≡ reach r (node_of side s)
   open_ways h = ap (λ (b : Bool). cond b [] (reach r (node_of side s))) h
 
-  pub turn_open : (i : ℕ) → i < length (ways r side s) → is_over s ≡ false
-  turn_open i h = ways_open (is_over s) (reach r (node_of side s)) i h
+  pub chase_open : (i : ℕ) → i < length (ways r side s) → is_chase_over s ≡ false
+  chase_open i h = ways_open (is_chase_over s) (reach r (node_of side s)) i h
 
-  pub open_place : (i : ℕ) → i < length (ways r side s) → i < length (reach r (node_of side s))
-  open_place i h = rw (open_ways (turn_open i h)) at h
+  pub reach_place : (i : ℕ) → i < length (ways r side s) → i < length (reach r (node_of side s))
+  reach_place i h = rw (open_ways (chase_open i h)) at h
 
-  pub way_is : (i : ℕ) → i < length (ways r side s) → get_or (ways r side s) i 0 ≡ get_or (reach r (node_of side s)) i 0
-  way_is i h = ap (λ (xs : List ℕ). get_or xs i 0) (open_ways (turn_open i h))
+  pub reach_at : (i : ℕ) → i < length (ways r side s) → get_or (ways r side s) i 0 ≡ get_or (reach r (node_of side s)) i 0
+  reach_at i h = ap (λ (xs : List ℕ). get_or xs i 0) (open_ways (chase_open i h))
 
 -- ---- states
 -- what holds of each reachable state
-pub record IsSound (g : Setting) (s : State) : Type 0 where
+pub record IsPursuitSound (g : Setting) (s : State) : Type 0 where
   pub one_below : s.one < g.nodes
   pub two_below : s.two < g.nodes
   pub rounds_high : s.rounds ≤ g.rounds
@@ -122,7 +122,7 @@ same_state : (s t : State) → s.one ≡ t.one → s.two ≡ t.two → s.rounds 
 same_state s t p q r u = λ i. record { one = p i; two = q i; rounds = r i; caught = u i }
 
 module _ (g : Setting) (p : IsPosition g) where
-  pub node_below : (side : Side) (s : State) → IsSound g s → node_of side s < g.nodes
+  pub node_below : (side : Side) (s : State) → IsPursuitSound g s → node_of side s < g.nodes
   node_below One s here = here.one_below
   node_below Two s here = here.two_below
 
@@ -135,7 +135,7 @@ module _ (g : Setting) (p : IsPosition g) where
       sym (ap length (reach_listed g.nodes g.neighbours node)) ∙ members_count g.nodes 0 (with_number (get_or g.neighbours node 0) node) (set_small node h)
       ∙ ones_with (get_or g.neighbours node 0) node (bit_clear (get_or g.neighbours node 0) node (p.no_loop node)) ∙ ap (λ (n : ℕ). n + 1) (sym (degree_is g.nodes g.neighbours node (p.within node)))
 
-  few_ways : (side : Side) (s : State) → IsSound g s → length (reach (graph_of g) (node_of side s)) ≤ width_of (graph_of g)
+  few_ways : (side : Side) (s : State) → IsPursuitSound g s → length (reach (graph_of g) (node_of side s)) ≤ width_of (graph_of g)
   few_ways side s here =
       let node = node_of side s in
       let below = node_below side s here in
@@ -145,36 +145,43 @@ module _ (g : Setting) (p : IsPosition g) where
   width_high =
       let each : (node : ℕ) → node < g.nodes → degree (graph_of g) node ≤ 31 = λ node h.
       let most = ones-le g.nodes (with_number (get_or g.neighbours node 0) node) (set_small node h) in
-      omega (arith, ones_with (get_or g.neighbours node 0) node (bit_clear (get_or g.neighbours node 0) node (p.no_loop node)), degree_is g.nodes g.neighbours node (p.within node), most, p.nodes_high) in
+      omega (
+        arith,
+        ones_with (get_or g.neighbours node 0) node
+            (bit_clear (get_or g.neighbours node 0) node (p.no_loop node)),
+        degree_is g.nodes g.neighbours node (p.within node),
+        most,
+        p.nodes_high,
+      ) in
       omega (arith, greatest_high g.nodes 31 (degree (graph_of g)) each)
 
-  sound_root : IsSound g (pursuit_game g).root
+  sound_root : IsPursuitSound g (pursuit_game g).root
   sound_root = record { one_below = p.one_below; two_below = p.two_below; rounds_high = omega arith }
 
-  pub sound_turn : (s : State) (t : Turn) → IsSound g s → IsTurn (pursuit_game g) s t → IsSound g (after_turn (pursuit_game g) s t)
-  sound_turn s t here turn = record {
-    one_below = rw (way_is (graph_of g) One s t.one turn.one_below) (in_range (graph_of g) s.one t.one (open_place (graph_of g) One s t.one turn.one_below));
-    two_below = rw (way_is (graph_of g) Two s t.two turn.two_below) (in_range (graph_of g) s.two t.two (open_place (graph_of g) Two s t.two turn.two_below));
+  pub pursuit_sound_turn : (s : State) (t : Turn) → IsPursuitSound g s → IsTurn (pursuit_game g) s t → IsPursuitSound g (after_turn (pursuit_game g) s t)
+  pursuit_sound_turn s t here turn = record {
+    one_below = rw (reach_at (graph_of g) One s t.one turn.one_below) (in_range (graph_of g) s.one t.one (reach_place (graph_of g) One s t.one turn.one_below));
+    two_below = rw (reach_at (graph_of g) Two s t.two turn.two_below) (in_range (graph_of g) s.two t.two (reach_place (graph_of g) Two s t.two turn.two_below));
     rounds_high = omega (arith, here.rounds_high);
   }
 
-  pub sound : (s : State) → Reachable (pursuit_game g) s → IsSound g s
-  sound = reachable_induction (pursuit_game g) (IsSound g) sound_root (λ s t _ here turn. sound_turn s t here turn)
+  pub pursuit_sound : (s : State) → Reachable (pursuit_game g) s → IsPursuitSound g s
+  pursuit_sound = reachable_induction (pursuit_game g) (IsPursuitSound g) sound_root (λ s t _ here turn. pursuit_sound_turn s t here turn)
 
-  rank_falls : (s : State) (t : Turn) → IsTurn (pursuit_game g) s t → rank_of (after_turn (pursuit_game g) s t) < rank_of s
+  rank_falls : (s : State) (t : Turn) → IsTurn (pursuit_game g) s t → pursuit_rank (after_turn (pursuit_game g) s t) < pursuit_rank s
   rank_falls s t turn =
-      let now = rank_now s.caught s.rounds (turn_open (graph_of g) One s t.one turn.one_below) in
+      let now = rank_now s.caught s.rounds (chase_open (graph_of g) One s t.one turn.one_below) in
       let next : State = after_turn (pursuit_game g) s t in
       omega (arith, now.0, now.1, rank_below next.caught next.rounds (s.rounds - 1) (omega arith))
 
-  end_moves : (side : Side) (s : State) → rank_of s ≡ 0 → length (ways (graph_of g) side s) ≡ 0
+  end_moves : (side : Side) (s : State) → pursuit_rank s ≡ 0 → length (ways (graph_of g) side s) ≡ 0
   end_moves side s h = rw (over_at_end s.caught s.rounds h) refl
 
-  some_moves : (side : Side) (s : State) → IsSound g s → 1 ≤ rank_of s → 1 ≤ length (ways (graph_of g) side s)
+  some_moves : (side : Side) (s : State) → IsPursuitSound g s → 1 ≤ pursuit_rank s → 1 ≤ length (ways (graph_of g) side s)
   some_moves side s here h =
-      rw (open_ways (graph_of g) side s (goes_on s.caught s.rounds h)) (omega (arith, reach_count (node_of side s) (node_below side s here)))
+      rw (open_ways (graph_of g) side s (chase_not_over s.caught s.rounds h)) (omega (arith, reach_count (node_of side s) (node_below side s here)))
 
-  equal_keys : (s t : State) → IsSound g s → IsSound g t → key_of s ≡ key_of t → s ≡ t
+  equal_keys : (s t : State) → IsPursuitSound g s → IsPursuitSound g t → pursuit_key s ≡ pursuit_key t → s ≡ t
   equal_keys s t here there e =
       let a = here.one_below in let b = here.two_below in let c = there.one_below in let d = there.two_below in
       let high = p.nodes_high in let most = p.rounds_high in let u = here.rounds_high in let v = there.rounds_high in
@@ -188,14 +195,14 @@ module _ (g : Setting) (p : IsPosition g) where
     low_high = omega (arith, ints);
     high_most = omega (arith, ints);
     end_moves = λ side s r h. end_moves side s h;
-    other_moves = λ side s r h. some_moves side s (sound s r) h;
-    moves_high = λ side s r. ways_few (is_over s) (reach (graph_of g) (node_of side s)) (width_of (graph_of g)) (few_ways side s (sound s r));
-    rank_high = λ s r. omega (arith, rank_below s.caught s.rounds 31 (omega (arith, (sound s r).rounds_high, p.rounds_high)));
+    other_moves = λ side s r h. some_moves side s (pursuit_sound s r) h;
+    moves_high = λ side s r. ways_few (is_chase_over s) (reach (graph_of g) (node_of side s)) (width_of (graph_of g)) (few_ways side s (pursuit_sound s r));
+    rank_high = λ s r. omega (arith, rank_below s.caught s.rounds 31 (omega (arith, (pursuit_sound s r).rounds_high, p.rounds_high)));
     rank_falls = λ s t r turn. rank_falls s t turn;
     payoff_low = λ s r h. (payoff_small s.caught).0;
     payoff_high = λ s r h. (payoff_small s.caught).1;
-    same_key = λ s t r r' e. equal_keys s t (sound s r) (sound t r') e;
-    key_high = λ s r. let here = sound s r in omega (arith, bit_small s.caught, here.one_below, here.two_below, here.rounds_high, p.nodes_high, p.rounds_high);
+    same_key = λ s t r r' e. equal_keys s t (pursuit_sound s r) (pursuit_sound t r') e;
+    key_high = λ s r. let here = pursuit_sound s r in omega (arith, bit_small s.caught, here.one_below, here.two_below, here.rounds_high, p.nodes_high, p.rounds_high);
     draws_low = λ s a b r h h'. omega arith;
     draws_high = λ s a b r h h'. omega arith;
     chance_low = λ s t r h. omega arith;

@@ -1,7 +1,7 @@
 -- Which graphs, players and rounds make a position, and the first fault of the others.
 use Rattle.std.specs.Prelude.{◌≡◌, ℕ, ◌*◌, ◌%◌, ◌<◌, ◌≤◌, ◌^◌, false, ◌||◌, ◌==◌, nat_lt, nat_le, if◌then◌else◌, List, [], ◌∷◌, length, position, slice_index, Option, Some, None, option_map}
-use Rattle.std.specs.Option.{option_or}
 use Rattle.sim_game.specs.declared.Side.TheVariants.{One, Two}
+use Rattle.text.specs.Faults.{first_some}
 use Rattle.pursuit.specs.declared.PursuitError.{PursuitError}
 use Rattle.pursuit.specs.declared.PursuitError.TheVariants.{NodesRange, EdgeOdd, EdgeRange, EdgeLoop, PlaceRange, RoundsRange}
 use Rattle.pursuit.specs.declared.Setting.{Setting}
@@ -38,11 +38,6 @@ place_range nodes one two =
 -- there are more than 31 rounds
 abbrev pub rounds_range : ℕ → Option PursuitError
 rounds_range rounds = if nat_lt 31 rounds then Some RoundsRange else None
-
--- the first that there is
-abbrev pub first_some : {T : Type 0} → List (Option T) → Option T
-first_some [] = None
-first_some (option ∷ options) = option_or option (first_some options)
 
 -- the first rule that is broken
 abbrev pub first_fault : ℕ → List ℕ → ℕ → ℕ → ℕ → Option PursuitError

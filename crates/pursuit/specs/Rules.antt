@@ -38,30 +38,30 @@ node_of One s = s.one
 node_of Two s = s.two
 
 -- Two is caught, or no round is left
-abbrev pub is_over : State → Bool
-is_over s = s.caught || (s.rounds == 0)
+abbrev pub is_chase_over : State → Bool
+is_chase_over s = s.caught || (s.rounds == 0)
 
 -- where a side may go; nowhere at an end
 abbrev pub ways : Graph → Side → State → List ℕ
-ways r side s = if is_over s then [] else reach r (node_of side s)
+ways r side s = if is_chase_over s then [] else reach r (node_of side s)
 
 -- both come to one node, or they change places
 abbrev pub is_catch : State → ℕ → ℕ → Bool
 is_catch s one two = (one == two) || ((one == s.two) && (two == s.one))
 
 -- both go to these nodes, and a round is over
-abbrev pub after_moves : State → ℕ → ℕ → State
-after_moves s one two = record { one = one; two = two; rounds = s.rounds - 1; caught = is_catch s one two }
+abbrev pub after_round : State → ℕ → ℕ → State
+after_round s one two = record { one = one; two = two; rounds = s.rounds - 1; caught = is_catch s one two }
 
-abbrev pub payoff_of : State → ℤ
-payoff_of s = if s.caught then pos 1 else neg_ℤ (pos 1)
+abbrev pub pursuit_payoff : State → ℤ
+pursuit_payoff s = if s.caught then pos 1 else neg_ℤ (pos 1)
 
-abbrev pub rank_of : State → ℕ
-rank_of s = if s.caught then 0 else s.rounds
+abbrev pub pursuit_rank : State → ℕ
+pursuit_rank s = if s.caught then 0 else s.rounds
 
 -- whether Two is caught, the rounds and both nodes, in 1, 5, 5 and 5 bits
-abbrev pub key_of : State → ℕ
-key_of s = (((if s.caught then 1 else 0) * 2 ^ 5 + s.rounds) * 2 ^ 5 + s.one) * 2 ^ 5 + s.two
+abbrev pub pursuit_key : State → ℕ
+pursuit_key s = (((if s.caught then 1 else 0) * 2 ^ 5 + s.rounds) * 2 ^ 5 + s.one) * 2 ^ 5 + s.two
 
 -- ---- the game
 abbrev pub game_from : Graph → State → GameModel State
@@ -70,10 +70,10 @@ game_from r first = record {
   moves = λ side s. length (ways r side s);
   draws = λ s one two. 1;
   chance = λ s one two draw. whole_chance;
-  drawn = λ s one two draw. after_moves s (slice_index (ways r One s) one) (slice_index (ways r Two s) two);
-  payoff = payoff_of;
-  rank = rank_of;
-  key = key_of;
+  drawn = λ s one two draw. after_round s (slice_index (ways r One s) one) (slice_index (ways r Two s) two);
+  payoff = pursuit_payoff;
+  rank = pursuit_rank;
+  key = pursuit_key;
   label = λ side s i. slice_index (ways r side s) i;
   low = neg_ℤ (pos 1);
   high = pos 1;
@@ -91,11 +91,11 @@ graph_of g = graph_from g.nodes g.neighbours
 abbrev pub first_of : ℕ → ℕ → ℕ → State
 first_of one two rounds = record { one = one; two = two; rounds = rounds; caught = one == two }
 
-abbrev pub first_state : Setting → State
-first_state g = first_of g.one g.two g.rounds
+abbrev pub pursuit_root : Setting → State
+pursuit_root g = first_of g.one g.two g.rounds
 
 abbrev pub pursuit_game : Setting → GameModel State
-pursuit_game g = game_from (graph_of g) (first_state g)
+pursuit_game g = game_from (graph_of g) (pursuit_root g)
 
 -- ---- what is proved of the game
 -- the graph of a list of edges
@@ -107,17 +107,22 @@ pub record KeepsGraph (g : Setting) (r : Graph) (one two rounds : ℕ) : Type 0 
   pub root : (pursuit_game g).root ≡ first_of one two rounds
   pub moves : (side : Side) (s : State) → (pursuit_game g).moves side s ≡ length (ways r side s)
   pub label : (side : Side) (s : State) (i : ℕ) → (pursuit_game g).label side s i ≡ slice_index (ways r side s) i
-  pub follows : (s : State) (t : Turn) → after_turn (pursuit_game g) s t ≡ after_moves s (slice_index (ways r One s) t.one) (slice_index (ways r Two s) t.two)
+  pub follows : (s : State) (t : Turn) → after_turn (pursuit_game g) s t ≡ after_round s (slice_index (ways r One s) t.one) (slice_index (ways r Two s) t.two)
   pub width : (pursuit_game g).width ≡ width_of r
 
 pub record KeepsRules (g : Setting) : Type 0 where
   pub graph : (edges : List ℕ) (one two rounds : ℕ) → IsSettingOf g.nodes edges one two rounds g → KeepsGraph g (graph_of_edges g.nodes edges) one two rounds
+  -- each pair of moves has one draw, of the whole weight
+  pub draws : (s : State) (one two : ℕ) → (pursuit_game g).draws s one two ≡ 1
+  pub chance : (s : State) (one two draw : ℕ) → (pursuit_game g).chance s one two draw ≡ whole_chance
   -- an end is where Two is caught, or where no round is left
   pub ends : (s : State) → IsEnd (pursuit_game g) s ↔ ((s.caught ≡ true) ⊎ (s.rounds ≡ 0))
-  pub payoff : (s : State) → (pursuit_game g).payoff s ≡ payoff_of s
-  pub rank : (s : State) → (pursuit_game g).rank s ≡ rank_of s
+  pub payoff : (s : State) → (pursuit_game g).payoff s ≡ pursuit_payoff s
+  pub rank : (s : State) → (pursuit_game g).rank s ≡ pursuit_rank s
+  pub key : (s : State) → (pursuit_game g).key s ≡ pursuit_key s
   pub low : (pursuit_game g).low ≡ neg_ℤ (pos 1)
   pub high : (pursuit_game g).high ≡ pos 1
+  pub chance_free : (pursuit_game g).chance_free ≡ true
   pub same_state : (s t : State) → Reachable (pursuit_game g) s → Reachable (pursuit_game g) t
       → (pursuit_game g).key s ≡ (pursuit_game g).key t → s ≡ t
 

@@ -5,7 +5,7 @@ ghost use Rattle.plan_book.specs.Serial.{serial_bound};
 ghost use Rattle.pursuit.specs.declared.Setting.{Setting};
 ghost use Rattle.pursuit.specs.declared.State.{State};
 ghost use Rattle.pursuit.specs.Position.{IsSettingOf};
-ghost use Rattle.pursuit.specs.Rules.{first_state, pursuit_game, HasMoreRounds, IsLongerChase};
+ghost use Rattle.pursuit.specs.Rules.{pursuit_root, pursuit_game, HasMoreRounds, IsLongerChase};
 
 /// The same nodes, edges, players and rounds give one setting, and so one game.
 pub fn position_has_one_game()
@@ -19,5 +19,6 @@ pub fn more_rounds_are_no_worse()
     ensures states { (g : Setting) (few many : State) → HasMoreRounds few many
         → serial_bound (pursuit_game g) One few ≤ℤ serial_bound (pursuit_game g) One many }
     ensures positions { (few many : Setting) → IsLongerChase few many
-        → serial_bound (pursuit_game few) One (first_state few) ≤ℤ serial_bound (pursuit_game many) One (first_state many) }
+        → serial_bound (pursuit_game few) One (pursuit_root few)
+        ≤ℤ serial_bound (pursuit_game many) One (pursuit_root many) }
 {}

@@ -2,10 +2,10 @@
 #![tactic(auto)]
 
 ghost use Rattle.std.specs.Prelude.{◌≡◌, ◌<◌, ◌^◌, length, slice_index, MatchResult, None, Some};
-ghost use Rattle.pursuit.specs.Laws.{pursuit_is_game, IsSound};
+ghost use Rattle.pursuit.specs.Laws.{pursuit_is_game, IsPursuitSound};
 ghost use Rattle.state_key.specs.Sets.{members};
 ghost use Rattle.pursuit.specs.Position.{first_fault, IsPosition, IsSettingOf};
-ghost use Rattle.pursuit.specs.Rules.{graph_of, is_catch, is_over, node_of, pursuit_game, reach, width_of, KeepsRules};
+ghost use Rattle.pursuit.specs.Rules.{graph_of, is_catch, is_chase_over, node_of, pursuit_game, reach, width_of, KeepsRules};
 
 mod laws;
 mod position;
@@ -119,7 +119,7 @@ impl Pursuit {
 
     /// The node to which the move of this number leads from a node.
     #[inline]
-    fn reached(&self, node: u8, place: u32) -> u8
+    fn reach_node(&self, node: u8, place: u32) -> u8
         requires node { node < self.now.setting.nodes }
         requires place { place < length (reach (graph_of self.now.setting) node) }
         ensures { result ≡ slice_index (reach (graph_of self.now.setting) node) place }
@@ -147,7 +147,7 @@ impl State {
     /// Whether Two is caught or no round is left.
     #[inline]
     fn is_over(self) -> bool
-        ensures { result ≡ is_over self }
+        ensures { result ≡ is_chase_over self }
     {
         self.caught || self.rounds == 0
     }
@@ -186,8 +186,8 @@ impl Game for Pursuit {
 
     #[inline]
     fn next(&self, s: State, a: u32, b: u32) -> State {
-        let one = self.reached(s.one, a);
-        let two = self.reached(s.two, b);
+        let one = self.reach_node(s.one, a);
+        let two = self.reach_node(s.two, b);
         State {
             one,
             two,
@@ -228,7 +228,7 @@ impl Game for Pursuit {
     }
 
     fn label(&self, side: Side, s: State, i: u32) -> u8 {
-        self.reached(s.node(side), i)
+        self.reach_node(s.node(side), i)
     }
 
     #[inline]

@@ -19,7 +19,8 @@ use Rattle.referee.specs.Tallies.{IsLeast, IsMost, AreTotals, game_payoff}
 use Rattle.referee.specs.Transcripts.{as_turn, history_of, IsPlayed, IsRecord, words_needed}
 
 -- ---- payoffs are small
-played_to_end : {S : Type 0} (m : GameModel S) (s : S) (turns : List PlayedTurn) → Reachable m s → IsPlayed m s turns → Reachable m (after_history m s (history_of turns)) × IsEnd m (after_history m s (history_of turns))
+played_to_end : {S : Type 0} (m : GameModel S) (s : S) (turns : List PlayedTurn) → Reachable m s → IsPlayed m s turns
+    → Reachable m (after_history m s (history_of turns)) × IsEnd m (after_history m s (history_of turns))
 played_to_end m s [] r p = (r, p)
 played_to_end m s (t ∷ turns) r p = played_to_end m (after_turn m s (as_turn t)) turns (reachable_turn m s (as_turn t) r p.1) p.2
 
@@ -82,7 +83,8 @@ totals_one f t counted summed least most = record {
   most = record { place = 0; below = omega arith; is = most; most = λ i h. let e : i ≡ 0 = omega arith in rw (e, most) (omega (arith, ints)) };
 }
 
-totals_more : (n : ℕ) (f : ℕ → ℤ) (t u : Totals) (p : ℤ) → AreTotals n f t → p ≡ f n → u.games ≡ t.games + 1 → u.sum ≡ t.sum +ℤ p → u.least ≡ int_min t.least p → u.most ≡ int_max t.most p → AreTotals (n + 1) f u
+totals_more : (n : ℕ) (f : ℕ → ℤ) (t u : Totals) (p : ℤ) → AreTotals n f t → p ≡ f n → u.games ≡ t.games + 1 → u.sum ≡ t.sum +ℤ p
+    → u.least ≡ int_min t.least p → u.most ≡ int_max t.most p → AreTotals (n + 1) f u
 totals_more n f t u p are last counted summed least most = record {
   counted = counted ∙ ap (λ (k : ℕ). k + 1) are.counted;
   summed = summed ∙ ap (λ (x : ℤ). x +ℤ p) are.summed ∙ ap (λ (x : ℤ). sum_below n f +ℤ x) last ∙ sym (sum_more n f);
@@ -103,7 +105,8 @@ module _ {S : Type 0} (m : GameModel S) (one two : Sheet) (seed games : ℕ) whe
       → t.games ≡ 1 → t.sum ≡ r.payoff → t.least ≡ r.payoff → t.most ≡ r.payoff → IsTallying m one two seed games state t
   tally_start state r t some is at small counted summed least most = record {
     at = rw counted at;
-    totals = subst (λ (n : ℕ). AreTotals n (game_payoff m one two seed) t) (sym counted) (totals_one (game_payoff m one two seed) t counted (summed ∙ is.payoff) (least ∙ is.payoff) (most ∙ is.payoff));
+    totals = subst (λ (n : ℕ). AreTotals n (game_payoff m one two seed) t) (sym counted)
+        (totals_one (game_payoff m one two seed) t counted (summed ∙ is.payoff) (least ∙ is.payoff) (most ∙ is.payoff));
     small = rw (counted, summed) (omega (arith, small));
     few = omega arith;
   }
@@ -115,7 +118,8 @@ module _ {S : Type 0} (m : GameModel S) (one two : Sheet) (seed games : ℕ) whe
       let before = inv.small in
       record {
         at = rw (counted, add-one) at;
-        totals = subst (λ (n : ℕ). AreTotals n (game_payoff m one two seed) u) (sym counted) (totals_more t.games (game_payoff m one two seed) t u r.payoff inv.totals is.payoff counted summed least most);
+        totals = subst (λ (n : ℕ). AreTotals n (game_payoff m one two seed) u) (sym counted)
+            (totals_more t.games (game_payoff m one two seed) t u r.payoff inv.totals is.payoff counted summed least most);
         small = rw (counted, summed) (omega (arith, ints, before, small));
         few = omega arith;
       }

@@ -67,7 +67,8 @@ pub struct Totals {
 
 /// Games have at most one list of totals.
 pub fn one_tally()
-    ensures { (games : ℕ) (payoff : ℕ → ℤ) (a b : Totals) → AreTotals games payoff a → AreTotals games payoff b → a ≡ b }
+    ensures { (games : ℕ) (payoff : ℕ → ℤ) (a b : Totals)
+        → AreTotals games payoff a → AreTotals games payoff b → a ≡ b }
 {}
 
 /// A word below the sum of the weights picks the first number whose cumulated weight, its own included, exceeds it.
@@ -79,5 +80,7 @@ pub fn picks_first()
 /// Two's and the third below 360360, the payoffs of the transcripts sum to what the plans lead to over the whole tree.
 pub fn payoffs_sum<G: Game>(_g: &G)
     ensures { let m = G.model _g.now in
-        (one two : Plan) → 1 ≤ one.total → 1 ≤ two.total → sum_words one.total two.total whole_chance (m.rank m.root) (payoff_by m one two) ≡ expected m one two (m.rank m.root) m.root [] }
+        (one two : Plan) → 1 ≤ one.total → 1 ≤ two.total
+        → sum_words one.total two.total whole_chance (m.rank m.root) (payoff_by m one two)
+        ≡ expected m one two (m.rank m.root) m.root [] }
 {}

@@ -53,9 +53,11 @@ fn play_next<G: Game>(
     requires one { IsPlayable Side.One one.now }
     requires two { IsPlayable Side.Two two.now }
     ensures record { let m = G.model g in
-        (seed game : ℕ) → state.old ≡ state_after seed (words_needed m * game) → IfOk result (IsRecord m one.now two.now (words_of_game m seed game)) }
+        (seed game : ℕ) → state.old ≡ state_after seed (words_needed m * game)
+        → IfOk result (IsRecord m one.now two.now (words_of_game m seed game)) }
     ensures state { let m = G.model g in
-        (seed game : ℕ) → state.old ≡ state_after seed (words_needed m * game) → OnOk result (state.new ≡ state_after seed (words_needed m * suc game)) }
+        (seed game : ℕ) → state.old ≡ state_after seed (words_needed m * game)
+        → OnOk result (state.new ≡ state_after seed (words_needed m * suc game)) }
     ensures small { IfOk result (λ r. unsigned_abs r.payoff ≤ 4000) }
 {
     let words = next_words(alloc, words_needed(g), state)?;

@@ -5,7 +5,7 @@ ghost use Rattle.std.specs.List.Sorted.{IsStrictlyIncreasing};
 ghost use Rattle.sim_game.specs.Model.{Reachable, Turn, IsTurn};
 ghost use Rattle.plan_book.specs.Sheets.{plan_of};
 ghost use Rattle.referee.specs.Picks.{pick};
-ghost use Rattle.referee.specs.Transcripts.{IsPlayable, as_turn, draw_by, move_by, played, turn_by};
+ghost use Rattle.referee.specs.Transcripts.{IsPlayable, as_turn, draw_by, move_by, keyed_turn, turn_by};
 
 use crate::PlayedTurn;
 use plan_book::{Sheet, weights_of};
@@ -54,7 +54,8 @@ fn move_by<G: Game>(g: G, sheet: &Sheet, s: G::State, word: u64) -> u32
     requires rising { IsStrictlyIncreasing (map (λ r. r.key) sheet.now.rows) }
     requires reachable { Reachable (G.model g) s }
     requires goes_on { 1 ≤ (G.model g).rank s }
-    ensures is { (history : List Turn) → result ≡ move_by (G.model g) sheet.now.side (plan_of sheet.now) s history word }
+    ensures is { (history : List Turn)
+        → result ≡ move_by (G.model g) sheet.now.side (plan_of sheet.now) s history word }
     ensures below { result < (G.model g).moves sheet.now.side s }
 {
     match weights_of(g, sheet, s) {
@@ -76,8 +77,9 @@ pub(crate) fn turn_by<G: Game>(
     requires words { 3 ≤ length words.now }
     requires reachable { Reachable (G.model g) s }
     requires goes_on { 1 ≤ (G.model g).rank s }
-    ensures is { (history : List Turn) → result ≡ played (G.model g) s
-        (turn_by (G.model g) (plan_of one.now) (plan_of two.now) s history (slice_index words.now 0) (slice_index words.now 1) (slice_index words.now 2)) }
+    ensures is { (history : List Turn) → result ≡ keyed_turn (G.model g) s
+        (turn_by (G.model g) (plan_of one.now) (plan_of two.now) s history
+        (slice_index words.now 0) (slice_index words.now 1) (slice_index words.now 2)) }
     ensures turn { IsTurn (G.model g) s (as_turn result) }
 {
     let a = move_by(g, one, s, words[0]);

@@ -14,15 +14,16 @@ use Rattle.sim_game.specs.Sides.{IsNoTighter}
 use Rattle.sim_game.proofs.SideLemmas.{looser_left, looser_right, looser_trans, looser_times, looser_sum, looser_cancel}
 use Rattle.plan_book.specs.Steps.{rounded}
 use Rattle.plan_book.proofs.StepLemmas.{looser_rounded, rounded_tightest}
-use Rattle.matrix_game.specs.Grid.{IsSmall}
+use Rattle.matrix_game.specs.Grid.{IsSmallCell}
 use Rattle.restricted_game.specs.declared.table.Table.{Table}
 use Rattle.bounds_board.specs.Views.{bound_in}
 use Rattle.restricted_game.specs.Sizes.{IsSmallEnclosure}
-use Rattle.restricted_game.specs.Tables.{HasShape, enclosure_in, pair_cell, place_of}
+use Rattle.restricted_game.specs.Tables.{HasShape, enclosure_in, pair_cell, draw_index}
 use Rattle.restricted_game.proofs.PlaceLemmas.{place_within}
 
 -- a chance is a weight
-pub chance_light : {S : Type 0} (m : GameModel S) (s : S) (one two draw : ℕ) → IsGame m → Reachable m s → one < m.moves One s → two < m.moves Two s → draw < m.draws s one two → m.chance s one two draw ≤ 1048576
+pub chance_light : {S : Type 0} (m : GameModel S) (s : S) (one two draw : ℕ) → IsGame m → Reachable m s → one < m.moves One s → two < m.moves Two s
+    → draw < m.draws s one two → m.chance s one two draw ≤ 1048576
 chance_light m s one two draw game r p q d = omega (arith, count_term (m.draws s one two) (m.chance s one two) draw d, game.chance_sum s one two r p q)
 
 module _ (side : Side) (n : ℕ) (chance : ℕ → ℕ) (all : count_below n chance ≡ whole_chance) (numbers : ℕ → ℤ) (limit : ℤ) where
@@ -49,11 +50,14 @@ mean_small Two n chance all numbers h =
     let low = mean_to Two n chance all numbers (neg_ℤ (pos 4000000000)) (λ d l. let s = h d l in omega (arith, ints)) in
     omega (arith, ints)
 
-pub bound_small : (side : Side) (table : Table) (one two draw : ℕ) → one < table.height → two < table.width → draw < table.stride → unsigned_abs (bound_in side (enclosure_in table one two draw)) ≤ 4000000000
-bound_small side table one two draw p q r = of_side side (table.small (place_of table.width table.stride one two draw) _ (omega (arith, place_within table.height table.width table.stride one two draw p q r, table.room, table.enclosures.ok.0))) where
-  of_side : (side : Side) → IsSmallEnclosure (enclosure_in table one two draw) → unsigned_abs (bound_in side (enclosure_in table one two draw)) ≤ 4000000000
-  of_side One small = small.lower
-  of_side Two small = small.upper
+pub bound_small : (side : Side) (table : Table) (one two draw : ℕ) → one < table.height → two < table.width → draw < table.stride
+    → unsigned_abs (bound_in side (enclosure_in table one two draw)) ≤ 4000000000
+bound_small side table one two draw p q r =
+    of_side side (table.small
+    (draw_index table.width table.stride one two draw) _ (omega (arith, place_within table.height table.width table.stride one two draw p q r, table.room, table.enclosures.ok.0))) where
+      of_side : (side : Side) → IsSmallEnclosure (enclosure_in table one two draw) → unsigned_abs (bound_in side (enclosure_in table one two draw)) ≤ 4000000000
+      of_side One small = small.lower
+      of_side Two small = small.upper
 
 pub cell_small : {S : Type 0} (m : GameModel S) (s : S) (side : Side) (table : Table) (one two : ℕ) → IsGame m → Reachable m s → HasShape m s table → one < m.moves One s → two < m.moves Two s
     → unsigned_abs (pair_cell m side s table one two) ≤ 4000000000
@@ -74,9 +78,9 @@ sum_step n f sum x few summed small value light =
 
 -- ---- lists of cells
 -- one cell more
-pub cells_more : (f : ℕ → ℤ) (n : ℕ) (cells next : List ℤ) (x : ℤ) → next ≡ cells ++ x ∷ [] → cells ≡ map f (range_with_len 0 n) → All IsSmall cells → x ≡ f n → IsSmall x
-    → (next ≡ map f (range_with_len 0 (n + 1))) × All IsSmall next
+pub cells_more : (f : ℕ → ℤ) (n : ℕ) (cells next : List ℤ) (x : ℤ) → next ≡ cells ++ x ∷ [] → cells ≡ map f (range_with_len 0 n) → All IsSmallCell cells → x ≡ f n → IsSmallCell x
+    → (next ≡ map f (range_with_len 0 (n + 1))) × All IsSmallCell next
 cells_more f n cells next x pushed so_far small value light = (
   pushed ∙ ap (λ (xs : List ℤ). xs ++ x ∷ []) so_far ∙ ap (λ (y : ℤ). map f (range_with_len 0 n) ++ y ∷ []) value ∙ sym (map-range_with_len_more f 0 n n (omega arith)),
-  All-same IsSmall next (cells ++ x ∷ []) pushed (All-push IsSmall cells x small light),
+  All-same IsSmallCell next (cells ++ x ∷ []) pushed (All-push IsSmallCell cells x small light),
 )

@@ -8,7 +8,7 @@ use Rattle.sim_game.specs.Model.{GameModel, Reachable}
 use Rattle.sim_game.proofs.SideLemmas.{looser_trans}
 use Rattle.bounds_board.specs.Views.{BoardView, IsLater}
 use Rattle.restricted_game.specs.Children.{KeptRows, HasPlaces, IsRowOf, HasNoRows, AreChildRows}
-use Rattle.restricted_game.specs.Tables.{place_of}
+use Rattle.restricted_game.specs.Tables.{draw_index}
 use Rattle.restricted_game.proofs.PlaceLemmas.{place_within, same_place}
 
 pub no_child_rows : {S G N : Type 0} (m : GameModel S) (v : BoardView G N) (s : S) (children : KeptRows) → HasNoRows m s children → AreChildRows m v s children
@@ -24,9 +24,10 @@ row_later m u v t row later is = record {
 pub child_rows_later : {S G N : Type 0} (m : GameModel S) (u v : BoardView G N) (s : S) (children : KeptRows) → IsLater u v → AreChildRows m u s children → AreChildRows m v s children
 child_rows_later m u v s children later are = record { places = are.places; each = λ one two draw row p q r e. row_later m u v _ row later (are.each one two draw row p q r e) }
 
-module _ {S : Type 0} (m : GameModel S) (s : S) (reach : Reachable m s) (children : KeptRows) (places : HasPlaces m s children) (one two draw : ℕ) (one_in : one < m.moves One s) (two_in : two < m.moves Two s) (draw_in : draw < m.draws s one two) where
+module _ {S : Type 0} (m : GameModel S) (s : S) (reach : Reachable m s) (children : KeptRows) (places : HasPlaces m s children) (one two draw : ℕ)
+    (one_in : one < m.moves One s) (two_in : two < m.moves Two s) (draw_in : draw < m.draws s one two) where
   abbrev place : ℕ
-  place = place_of children.width children.stride one two draw
+  place = draw_index children.width children.stride one two draw
 
   fits : (a b d : ℕ) → a < m.moves One s → b < m.moves Two s → d < m.draws s a b → d < children.stride
   fits a b d p q r = omega (arith, places.stride.draws s a b reach p q)
@@ -35,14 +36,16 @@ module _ {S : Type 0} (m : GameModel S) (s : S) (reach : Reachable m s) (childre
   place_in = rw (places.room, places.width) (place_within (m.moves One s) (m.moves Two s) children.stride one two draw one_in two_in (fits one two draw one_in two_in draw_in))
 
   -- one row more
-  pub child_rows_more : {G N : Type 0} (u v : BoardView G N) (row : ℕ) → AreChildRows m u s children → IsLater u v → IsRowOf m v (m.drawn s one two draw) row → AreChildRows m v s (record children { rows = set children.rows place (Some row) })
+  pub child_rows_more : {G N : Type 0} (u v : BoardView G N) (row : ℕ) → AreChildRows m u s children → IsLater u v
+      → IsRowOf m v (m.drawn s one two draw) row → AreChildRows m v s (record children { rows = set children.rows place (Some row) })
   child_rows_more u v row are later is = record {
     places = record { width = places.width; stride = places.stride; room = length-set children.rows place (Some row) ∙ places.room };
-    each = λ a b d found p q r e. elim (cases_eq (place_of children.width children.stride a b d) place) [
+    each = λ a b d found p q r e. elim (cases_eq (draw_index children.width children.stride a b d) place) [
       | inl at ↦
           let same = same_place children.width children.stride a b d one two draw (rw places.width q) (rw places.width two_in) (fits a b d p q r) (fits one two draw one_in two_in draw_in) at in
-          let is_row : row ≡ found = same_Some row found (sym (get_or-set_same children.rows place (Some row) None place_in) ∙ ap (λ (n : ℕ). slice_index_or (set children.rows place (Some row)) n None) (sym at) ∙ e) in
+          let is_row : row ≡ found = same_Some row found
+          (sym (get_or-set_same children.rows place (Some row) None place_in) ∙ ap (λ (n : ℕ). slice_index_or (set children.rows place (Some row)) n None) (sym at) ∙ e) in
           rw (same.0, same.1, same.2, ← is_row) is
-      | inr other ↦ row_later m u v _ found later (are.each a b d found p q r (sym (get_or-set_other children.rows place (place_of children.width children.stride a b d) (Some row) None other) ∙ e))
+      | inr other ↦ row_later m u v _ found later (are.each a b d found p q r (sym (get_or-set_other children.rows place (draw_index children.width children.stride a b d) (Some row) None other) ∙ e))
     ];
   }

@@ -9,11 +9,12 @@ use Rattle.sim_game.specs.declared.Side.TheVariants.{One, Two}
 use Rattle.sim_game.specs.Model.{GameModel, IsGame, Reachable}
 use Rattle.sim_game.specs.Sides.{other_side}
 use Rattle.bounds_board.specs.Views.{BoardView}
+use Rattle.matrix_game.specs.declared.solver.StageSolver.{StageSolver}
 use Rattle.restricted_game.specs.declared.held.StepEnd.TheVariants.{Grown, Done}
 use Rattle.restricted_game.specs.declared.plans.Plans.{Plans}
 use Rattle.restricted_game.specs.declared.table.Table.{Table}
 use Rattle.restricted_game.specs.Gaps.{HasStepGap}
-use Rattle.restricted_game.specs.Held.{HeldMoves, AreMoves, IsHolding, count_held, with_move, held_after}
+use Rattle.restricted_game.specs.Held.{HeldMoves, AreMoves, IsHolding, HoldsAll, count_held, with_move, held_after}
 use Rattle.restricted_game.specs.Runs.{IsPlan, IsStepRun}
 use Rattle.restricted_game.specs.Tables.{ArePlans}
 use Rattle.restricted_game.proofs.HeldLemmas.{moves_more, held_few}
@@ -31,9 +32,9 @@ if_fresh false place P h = tt
 fresh_new : {S : Type 0} (m : GameModel S) (side : Side) (s : S) (total : ℕ) (own others weights : List ℕ) (numbers : ℕ → ℕ → ℕ → ℤ) (plan : List ℕ) (bound : ℤ) (fresh : Option ℕ)
     → IsPlan m side s total own others weights numbers plan bound fresh → IfSome fresh (IsNew (m.moves (other_side side) s) others)
 fresh_new m side s total own others weights numbers plan bound fresh planned =
-    let reply = planned.reply in
+    let reply = planned.is_best in
     subst (λ (o : Option ℕ). IfSome o (IsNew (m.moves (other_side side) s) others)) (sym planned.fresh_is)
-    (if_fresh planned.is_fresh planned.place _ (λ t. (reply.place_in, λ held. reply.new t planned.place reply.place_in held (sym reply.worth))))
+    (if_fresh planned.is_fresh planned.reply _ (λ t. (reply.place_in, λ held. reply.new t planned.reply reply.place_in held (sym reply.worth))))
 
 with_held : (n : ℕ) (moves : List ℕ) (move : Option ℕ) → AreMoves n moves → IfSome move (IsNew n moves) → AreMoves n (with_move moves move)
 with_held n moves None held new = held
@@ -57,7 +58,7 @@ none_from (Some x) e = absurd (cc)
 
 -- ---- the end
 module _ {S : Type 0} (m : GameModel S) (s : S) (h held : HeldMoves) (is : h ≡ held) (holding : IsHolding h) (most_rows : held.most_rows ≡ m.moves One s) (most_cols : held.most_cols ≡ m.moves Two s)
-    {total : ℕ} {table : Table} (plans : Plans) (planned : ArePlans m s total h.rows h.cols table plans) where
+    {solver : StageSolver} {total : ℕ} {table : Table} (plans : Plans) (planned : ArePlans m solver s total h.rows h.cols table plans) where
   abbrev row : Option ℕ
   row = plans.two.fresh
 
@@ -90,8 +91,17 @@ module _ {S : Type 0} (m : GameModel S) (s : S) (h held : HeldMoves) (is : h ≡
     held_few (held_after h (Grown row col)) holding_after,
   )
 
-pub end_gap : {S G N : Type 0} (m : GameModel S) (game : IsGame m) (u v : BoardView G N) (s : S) (reach : Reachable m s) (h held : HeldMoves) → h ≡ held → IsHolding h → held.most_rows ≡ m.moves One s → held.most_cols ≡ m.moves Two s → 8192 ≤ u.total
-    → (lower upper : ℤ) → IsStepRun m u v s h.rows h.cols None None lower upper → HasStepGap m u v s held (Done lower upper)
-end_gap m game u v s reach h held is holding most_rows most_cols enough lower upper run = subst (λ (k : HeldMoves). HasStepGap m u v s k (Done lower upper)) is (λ gap stage close is_gap.
+  -- no reply is new to a game that holds all moves
+  pub not_all_held : IsSome row ⊎ IsSome col → HoldsAll held → ⊥
+  not_all_held some all =
+      let more = has_grown some in
+      let rows = ap (λ (k : HeldMoves). k.most_rows) is in
+      let cols = ap (λ (k : HeldMoves). k.most_cols) is in
+      omega (arith, more.0, holding_after.rows.few, holding_after.cols.few, all.rows, all.cols, rows, cols)
+
+pub end_gap : {S G N : Type 0} (m : GameModel S) (game : IsGame m) (u v : BoardView G N) (s : S) (reach : Reachable m s) (h held : HeldMoves)
+    → h ≡ held → IsHolding h → held.most_rows ≡ m.moves One s → held.most_cols ≡ m.moves Two s → 8192 ≤ u.total
+    → {solver : StageSolver} (lower upper : ℤ) → IsStepRun m u v solver s h.rows h.cols None None lower upper → HasStepGap m u v s held (Done lower upper)
+end_gap m game u v s reach h held is holding most_rows most_cols enough {solver} lower upper run = subst (λ (k : HeldMoves). HasStepGap m u v s k (Done lower upper)) is (λ gap stage close is_gap.
     step_close m game u v s reach enough h lower upper run (subst (λ (n : ℕ). AreMoves n h.rows) (ap (λ (k : HeldMoves). k.most_rows) is ∙ most_rows) holding.rows)
     (subst (λ (n : ℕ). AreMoves n h.cols) (ap (λ (k : HeldMoves). k.most_cols) is ∙ most_cols) holding.cols) gap close stage is_gap)

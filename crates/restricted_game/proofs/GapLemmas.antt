@@ -32,7 +32,8 @@ module _ (n : ℕ) (weights : ℕ → ℕ) (total : ℕ) (all : count_below n we
       let each : sum_below n (λ i. pos (weights i) *ℤ high i) ≤ℤ sum_below n (λ i. pos (weights i) *ℤ low i +ℤ pos (weights i) *ℤ pos gap) =
       sum_mono n _ _ (λ i h. subst (λ (z : ℤ). (pos (weights i) *ℤ high i) ≤ℤ z) (times_add (weights i) (low i) (pos gap)) (times_mono (weights i) (high i) (low i +ℤ pos gap) (close i h))) in
       let apart : sum_below n (λ i. pos (weights i) *ℤ low i +ℤ pos (weights i) *ℤ pos gap) ≡ sum_below n (λ i. pos (weights i) *ℤ low i) +ℤ pos total *ℤ pos gap =
-      sum_add n (λ i. pos (weights i) *ℤ low i) (λ i. pos (weights i) *ℤ pos gap) ∙ ap (λ (z : ℤ). sum_below n (λ i. pos (weights i) *ℤ low i) +ℤ z) (sum_weights n weights (pos gap) ∙ ap (λ (k : ℕ). pos k *ℤ pos gap) all) in
+      sum_add n (λ i. pos (weights i) *ℤ low i) (λ i. pos (weights i) *ℤ pos gap)
+      ∙ ap (λ (z : ℤ). sum_below n (λ i. pos (weights i) *ℤ low i) +ℤ z) (sum_weights n weights (pos gap) ∙ ap (λ (k : ℕ). pos k *ℤ pos gap) all) in
       subst (λ (z : ℤ). sum_below n (λ i. pos (weights i) *ℤ high i) ≤ℤ z) apart each
 
 module _ (n : ℕ) (chance : ℕ → ℕ) (all : count_below n chance ≡ whole_chance) (low high : ℕ → ℤ) (gap : ℕ) (close : (d : ℕ) → d < n → high d ≤ℤ (low d +ℤ pos gap)) where
@@ -46,8 +47,10 @@ module _ (n : ℕ) (chance : ℕ → ℕ) (all : count_below n chance ≡ whole_
       let certain : chance 0 ≡ whole_chance = sym (alone (chance 0)) ∙ sym (ap (λ (k : ℕ). count_below k chance) one) ∙ all in
       let sum_is : (f : ℕ → ℤ) → sum_below n (λ d. pos (chance d) *ℤ f d) ≡ pos whole_chance *ℤ f 0 =
       λ f. ap (λ (k : ℕ). sum_below k (λ d. pos (chance d) *ℤ f d)) one ∙ only (pos (chance 0) *ℤ f 0) ∙ ap (λ (k : ℕ). pos k *ℤ f 0) certain in
-      let under = floor_greatest whole_chance (sum_below n (λ d. pos (chance d) *ℤ low d)) (low 0) (omega arith) (subst (λ (z : ℤ). (pos whole_chance *ℤ low 0) ≤ℤ z) (sym (sum_is low)) (int_le_refl _)) in
-      let over = ceiling_least whole_chance (sum_below n (λ d. pos (chance d) *ℤ high d)) (high 0) (omega arith) (subst (λ (z : ℤ). z ≤ℤ (pos whole_chance *ℤ high 0)) (sym (sum_is high)) (int_le_refl _)) in
+      let under = floor_greatest whole_chance (sum_below n (λ d. pos (chance d) *ℤ low d)) (low 0) (omega arith)
+      (subst (λ (z : ℤ). (pos whole_chance *ℤ low 0) ≤ℤ z) (sym (sum_is low)) (int_le_refl _)) in
+      let over = ceiling_least whole_chance (sum_below n (λ d. pos (chance d) *ℤ high d)) (high 0) (omega arith)
+      (subst (λ (z : ℤ). z ≤ℤ (pos whole_chance *ℤ high 0)) (sym (sum_is high)) (int_le_refl _)) in
       let near = close 0 (omega arith) in
       omega (arith, ints)
     where

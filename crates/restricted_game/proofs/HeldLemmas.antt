@@ -1,15 +1,16 @@
 -- Held moves: one move, one move more, and how many there are.
-use Rattle.std.proofs.Common.{rules, ◌≡◌, ℕ, zero, suc, ◌+◌, ◌<◌, ◌≤◌, Bool, true, false, eqb, List, [], ◌∷◌, ◌++◌, length, refl, ap, arith, add-one, ◌*◌, ◌/◌, ◌%◌, slice_index, mod-lt}
+use Rattle.std.proofs.Common.{rules, ◌≡◌, ℕ, zero, suc, ◌+◌, ◌<◌, ◌≤◌, Bool, true, false, eqb, List, [], ◌∷◌, ◌++◌, length, refl, sym, ap, subst, ◌∙◌, arith, add-one, ◌*◌, ◌/◌, ◌%◌, slice_index, mod-lt}
 use Rattle.std.proofs.Math.Nat.{div-lt_iff_lt-mul}
 use Rattle.std.proofs.lemmas.Nat.{mul-add-lt}
 use Rattle.std.proofs.lemmas.Bool.{eqb-true}
-use Rattle.std.proofs.lemmas.List.{length_push}
+use Rattle.std.proofs.lemmas.List.{length_push, map-id}
+use Rattle.std.proofs.lemmas.List.FromFn.{map-range_with_len_more}
 use Rattle.std.proofs.lemmas.List.Elements.{All-nil, All-cons, All-push, All-contains}
 use Rattle.std.proofs.lemmas.Map.Keys.{IsDistinct-push}
 use Rattle.std.proofs.lemmas.Map.Steps.{length-le_from_distinct_below}
 use Rattle.std.proofs.lemmas.Map.Views.{Contains-from_any}
 use Rattle.std.specs.Cmp.{nat_eq_equiv}
-use Rattle.std.specs.List.{Contains, IsDistinct, list_any}
+use Rattle.std.specs.List.{Contains, IsDistinct, list_any, range_with_len}
 use Rattle.restricted_game.specs.declared.held.StepEnd.{StepEnd}
 use Rattle.restricted_game.specs.declared.held.StepEnd.TheVariants.{Grown, Done}
 use Rattle.restricted_game.specs.Held.{HeldMoves, AreMoves, IsHolding, count_held, HasGrown, IsGrown, AreSteps, FewSteps}
@@ -41,6 +42,22 @@ moves_more n moves x held h other =
       few = length-le_from_distinct_below (moves ++ x ∷ []) n apart (λ q e. All-contains (λ y. y < n) (moves ++ x ∷ []) q within (Contains-from_any eqb-true q (moves ++ x ∷ []) e));
     }
 
+-- the first numbers
+pub range_more : (n : ℕ) → range_with_len 0 (n + 1) ≡ range_with_len 0 n ++ n ∷ []
+range_more n = sym (map-id (range_with_len 0 (n + 1))) ∙ map-range_with_len_more (λ i. i) 0 n n (omega arith) ∙ ap (λ (l : List ℕ). l ++ n ∷ []) (map-id (range_with_len 0 n))
+
+first_moves : (n k : ℕ) → suc k ≤ n → AreMoves n (range_with_len 0 (suc k))
+first_moves n zero h = one_move n 0 (omega arith)
+first_moves n (suc k) h =
+    let before = first_moves n k (omega arith) in
+    let other : Contains (range_with_len 0 (suc k)) (suc k) → ⊥ = λ held.
+    let below = All-contains (λ y. y < suc k) (range_with_len 0 (suc k)) (suc k) (first_moves (suc k) k (omega arith)).within held in omega (arith, below) in
+    subst (λ (l : List ℕ). AreMoves n l) (sym (range_more (suc k)) ∙ ap (range_with_len 0) (add-one (suc k))) (moves_more n (range_with_len 0 (suc k)) (suc k) before (omega arith) other)
+
+pub all_moves_held : (n : ℕ) → 1 ≤ n → AreMoves n (range_with_len 0 n)
+all_moves_held zero h = absurd (omega arith)
+all_moves_held (suc n) h = first_moves (suc n) n (omega arith)
+
 -- no more than 64 moves are held
 pub held_few : (h : HeldMoves) → IsHolding h → count_held h ≤ 64
 held_few h held = let a = held.rows.few in let b = held.cols.few in let c = held.few_rows in let d = held.few_cols in omega arith
@@ -50,7 +67,8 @@ grown_more : (old new : HeldMoves) (end : StepEnd) → HasGrown old new end → 
 grown_more old new (Grown row col) h g = h
 grown_more old new (Done lower upper) h g = absurd g
 
-held_next : (held : ℕ → HeldMoves) (ends : ℕ → StepEnd) (count i : ℕ) → AreSteps held ends count → suc i < count → i + 2 ≤ count_held (held i) → (i + 3 ≤ count_held (held (suc i))) × (count_held (held (suc i)) ≤ 64)
+held_next : (held : ℕ → HeldMoves) (ends : ℕ → StepEnd) (count i : ℕ) → AreSteps held ends count → suc i < count → i + 2 ≤ count_held (held i)
+    → (i + 3 ≤ count_held (held (suc i))) × (count_held (held (suc i)) ≤ 64)
 held_next held ends count i steps h before =
     let more = grown_more (held i) (held (i + 1)) (ends i) (steps.each i (omega arith)) (steps.growing i (omega arith)) in
     let same : count_held (held (i + 1)) ≡ count_held (held (suc i)) = ap (λ (k : ℕ). count_held (held k)) (add-one i) in

@@ -14,16 +14,18 @@ use Rattle.sim_game.specs.declared.Side.TheVariants.{One, Two}
 use Rattle.sim_game.specs.Model.{GameModel}
 use Rattle.sim_game.specs.Sides.{other_side, IsNoTighter, move_of_one, move_of_two}
 use Rattle.plan_book.specs.Steps.{cell, worth}
-use Rattle.matrix_game.specs.Grid.{IsSmall}
+use Rattle.matrix_game.specs.Grid.{IsSmallCell}
 use Rattle.best_reply.specs.Replies.{IsBestReply, cell_in, worth_in}
+use Rattle.restricted_game.specs.declared.table.Cells.{Cells}
+use Rattle.restricted_game.specs.declared.plans.SidePlan.{SidePlan}
 use Rattle.restricted_game.specs.declared.table.Table.{Table}
 use Rattle.restricted_game.specs.Held.{AreMoves}
-use Rattle.restricted_game.specs.Runs.{IsSpread, IsHeldGrid}
-use Rattle.restricted_game.specs.Tables.{HasShape, cells_in, numbers_in, pair_cell, held_grid}
+use Rattle.restricted_game.specs.Runs.{IsSpreadOver, IsPlan, IsHeldGrid}
+use Rattle.restricted_game.specs.Tables.{HasShape, AreCells, IsCellPlan, cells_in, numbers_in, pair_cell, held_grid}
 
 -- ---- weights
 -- the plan sums to the total
-pub spread_total : (n total : ℕ) (held weights full : List ℕ) → IsSpread n held weights full → sum weights ≡ total → sum full ≡ total
+pub spread_total : (n total : ℕ) (held weights full : List ℕ) → IsSpreadOver n held weights full → sum weights ≡ total → sum full ≡ total
 spread_total n total held weights full spread all =
     let left : sum_below n (λ a. pos (slice_index full a) *ℤ pos 1) ≡ pos (sum full) *ℤ pos 1 =
     sum_weights n (slice_index full) (pos 1) ∙ ap (λ (k : ℕ). pos k *ℤ pos 1) (ap (λ (k : ℕ). count_below k (λ i. get_or full i 0)) (sym spread.each) ∙ count_list full) in
@@ -45,30 +47,31 @@ cells_at : {S : Type 0} (m : GameModel S) (side : Side) (s : S) (table : Table) 
 cells_at m side s table one two p q =
     let place = one * table.width + two in
     let same = same_from_place (place / table.width) (place % table.width) one two table.width (mod-lt place (omega arith)) q (div-add-mod' place table.width) in
-    get_or-map-range_with_len (λ place. pair_cell m side s table (place / table.width) (place % table.width)) 0 (table.height * table.width) place place (pos 0) (omega (arith, mul-add-lt one table.width two table.height p q)) (omega arith)
+    get_or-map-range_with_len (λ place. pair_cell m side s table (place / table.width) (place % table.width)) 0
+    (table.height * table.width) place place (pos 0) (omega (arith, mul-add-lt one table.width two table.height p q)) (omega arith)
     ∙ ap (λ (n : ℕ). pair_cell m side s table n (place % table.width)) same.0 ∙ ap (λ (n : ℕ). pair_cell m side s table one n) same.1
 
-pub cells_length : {S : Type 0} (m : GameModel S) (side : Side) (s : S) (table : Table) (cells : List ℤ) → cells ≡ cells_in m side s table → length cells ≡ table.height * table.width
-cells_length m side s table cells e = ap (λ (l : List ℤ). length l) e ∙ length-map-range_with_len _ 0 (table.height * table.width)
-
 -- what weights are worth in the cells of the table is what they are worth over its numbers
-pub worth_cells : {S : Type 0} (m : GameModel S) (side : Side) (s : S) (table : Table) (plan : List ℕ) (reply : ℕ) → HasShape m s table → length plan ≡ m.moves side s → reply < m.moves (other_side side) s
+pub worth_cells : {S : Type 0} (m : GameModel S) (side : Side) (s : S) (table : Table) (plan : List ℕ) (reply : ℕ) → HasShape m s table
+    → length plan ≡ m.moves side s → reply < m.moves (other_side side) s
     → worth_in side (cells_in m side s table) table.width plan reply ≡ worth m side s plan (numbers_in side table) reply
 worth_cells m side s table plan reply shape each q =
     sum_same (length plan) _ _ (λ own p. ap (λ (z : ℤ). pos (slice_index plan own) *ℤ z) (cell_is side own reply (rw (← each) p) q))
     ∙ ap (λ (n : ℕ). sum_below n (λ own. pos (slice_index plan own) *ℤ cell m side s (numbers_in side table) own reply)) each
   where
-    cell_is : (side : Side) (own reply : ℕ) → own < m.moves side s → reply < m.moves (other_side side) s → cell_in side (cells_in m side s table) table.width own reply ≡ cell m side s (numbers_in side table) own reply
+    cell_is : (side : Side) (own reply : ℕ) → own < m.moves side s → reply < m.moves (other_side side) s
+        → cell_in side (cells_in m side s table) table.width own reply ≡ cell m side s (numbers_in side table) own reply
     cell_is One own reply p q = cells_at m One s table own reply (rw shape.height p) (rw shape.width q)
     cell_is Two own reply p q = cells_at m Two s table reply own (rw shape.height q) (rw shape.width p)
 
-cell_light : (cells : List ℤ) (place : ℕ) → All IsSmall cells → unsigned_abs (slice_index_or cells place (pos 0)) ≤ 4000000000
+cell_light : (cells : List ℤ) (place : ℕ) → All IsSmallCell cells → unsigned_abs (slice_index_or cells place (pos 0)) ≤ 4000000000
 cell_light cells place small = ⊎_elim (λ (lt : place < length cells). small place (pos 0) lt)
     (λ (ge : length cells ≤ place). rw (get_or_past cells place (pos 0) ge) (omega arith))
     (cases_lt place (length cells))
 
 -- what weights are worth is no further from 0 than their sum allows
-pub worth_low : (side : Side) (cells : List ℤ) (width total : ℕ) (plan : List ℕ) (reply : ℕ) → All IsSmall cells → sum plan ≡ total → neg_ℤ (pos (total * 4000000000)) ≤ℤ worth_in side cells width plan reply
+pub worth_low : (side : Side) (cells : List ℤ) (width total : ℕ) (plan : List ℕ) (reply : ℕ) → All IsSmallCell cells → sum plan ≡ total
+    → neg_ℤ (pos (total * 4000000000)) ≤ℤ worth_in side cells width plan reply
 worth_low side cells width total plan reply small all =
     let each : sum_below (length plan) (λ own. pos (slice_index plan own) *ℤ neg_ℤ (pos 4000000000)) ≤ℤ worth_in side cells width plan reply =
     sum_mono (length plan) _ _ (λ own p. times_mono (slice_index plan own) (neg_ℤ (pos 4000000000)) _ (let l = light side own in omega (arith, ints))) in
@@ -81,7 +84,8 @@ worth_low side cells width total plan reply small all =
 
 -- ---- replies
 -- a best reply is one by equal worths
-pub reply_same : (side : Side) (f g : ℕ → ℤ) (n : ℕ) (held : List ℕ) (place : ℕ) (worst : ℤ) (fresh : Bool) → ((reply : ℕ) → reply < n → f reply ≡ g reply) → IsBestReply side f n held place worst fresh → IsBestReply side g n held place worst fresh
+pub reply_same : (side : Side) (f g : ℕ → ℤ) (n : ℕ) (held : List ℕ) (place : ℕ) (worst : ℤ) (fresh : Bool)
+    → ((reply : ℕ) → reply < n → f reply ≡ g reply) → IsBestReply side f n held place worst fresh → IsBestReply side g n held place worst fresh
 reply_same side f g n held place worst fresh same best = record {
   place_in = best.place_in;
   worth = best.worth ∙ same place best.place_in;
@@ -104,7 +108,8 @@ other_count m One s = refl
 other_count m Two s = refl
 
 -- a best reply in the cells of a table is one over its numbers
-pub table_reply : {S : Type 0} (m : GameModel S) (side : Side) (s : S) (table : Table) (cells : List ℤ) (plan read others : List ℕ) (place : ℕ) (worst : ℤ) (fresh : Bool) → HasShape m s table → length plan ≡ m.moves side s
+pub table_reply : {S : Type 0} (m : GameModel S) (side : Side) (s : S) (table : Table) (cells : List ℤ) (plan read others : List ℕ) (place : ℕ) (worst : ℤ) (fresh : Bool)
+    → HasShape m s table → length plan ≡ m.moves side s
     → cells ≡ cells_in m side s table → read ≡ plan → IsBestReply side (worth_in side cells table.width read) (move_of_two side table.height table.width) others place worst fresh
     → IsBestReply side (worth m side s plan (numbers_in side table)) (m.moves (other_side side) s) others place worst fresh
 table_reply m side s table cells plan read others place worst fresh shape each is_cells is_read best =
@@ -114,8 +119,27 @@ table_reply m side s table cells plan read others place worst fresh shape each i
     (subst (λ (l : List ℕ). IsBestReply side (worth_in side (cells_in m side s table) table.width l) (move_of_two side table.height table.width) others place worst fresh) is_read
     (subst (λ (l : List ℤ). IsBestReply side (worth_in side l table.width read) (move_of_two side table.height table.width) others place worst fresh) is_cells best)))
 
+-- a plan over the cells of a table is one over its numbers
+pub cell_plan_is : {S : Type 0} (m : GameModel S) (side : Side) (s : S) (table : Table) (cells : Cells) (total : ℕ) (own others weights : List ℕ) (plan : SidePlan)
+    → HasShape m s table → AreCells m side s table cells
+    → IsCellPlan side total cells own others weights plan → IsPlan m side s total own others weights (numbers_in side table) plan.weights.items plan.bound plan.fresh
+cell_plan_is m side s table cells total own others weights plan shape are planned =
+    let owns : move_of_one side cells.height cells.width ≡ m.moves side s = rw (are.height, are.width, shape.height, shape.width) (own_count m side s) in
+    let spread : IsSpreadOver (m.moves side s) own weights plan.weights.items = subst (λ (n : ℕ). IsSpreadOver n own weights plan.weights.items) owns planned.spread in
+    let best = rw (are.height, are.width) at planned.is_best in
+    record {
+      spread = spread;
+      reply = planned.reply;
+      sum = planned.sum;
+      is_fresh = planned.is_fresh;
+      is_best = table_reply m side s table cells.items.items plan.weights.items plan.weights.items others planned.reply planned.sum planned.is_fresh shape spread.each are.items refl best;
+      bound_is = planned.bound_is;
+      fresh_is = planned.fresh_is;
+    }
+
 -- ---- the game on the held moves
-pub held_grid_is : {S : Type 0} (m : GameModel S) (s : S) (table : Table) (cells : List ℤ) (rows cols : List ℕ) → HasShape m s table → AreMoves (m.moves One s) rows → AreMoves (m.moves Two s) cols → cells ≡ cells_in m One s table
+pub held_grid_is : {S : Type 0} (m : GameModel S) (s : S) (table : Table) (cells : List ℤ) (rows cols : List ℕ) → HasShape m s table
+    → AreMoves (m.moves One s) rows → AreMoves (m.moves Two s) cols → cells ≡ cells_in m One s table
     → IsHeldGrid m s rows cols (numbers_in One table) (held_grid cells table.width rows cols)
 held_grid_is m s table cells rows cols shape held_rows held_cols is_cells = record {
   all_rows = refl;
@@ -124,7 +148,9 @@ held_grid_is m s table cells rows cols shape held_rows held_cols is_cells = reco
   cells = λ i j p q.
       let place = i * length cols + j in
       let same = same_from_place (place / length cols) (place % length cols) i j (length cols) (mod-lt place (omega arith)) q (div-add-mod' place (length cols)) in
-      get_or-map-range_with_len (λ place. slice_index_or cells (slice_index rows (place / length cols) * table.width + slice_index cols (place % length cols)) (pos 0)) 0 (length rows * length cols) place place (pos 0)
+      get_or-map-range_with_len
+      (λ place. slice_index_or cells (slice_index rows (place / length cols) * table.width + slice_index cols (place % length cols)) (pos 0)) 0
+      (length rows * length cols) place place (pos 0)
       (omega (arith, mul-add-lt i (length cols) j (length rows) p q)) (omega arith)
       ∙ ap (λ (n : ℕ). slice_index_or cells (slice_index rows n * table.width + slice_index cols (place % length cols)) (pos 0)) same.0
       ∙ ap (λ (n : ℕ). slice_index_or cells (slice_index rows i * table.width + slice_index cols n) (pos 0)) same.1

@@ -37,5 +37,6 @@ posted_earlier t u e old new later (posts tight joins) = posts (tighter_than e.s
 posted_earlier t u e old new later (passes same) = passes same
 
 -- one post after another
-pub lawful_after : {S G N : Type 0} (m : GameModel S) (u v w : BoardView G N) → IsLater u v → Grows (IsLawfulEntry m u.total) u.entries v.entries → Grows (IsLawfulEntry m v.total) v.entries w.entries → Grows (IsLawfulEntry m u.total) u.entries w.entries
+pub lawful_after : {S G N : Type 0} (m : GameModel S) (u v w : BoardView G N) → IsLater u v → Grows (IsLawfulEntry m u.total) u.entries v.entries
+    → Grows (IsLawfulEntry m v.total) v.entries w.entries → Grows (IsLawfulEntry m u.total) u.entries w.entries
 lawful_after m u v w later p q = grows_after (IsLawfulEntry m u.total) u.entries v.entries w.entries p (subst (λ (n : ℕ). Grows (IsLawfulEntry m n) v.entries w.entries) later.total q)

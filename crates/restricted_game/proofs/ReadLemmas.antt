@@ -43,9 +43,11 @@ seen_in v One e key read = read.lower_seen
 seen_in v Two e key read = read.upper_seen
 
 -- what is read at a state's row
-pub row_read : {S G N : Type 0} (m : GameModel S) (u v w : BoardView G N) (t : S) (row : ℕ) (e : Enclosure) → IsLater u v → IsLater v w → IsRowOf m v t row → IsRead w e.lower e.upper (m.key t) → IsEnclosure m e.lower e.upper t → AreRead m u w t e
+pub row_read : {S G N : Type 0} (m : GameModel S) (u v w : BoardView G N) (t : S) (row : ℕ) (e : Enclosure) → IsLater u v → IsLater v w
+    → IsRowOf m v t row → IsRead w e.lower e.upper (m.key t) → IsEnclosure m e.lower e.upper t → AreRead m u w t e
 row_read m u v w t row e earlier later is seen enclosed = record { number = both } where
-  number : (side : Side) (x : ℤ) → IsBacked m side t x → IsNoTighter side (opening_bound m side) x → IsNoTighter side x (opening_bound m (other_side side)) → x ≡ w.seen side (m.key t) → IsReadNumber m u w side t x
+  number : (side : Side) (x : ℤ) → IsBacked m side t x → IsNoTighter side (opening_bound m side) x
+      → IsNoTighter side x (opening_bound m (other_side side)) → x ≡ w.seen side (m.key t) → IsReadNumber m u w side t x
   number side x backed low high at = record {
     backed = backed;
     low = low;
@@ -96,5 +98,7 @@ read_child_leads m s rows cols t child =
     (leads_turn m s (record { one = child.one; two = child.two; draw = child.drawn.draw }) _
     (record { one_below = child.one_below; two_below = child.two_below; draw_below = child.drawn.draw_below }) (leads_none m _))
 
-pub child_reachable : {S : Type 0} (m : GameModel S) (s : S) (one two draw : ℕ) (t : S) → t ≡ m.drawn s one two draw → Reachable m s → one < m.moves One s → two < m.moves Two s → draw < m.draws s one two → Reachable m t
-child_reachable m s one two draw t e r p q l = subst (Reachable m) (sym e) (reachable_turn m s (record { one = one; two = two; draw = draw }) r (record { one_below = p; two_below = q; draw_below = l }))
+pub child_reachable : {S : Type 0} (m : GameModel S) (s : S) (one two draw : ℕ) (t : S) → t ≡ m.drawn s one two draw → Reachable m s
+    → one < m.moves One s → two < m.moves Two s → draw < m.draws s one two → Reachable m t
+child_reachable m s one two draw t e r p q l =
+    subst (Reachable m) (sym e) (reachable_turn m s (record { one = one; two = two; draw = draw }) r (record { one_below = p; two_below = q; draw_below = l }))

@@ -17,6 +17,7 @@ use Rattle.plan_book.specs.Steps.{cell, worth}
 use Rattle.matrix_game.specs.Grid.{IsSpread as IsCellSpread, column_sum, row_sum, row_floor, col_ceiling}
 use Rattle.matrix_game.proofs.FirstLemmas.{first_least-le, first_greatest-le}
 use Rattle.bounds_board.specs.Views.{BoardView}
+use Rattle.matrix_game.specs.declared.solver.StageSolver.{StageSolver}
 use Rattle.restricted_game.specs.Held.{HeldMoves, AreMoves}
 use Rattle.restricted_game.specs.Gaps.{AreClose, IsStepClose, step_gap}
 use Rattle.restricted_game.specs.Runs.{IsStepRun}
@@ -31,8 +32,8 @@ not_fresh : (fresh : Bool) (place : ℕ) → None ≡ then_some fresh place → 
 not_fresh true place e = absurd (cc)
 not_fresh false place e = refl
 
-module _ {S G N : Type 0} (m : GameModel S) (game : IsGame m) (u v : BoardView G N) (s : S) (reach : Reachable m s) (enough : 8192 ≤ u.total) (h : HeldMoves) (lower upper : ℤ)
-    (run : IsStepRun m u v s h.rows h.cols None None lower upper) (held_rows : AreMoves (m.moves One s) h.rows) (held_cols : AreMoves (m.moves Two s) h.cols) where
+module _ {S G N : Type 0} (m : GameModel S) (game : IsGame m) (u v : BoardView G N) (s : S) (reach : Reachable m s) (enough : 8192 ≤ u.total) (h : HeldMoves) {solver : StageSolver} (lower upper : ℤ)
+    (run : IsStepRun m u v solver s h.rows h.cols None None lower upper) (held_rows : AreMoves (m.moves One s) h.rows) (held_cols : AreMoves (m.moves Two s) h.cols) where
   abbrev total : ℕ
   total = u.total
 
@@ -102,7 +103,8 @@ module _ {S G N : Type 0} (m : GameModel S) (game : IsGame m) (u v : BoardView G
     cell_gap = gap + cond m.chance_free 0 1
 
     -- the numbers of a state after held moves are as close as its bounds were
-    numbers_close : (i j draw : ℕ) → i < length h.rows → j < length h.cols → draw < m.draws s (row i) (col j) → run.two.numbers (col j) (row i) draw ≤ℤ (run.one.numbers (row i) (col j) draw +ℤ pos gap)
+    numbers_close : (i j draw : ℕ) → i < length h.rows → j < length h.cols → draw < m.draws s (row i) (col j)
+        → run.two.numbers (col j) (row i) draw ≤ℤ (run.one.numbers (row i) (col j) draw +ℤ pos gap)
     numbers_close i j draw p q r =
         let held_row = Contains-get_or h.rows i 0 p in
         let held_col = Contains-get_or h.cols j 0 q in
@@ -129,16 +131,17 @@ module _ {S G N : Type 0} (m : GameModel S) (game : IsGame m) (u v : BoardView G
       by_chance true e = subst (λ (n : ℕ). high_cell i j ≤ℤ (low_cell i j +ℤ pos n)) (omega arith)
           (one_cell_close (m.draws s (row i) (col j)) (m.chance s (row i) (col j)) all (run.one.numbers (row i) (col j)) (run.two.numbers (col j) (row i)) gap (λ d r. numbers_close i j d p q r)
           (game.one_draw s (row i) (col j) e reach (row_in i p) (col_in j q)))
-      by_chance false e = cells_close (m.draws s (row i) (col j)) (m.chance s (row i) (col j)) all (run.one.numbers (row i) (col j)) (run.two.numbers (col j) (row i)) gap (λ d r. numbers_close i j d p q r)
+      by_chance false e = cells_close (m.draws s (row i) (col j)) (m.chance s (row i) (col j)) all (run.one.numbers (row i) (col j))
+          (run.two.numbers (col j) (row i)) gap (λ d r. numbers_close i j d p q r)
 
     -- ---- the sums of the replies
     -- with no fresh column the lower sum is what the weights secure in the grid
     low_secured : row_floor run.grid run.row_weights ≤ℤ run.one.planned.sum
     low_secured =
         let one = run.one.planned in
-        let at = place_in h.cols one.place (one.reply.old (not_fresh one.is_fresh one.place one.fresh_is)) in
+        let at = place_in h.cols one.reply (one.is_best.old (not_fresh one.is_fresh one.reply one.fresh_is)) in
         let inside : at.0 < run.grid.cols = subst (λ (n : ℕ). at.0 < n) (sym run.is_grid.all_cols) at.1 in
-        subst (λ (z : ℤ). row_floor run.grid run.row_weights ≤ℤ z) (sym (one.reply.worth ∙ ap (λ (b : ℕ). worth m One s run.one.plan run.one.numbers b) (sym at.2) ∙ column_worth at.0 at.1))
+        subst (λ (z : ℤ). row_floor run.grid run.row_weights ≤ℤ z) (sym (one.is_best.worth ∙ ap (λ (b : ℕ). worth m One s run.one.plan run.one.numbers b) (sym at.2) ∙ column_worth at.0 at.1))
         (first_least-le run.grid.cols (column_sum run.grid run.row_weights) at.0 inside)
       where
         column_worth : (j : ℕ) → j < length h.cols → worth m One s run.one.plan run.one.numbers (col j) ≡ column_sum run.grid run.row_weights j
@@ -151,12 +154,13 @@ module _ {S G N : Type 0} (m : GameModel S) (game : IsGame m) (u v : BoardView G
     high_conceded : run.two.planned.sum ≤ℤ (col_ceiling run.grid run.col_weights +ℤ pos total *ℤ pos cell_gap)
     high_conceded =
         let two = run.two.planned in
-        let at = place_in h.rows two.place (two.reply.old (not_fresh two.is_fresh two.place two.fresh_is)) in
+        let at = place_in h.rows two.reply (two.is_best.old (not_fresh two.is_fresh two.reply two.fresh_is)) in
         let inside : at.0 < run.grid.rows = subst (λ (n : ℕ). at.0 < n) (sym run.is_grid.all_rows) at.1 in
         let most = first_greatest-le run.grid.rows (row_sum run.grid run.col_weights) at.0 inside in
-        let same = two.reply.worth ∙ ap (λ (a : ℕ). worth m Two s run.two.plan run.two.numbers a) (sym at.2) ∙ two.spread.sums (λ b. cell m Two s run.two.numbers b (row at.0))
+        let same = two.is_best.worth ∙ ap (λ (a : ℕ). worth m Two s run.two.plan run.two.numbers a) (sym at.2) ∙ two.spread.sums (λ b. cell m Two s run.two.numbers b (row at.0))
         ∙ ap (λ (n : ℕ). sum_below n (λ j. pos (slice_index run.col_weights j) *ℤ high_cell at.0 j)) run.stage.cols.each in
-        let near = sums_close run.grid.cols (slice_index run.col_weights) total weights_all (low_cell at.0) (high_cell at.0) cell_gap (λ j q. held_cells_close at.0 j at.1 (subst (λ (n : ℕ). j < n) run.is_grid.all_cols q)) in
+        let near = sums_close run.grid.cols (slice_index run.col_weights) total weights_all (low_cell at.0) (high_cell at.0) cell_gap
+        (λ j q. held_cells_close at.0 j at.1 (subst (λ (n : ℕ). j < n) run.is_grid.all_cols q)) in
         last _ _ _ _ _ (pos total *ℤ pos cell_gap) same near (row_grid at.0 at.1) most
       where
         weights_all : count_below run.grid.cols (slice_index run.col_weights) ≡ total

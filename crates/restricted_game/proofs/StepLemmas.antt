@@ -16,6 +16,7 @@ use Rattle.plan_book.proofs.BackedLemmas.{backed_within}
 use Rattle.plan_book.proofs.GuaranteeLemmas.{chances}
 use Rattle.bounds_board.specs.Views.{BoardView, IsLater, IsPostable}
 use Rattle.bounds_board.proofs.ViewLemmas.{later_refl}
+use Rattle.matrix_game.specs.declared.solver.StageSolver.{StageSolver}
 use Rattle.restricted_game.specs.declared.plans.Plans.{Plans}
 use Rattle.restricted_game.specs.declared.table.Table.{Table}
 use Rattle.restricted_game.specs.Numbers.{IsReadNumber, IsWanted}
@@ -27,11 +28,13 @@ use Rattle.restricted_game.proofs.PostLemmas.{posted_earlier}
 use Rattle.restricted_game.proofs.ReadLemmas.{number_between, number_seen}
 use Rattle.restricted_game.proofs.TableLemmas.{one_read, two_read}
 
-in_range : {S : Type 0} (m : GameModel S) (side : Side) (x : ℤ) → IsNoTighter side (opening_bound m side) x → IsNoTighter side x (opening_bound m (other_side side)) → IsNoTighter One (opening_bound m One) x × IsNoTighter Two (opening_bound m Two) x
+in_range : {S : Type 0} (m : GameModel S) (side : Side) (x : ℤ) → IsNoTighter side (opening_bound m side) x
+    → IsNoTighter side x (opening_bound m (other_side side)) → IsNoTighter One (opening_bound m One) x × IsNoTighter Two (opening_bound m Two) x
 in_range m One x p q = (p, q)
 in_range m Two x p q = (q, p)
 
-module _ {S G N : Type 0} (m : GameModel S) (game : IsGame m) (s : S) (reach : Reachable m s) (goes_on : 1 ≤ m.rank s) (u v : BoardView G N) (side : Side) (total : ℕ) (some : 1 ≤ total) (own others weights : List ℕ) (all : sum weights ≡ total)
+module _ {S G N : Type 0} (m : GameModel S) (game : IsGame m) (s : S) (reach : Reachable m s) (goes_on : 1 ≤ m.rank s) (u v : BoardView G N)
+    (side : Side) (total : ℕ) (some : 1 ≤ total) (own others weights : List ℕ) (all : sum weights ≡ total)
     (numbers : ℕ → ℕ → ℕ → ℤ) (plan : List ℕ) (bound : ℤ) (fresh : Option ℕ) (planned : IsPlan m side s total own others weights numbers plan bound fresh)
     (read : (move other draw : ℕ) → move < m.moves side s → other < m.moves (other_side side) s → IsWanted own others move other → draw < draws_of m side s move other
     → IsReadNumber m u v side (child_of m side s move other draw) (numbers move other draw)) where
@@ -39,7 +42,8 @@ module _ {S G N : Type 0} (m : GameModel S) (game : IsGame m) (s : S) (reach : R
   plan_sums = spread_total (m.moves side s) total own weights plan planned.spread all
 
   -- a move of positive weight is held
-  weighted_read : (move other draw : ℕ) → move < m.moves side s → other < m.moves (other_side side) s → draw < draws_of m side s move other → 1 ≤ slice_index plan move → IsReadNumber m u v side (child_of m side s move other draw) (numbers move other draw)
+  weighted_read : (move other draw : ℕ) → move < m.moves side s → other < m.moves (other_side side) s → draw < draws_of m side s move other
+      → 1 ≤ slice_index plan move → IsReadNumber m u v side (child_of m side s move other draw) (numbers move other draw)
   weighted_read move other draw p q t w = read move other draw p q (inl (planned.spread.elsewhere move w)) t
 
   -- the bound is what the plan proves against each reply
@@ -51,7 +55,7 @@ module _ {S G N : Type 0} (m : GameModel S) (game : IsGame m) (s : S) (reach : R
     some = some;
     proves = λ reply q. looser_trans side _ planned.sum _
         (looser_left side _ _ _ (ap (λ (z : ℤ). pos total *ℤ z) (sym planned.bound_is)) (looser_quotient side total planned.sum some))
-        (planned.reply.least reply q);
+        (planned.is_best.least reply q);
   }
 
   -- it is no looser than what holds of every state
@@ -60,10 +64,11 @@ module _ {S G N : Type 0} (m : GameModel S) (game : IsGame m) (s : S) (reach : R
       let weights_are : count_below (m.moves side s) (slice_index plan) ≡ total = ap (λ (n : ℕ). count_below n (λ i. get_or plan i 0)) (sym planned.spread.each) ∙ count_list plan ∙ plan_sums in
       looser_right side _ _ _ (sym planned.bound_is) (quotient_tightest side total planned.sum (opening_bound m side) some
       (looser_left side _ _ _ (sum_weights (m.moves side s) (slice_index plan) (opening_bound m side) ∙ ap (λ (n : ℕ). pos n *ℤ opening_bound m side) weights_are)
-      (looser_right side _ _ _ (sym planned.reply.worth)
+      (looser_right side _ _ _ (sym planned.is_best.worth)
       (looser_sum side (m.moves side s) _ _ (λ move p. looser_weighted side (slice_index plan move) _ _ (λ w.
-      mean_from side (draws_of m side s move planned.place) (chance_of m side s move planned.place) (chances m game side s move planned.place reach p planned.reply.place_in) (numbers move planned.place) (opening_bound m side)
-      (λ d t. (weighted_read move planned.place d p planned.reply.place_in t w).low)))))))
+      mean_from side (draws_of m side s move planned.reply) (chance_of m side s move planned.reply)
+      (chances m game side s move planned.reply reach p planned.is_best.place_in) (numbers move planned.reply) (opening_bound m side)
+      (λ d t. (weighted_read move planned.reply d p planned.is_best.place_in t w).low)))))))
 
   bound_high : IsNoTighter side bound (opening_bound m (other_side side))
   bound_high = backed_within m game side s bound reach (by_step s bound total plan numbers plan_step (λ move other draw p q t w. (weighted_read move other draw p q t w).backed))
@@ -92,34 +97,40 @@ module _ {S G N : Type 0} (m : GameModel S) (game : IsGame m) (s : S) (reach : R
   }
 
 -- ---- both sides
-module _ {S G N : Type 0} (m : GameModel S) (game : IsGame m) (s : S) (reach : Reachable m s) (goes_on : 1 ≤ m.rank s) {u v : BoardView G N} {total : ℕ} (is_total : total ≡ u.total) (low : 8192 ≤ total) {rows cols : List ℕ} {table : Table} {plans : Plans}
-    (read : IsLater u v) (filled : IsFilled m u v s rows cols table) (are_plans : ArePlans m s total rows cols table plans) where
+module _ {S G N : Type 0} (m : GameModel S) (game : IsGame m) (s : S) (reach : Reachable m s)
+    (goes_on : 1 ≤ m.rank s) {u v : BoardView G N} {total : ℕ} (is_total : total ≡ u.total) (low : 8192 ≤ total) {solver : StageSolver} {rows cols : List ℕ} {table : Table} {plans : Plans}
+    (read : IsLater u v) (filled : IsFilled m u v s rows cols table) (are_plans : ArePlans m solver s total rows cols table plans) where
   some : 1 ≤ u.total
   some = omega (arith, low, is_total)
 
-  planned : ArePlans m s u.total rows cols table plans
-  planned = subst (λ (n : ℕ). ArePlans m s n rows cols table plans) is_total are_plans
+  planned : ArePlans m solver s u.total rows cols table plans
+  planned = subst (λ (n : ℕ). ArePlans m solver s n rows cols table plans) is_total are_plans
 
   pub one_postable : IsPostable m v (side_entry m One s table plans.one)
   one_postable =
-      plan_postable m game s reach goes_on u v One u.total some rows cols planned.row_weights planned.stage.rows.all (numbers_in One table) plans.one.weights.items plans.one.bound plans.one.fresh planned.one
+      plan_postable m game s reach goes_on u v One u.total some rows cols planned.row_weights planned.stage.rows.all
+      (numbers_in One table) plans.one.weights.items plans.one.bound plans.one.fresh planned.one
       (one_read m u v s rows cols table filled) read.total
 
   pub two_postable : IsPostable m v (side_entry m Two s table plans.two)
   two_postable =
-      plan_postable m game s reach goes_on u v Two u.total some cols rows planned.col_weights planned.stage.cols.all (numbers_in Two table) plans.two.weights.items plans.two.bound plans.two.fresh planned.two
+      plan_postable m game s reach goes_on u v Two u.total some cols rows planned.col_weights planned.stage.cols.all
+      (numbers_in Two table) plans.two.weights.items plans.two.bound plans.two.fresh planned.two
       (two_read m u v s rows cols table filled) read.total
 
-  pub step_run : {w : BoardView G N} {row : ℕ} → IsLater v w → v.entries ≡ u.entries → u.key_at row ≡ Some (m.key s) → ArePosted m v w s table plans → IsStepRun m u w s rows cols plans.two.fresh plans.one.fresh plans.one.bound plans.two.bound
+  pub step_run : {w : BoardView G N} {row : ℕ} → IsLater v w → v.entries ≡ u.entries → u.key_at row ≡ Some (m.key s) → ArePosted m v w s table plans
+      → IsStepRun m u w solver s rows cols plans.two.fresh plans.one.fresh plans.one.bound plans.two.bound
   step_run {w} {row} after quiet holds posted = record {
     claimed = record { row = row; holds = after.keys row _ (read.keys row _ holds) };
     grid = planned.grid;
     row_weights = planned.row_weights;
     col_weights = planned.col_weights;
     stage = planned.stage;
-    one = side_run m game s reach goes_on u v One u.total some rows cols planned.row_weights planned.stage.rows.all (numbers_in One table) plans.one.weights.items plans.one.bound plans.one.fresh planned.one
+    one = side_run m game s reach goes_on u v One u.total some rows cols planned.row_weights planned.stage.rows.all
+        (numbers_in One table) plans.one.weights.items plans.one.bound plans.one.fresh planned.one
         (one_read m u v s rows cols table filled) w after posted.one_seen;
-    two = side_run m game s reach goes_on u v Two u.total some cols rows planned.col_weights planned.stage.cols.all (numbers_in Two table) plans.two.weights.items plans.two.bound plans.two.fresh planned.two
+    two = side_run m game s reach goes_on u v Two u.total some cols rows planned.col_weights planned.stage.cols.all
+        (numbers_in Two table) plans.two.weights.items plans.two.bound plans.two.fresh planned.two
         (two_read m u v s rows cols table filled) w after posted.two_seen;
     is_grid = planned.is_grid;
     between = posted.between;

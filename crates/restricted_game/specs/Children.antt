@@ -5,7 +5,7 @@ use Rattle.sim_game.specs.declared.Side.TheVariants.{One, Two}
 use Rattle.sim_game.specs.Model.{GameModel, IsEnd}
 use Rattle.sim_game.specs.Sides.{IsNoTighter, opening_bound}
 use Rattle.bounds_board.specs.Views.{BoardView}
-use Rattle.restricted_game.specs.Tables.{IsStride, place_of}
+use Rattle.restricted_game.specs.Tables.{IsStride, draw_index}
 
 -- how many moves Two has, how many draws a pair of moves has room for, and the known rows, one place a draw
 pub record KeptRows : Type 0 where
@@ -39,4 +39,4 @@ pub record HasNoRows {S : Type 0} (m : GameModel S) (s : S) (children : KeptRows
 pub record AreChildRows {S G N : Type 0} (m : GameModel S) (v : BoardView G N) (s : S) (children : KeptRows) : Type 0 where
   pub places : HasPlaces m s children
   pub each : (one two draw row : ℕ) → one < m.moves One s → two < m.moves Two s → draw < m.draws s one two
-      → slice_index_or children.rows (place_of children.width children.stride one two draw) None ≡ Some row → IsRowOf m v (m.drawn s one two draw) row
+      → slice_index_or children.rows (draw_index children.width children.stride one two draw) None ≡ Some row → IsRowOf m v (m.drawn s one two draw) row

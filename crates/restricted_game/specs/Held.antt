@@ -25,6 +25,11 @@ pub record IsHolding (h : HeldMoves) : Type 0 where
   pub few_rows : h.most_rows ≤ 32
   pub few_cols : h.most_cols ≤ 32
 
+-- each move of both sides is held
+pub record HoldsAll (h : HeldMoves) : Type 0 where
+  pub rows : length h.rows ≡ h.most_rows
+  pub cols : length h.cols ≡ h.most_cols
+
 -- how many moves are held
 abbrev pub count_held : HeldMoves → ℕ
 count_held h = length h.rows + length h.cols

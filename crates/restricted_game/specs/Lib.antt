@@ -5,3 +5,4 @@ pub mod Numbers
 pub mod Runs
 pub mod Sizes
 pub mod Tables
+pub mod Turns

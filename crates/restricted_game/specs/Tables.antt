@@ -1,27 +1,31 @@
 -- Tables of what a step reads, one place a draw, pair of moves by pair of moves, row by row; and lists that are made from them.
-use Rattle.std.specs.Prelude.{◌≡◌, ℕ, ◌+◌, ◌*◌, ◌/◌, ◌%◌, ◌<◌, ◌≤◌, ℤ, pos, ◌*ℤ◌, List, length, map, slice_index, slice_index_or}
+use Rattle.std.specs.Prelude.{◌≡◌, Bool, ℕ, ◌+◌, ◌*◌, ◌/◌, ◌%◌, ◌<◌, ◌≤◌, ℤ, pos, ◌*ℤ◌, List, length, map, slice_index, slice_index_or}
+use Rattle.std.specs.Bool.{then_some}
 use Rattle.std.specs.List.{range_with_len}
 use Rattle.sums.specs.Sums.{sum_below}
 use Rattle.sim_game.specs.declared.Side.{Side}
 use Rattle.sim_game.specs.declared.Side.TheVariants.{One, Two}
 use Rattle.sim_game.specs.Model.{GameModel, Reachable}
-use Rattle.sim_game.specs.Sides.{IsNoTighter, move_of_one, move_of_two}
+use Rattle.sim_game.specs.Sides.{IsNoTighter, move_of_one, move_of_two, quotient}
 use Rattle.plan_book.specs.declared.Entry.{Entry}
 use Rattle.plan_book.specs.Entries.{reads_of}
 use Rattle.plan_book.specs.Steps.{rounded}
+use Rattle.matrix_game.specs.declared.solver.StageSolver.{StageSolver}
 use Rattle.matrix_game.specs.Grid.{Grid}
+use Rattle.best_reply.specs.Replies.{IsBestReply, worth_in}
 use Rattle.bounds_board.specs.declared.bounds.Enclosure.{Enclosure}
 use Rattle.bounds_board.specs.Views.{BoardView, bound_in}
+use Rattle.restricted_game.specs.declared.table.Cells.{Cells}
 use Rattle.restricted_game.specs.declared.plans.Plans.{Plans}
 use Rattle.restricted_game.specs.declared.plans.SidePlan.{SidePlan}
 use Rattle.restricted_game.specs.declared.table.Table.{Table}
 use Rattle.restricted_game.specs.Numbers.{AreRead, IsWanted}
-use Rattle.restricted_game.specs.Runs.{IsHeldGrid, IsHeldStage, IsPlan, IsPosted, entry_at}
+use Rattle.restricted_game.specs.Runs.{IsHeldGrid, IsHeldStage, IsSpreadOver, IsPlan, IsPosted, entry_at}
 
 -- ---- places
 -- where a draw after a pair of moves stands, with so many moves of Two and room for so many draws a pair
-abbrev pub place_of : ℕ → ℕ → ℕ → ℕ → ℕ → ℕ
-place_of width stride one two draw = (one * width + two) * stride + draw
+abbrev pub draw_index : ℕ → ℕ → ℕ → ℕ → ℕ → ℕ
+draw_index width stride one two draw = (one * width + two) * stride + draw
 
 abbrev pub enclosure_at : List Enclosure → ℕ → Enclosure
 enclosure_at enclosures place = slice_index_or enclosures place (record { lower = pos 0; upper = pos 0 })
@@ -34,12 +38,12 @@ pub record IsStride {S : Type 0} (m : GameModel S) (stride : ℕ) : Type 0 where
 
 -- the wanted draws at the first places were read between two views
 pub record AreFilled {S G N : Type 0} (m : GameModel S) (u v : BoardView G N) (s : S) (rows cols : List ℕ) (width stride places : ℕ) (enclosures : List Enclosure) : Type 0 where
-  pub read : (one two draw : ℕ) → one < m.moves One s → two < m.moves Two s → place_of width stride one two draw < places → IsWanted rows cols one two → draw < m.draws s one two
-      → AreRead m u v (m.drawn s one two draw) (enclosure_at enclosures (place_of width stride one two draw))
+  pub read : (one two draw : ℕ) → one < m.moves One s → two < m.moves Two s → draw_index width stride one two draw < places → IsWanted rows cols one two → draw < m.draws s one two
+      → AreRead m u v (m.drawn s one two draw) (enclosure_at enclosures (draw_index width stride one two draw))
 
 -- ---- a whole table
 abbrev pub enclosure_in : Table → ℕ → ℕ → ℕ → Enclosure
-enclosure_in table one two draw = enclosure_at table.enclosures.items (place_of table.width table.stride one two draw)
+enclosure_in table one two draw = enclosure_at table.enclosures.items (draw_index table.width table.stride one two draw)
 
 -- the numbers of a side, by its own move, the other side's and the draw
 abbrev pub numbers_in : Side → Table → ℕ → ℕ → ℕ → ℤ
@@ -53,7 +57,8 @@ pub record HasShape {S : Type 0} (m : GameModel S) (s : S) (table : Table) : Typ
 
 -- each wanted draw was read between two views
 pub record IsFilled {S G N : Type 0} (m : GameModel S) (u v : BoardView G N) (s : S) (rows cols : List ℕ) (table : Table) : Type 0 where
-  pub read : (one two draw : ℕ) → one < m.moves One s → two < m.moves Two s → IsWanted rows cols one two → draw < m.draws s one two → AreRead m u v (m.drawn s one two draw) (enclosure_in table one two draw)
+  pub read : (one two draw : ℕ) → one < m.moves One s → two < m.moves Two s → IsWanted rows cols one two → draw < m.draws s one two
+      → AreRead m u v (m.drawn s one two draw) (enclosure_in table one two draw)
 
 -- ---- cells
 -- the cell of a side at a pair of moves
@@ -73,13 +78,29 @@ held_cells cells width rows cols =
 abbrev pub held_grid : List ℤ → ℕ → List ℕ → List ℕ → Grid
 held_grid cells width rows cols = record { rows = length rows; cols = length cols; cells = held_cells cells width rows cols }
 
+-- the cells of all pairs of moves of a state
+pub record AreCells {S : Type 0} (m : GameModel S) (side : Side) (s : S) (table : Table) (cells : Cells) : Type 0 where
+  pub height : cells.height ≡ table.height
+  pub width : cells.width ≡ table.width
+  pub items : cells.items.items ≡ cells_in m side s table
+
 -- ---- plans
+-- a side's plan over cells: the weights of held moves, the best reply to them, which may be fresh, and the tightest bound that they prove
+pub record IsCellPlan (side : Side) (total : ℕ) (cells : Cells) (own others weights : List ℕ) (plan : SidePlan) : Type 0 where
+  pub spread : IsSpreadOver (move_of_one side cells.height cells.width) own weights plan.weights.items
+  pub reply : ℕ
+  pub sum : ℤ
+  pub is_fresh : Bool
+  pub is_best : IsBestReply side (worth_in side cells.items.items cells.width plan.weights.items) (move_of_two side cells.height cells.width) others reply sum is_fresh
+  pub bound_is : plan.bound ≡ quotient side total sum
+  pub fresh_is : plan.fresh ≡ then_some is_fresh reply
+
 -- the plans of both sides over the numbers of a table, by the weights that solve the game on the held moves
-pub record ArePlans {S : Type 0} (m : GameModel S) (s : S) (total : ℕ) (rows cols : List ℕ) (table : Table) (plans : Plans) : Type 0 where
+pub record ArePlans {S : Type 0} (m : GameModel S) (solver : StageSolver) (s : S) (total : ℕ) (rows cols : List ℕ) (table : Table) (plans : Plans) : Type 0 where
   pub grid : Grid
   pub row_weights : List ℕ
   pub col_weights : List ℕ
-  pub stage : IsHeldStage total grid row_weights col_weights
+  pub stage : IsHeldStage solver total grid row_weights col_weights
   pub is_grid : IsHeldGrid m s rows cols (numbers_in One table) grid
   pub one : IsPlan m One s total rows cols row_weights (numbers_in One table) plans.one.weights.items plans.one.bound plans.one.fresh
   pub two : IsPlan m Two s total cols rows col_weights (numbers_in Two table) plans.two.weights.items plans.two.bound plans.two.fresh

@@ -1,11 +1,11 @@
 //! The cells of pairs of moves.
-ghost use Rattle.std.specs.Prelude.{◌≡◌, ◌*◌, ◌≤◌, ◌<◌, All, length, IfOk, unsigned_abs};
+ghost use Rattle.std.specs.Prelude.{◌≡◌, ◌*◌, ◌≤◌, ◌<◌, All, length, IfOk};
 ghost use Rattle.sim_game.specs.Model.{Reachable};
-ghost use Rattle.matrix_game.specs.Grid.{IsSmall};
+ghost use Rattle.matrix_game.specs.Grid.{IsSmallCell};
 ghost use Rattle.restricted_game.specs.Held.{AreMoves};
-ghost use Rattle.restricted_game.specs.Tables.{HasShape, pair_cell, cells_in, held_cells};
+ghost use Rattle.restricted_game.specs.Tables.{AreCells, HasShape, pair_cell, held_cells};
 
-use crate::table::Table;
+use crate::table::{Cells, Table};
 use sim_game::{CHANCE, Game, NoMemory, Side};
 use std::alloc::Global;
 use sums::weighted;
@@ -18,7 +18,7 @@ fn pair_cell<G: Game>(g: G, s: G::State, side: Side, one: u32, two: u32, table: 
     requires one { one < (G.model g).moves Side.One s }
     requires two { two < (G.model g).moves Side.Two s }
     ensures value { result ≡ pair_cell (G.model g) side s table.now one two }
-    ensures small { IsSmall result }
+    ensures small { IsSmallCell result }
 {
     let mut sum = 0;
     for draw in 0..g.draws(s, one, two) {
@@ -28,53 +28,53 @@ fn pair_cell<G: Game>(g: G, s: G::State, side: Side, one: u32, two: u32, table: 
     side.quotient(sum, CHANCE)
 }
 
-/// The cells of all pairs of moves, row by row.
+/// The cells of all pairs of moves.
 pub(crate) fn cells_of<G: Game>(
     alloc: Global,
     g: G,
     s: G::State,
     side: Side,
     table: &Table,
-) -> Result<Vec<i64>, NoMemory>
+) -> Result<Cells, NoMemory>
     requires reachable { Reachable (G.model g) s }
+    requires goes_on { 1 ≤ (G.model g).rank s }
     requires shape { HasShape (G.model g) s table.now }
-    ensures cells { IfOk result (λ cells. cells.items ≡ cells_in (G.model g) side s table.now) }
-    ensures small { IfOk result (λ cells. All IsSmall cells.items) }
+    ensures { IfOk result (AreCells (G.model g) side s table.now) }
 {
     let pairs = table.height * table.width;
-    let mut cells = Vec::with_capacity(alloc, pairs as usize)?;
+    let mut items = Vec::with_capacity(alloc, pairs as usize)?;
     for pair in 0..pairs {
         let one = pair / table.width;
         let two = pair % table.width;
-        cells.push(pair_cell(g, s, side, one, two, table))?;
+        items.push(pair_cell(g, s, side, one, two, table))?;
     }
-    Ok(cells)
+    Ok(Cells {
+        height: table.height,
+        width: table.width,
+        items,
+    })
 }
 
 /// The cells of held moves, row by row in order of addition.
 pub(crate) fn held_cells(
     alloc: Global,
-    cells: &[i64],
-    height: u32,
-    width: u32,
+    cells: &Cells,
     rows: &[u32],
     cols: &[u32],
 ) -> Result<Vec<i64>, NoMemory>
-    requires rows { AreMoves height rows.now }
-    requires cols { AreMoves width cols.now }
-    requires few_rows { height ≤ 32 }
-    requires few_cols { width ≤ 32 }
-    requires cells { length cells.now ≡ height * width }
-    requires small { All IsSmall cells.now }
-    ensures cells { IfOk result (λ held. held.items ≡ held_cells cells.now width rows.now cols.now) }
-    ensures small { IfOk result (λ held. All IsSmall held.items) }
+    requires rows { AreMoves cells.now.height rows.now }
+    requires cols { AreMoves cells.now.width cols.now }
+    ensures cells { IfOk result (λ held. held.items
+        ≡ held_cells cells.now.items.items cells.now.width rows.now cols.now) }
+    ensures small { IfOk result (λ held. All IsSmallCell held.items) }
 {
+    let items = cells.items.as_slice();
     let count = cols.len();
     let mut held = Vec::with_capacity(alloc, rows.len() * count)?;
     for place in 0..rows.len() * count {
         let row = rows[place / count] as usize;
         let col = cols[place % count] as usize;
-        held.push(cells[row * width as usize + col])?;
+        held.push(items[row * cells.width as usize + col])?;
     }
     Ok(held)
 }

@@ -74,7 +74,8 @@ impl ChildRows {
         ensures entries { (B.view board.new).entries ≡ (B.view board.old).entries }
         ensures row { IfOk result (HasRow (G.model g) (B.view board.new) ((G.model g).drawn s one two draw)) }
         ensures children { AreChildRows (G.model g) (B.view board.new) s self.new }
-        ensures full { OnErr result (IsFull (G.model g) (B.view board.new) ((G.model g).key ((G.model g).drawn s one two draw))) }
+        ensures full { OnErr result (IsFull (G.model g) (B.view board.new)
+            ((G.model g).key ((G.model g).drawn s one two draw))) }
     {
         let pair = one as usize * self.width as usize + two as usize;
         let place = pair * self.stride as usize + draw as usize;

@@ -1,22 +1,26 @@
 //! The moves that a restricted game holds.
-ghost use Rattle.std.specs.Prelude.{◌≡◌, ◌↔◌, ◌⊎◌, ◌≤◌, ◌<◌, ◌∷◌, [], Some, Err, IfOk, OnOk, OnErr, IfSome, vec_len, vec_capacity};
+ghost use Rattle.std.specs.Prelude.{◌≡◌, ◌↔◌, ◌≤◌, ◌<◌, ◌∷◌, [], Some, Err, IfOk, OnErr, IfSome, vec_len, vec_capacity};
+ghost use Rattle.matrix_game.specs.declared.TheConstants.{MOST_MOVES};
+ghost use Rattle.std.specs.List.{range_with_len};
 ghost use Rattle.sim_game.specs.Model.{Reachable};
 ghost use Rattle.plan_book.specs.Books.{Grows};
 ghost use Rattle.plan_book.specs.Entries.{IsLawfulEntry};
-ghost use Rattle.matrix_game.specs.Budget.{left_of, after_turn};
+ghost use Rattle.matrix_game.specs.Budget.{left_of};
+ghost use Rattle.matrix_game.specs.Solvers.{UsesRegret};
 ghost use Rattle.bounds_board.specs.Views.{IsLater, WasFull};
 ghost use Rattle.restricted_game.specs.Children.{AreChildRows};
-ghost use Rattle.restricted_game.specs.Held.{AreMoves, HasGrown, held_after, with_move};
+ghost use Rattle.restricted_game.specs.Held.{AreMoves, HoldsAll, HasGrown, IsGrown, held_after, with_move};
 ghost use Rattle.restricted_game.specs.Gaps.{HasStepGap};
 ghost use Rattle.restricted_game.specs.Numbers.{IsReadChild};
 ghost use Rattle.restricted_game.specs.Runs.{IsStepEnd};
+ghost use Rattle.restricted_game.specs.Turns.{TakesStepTurn};
 
 use crate::children::ChildRows;
-use crate::plans::plan_both;
+use crate::node::Node;
 use crate::posts::post_both;
 use crate::reading::read_table;
-use bounds_board::{BoardFault, Bounds, Row};
-use matrix_game::{StageMemory, Turns};
+use bounds_board::{BoardFault, Bounds};
+use matrix_game::{StageSolver, Turns};
 use sim_game::{Game, NoMemory, Side};
 use std::alloc::Global;
 use std::marker::Model;
@@ -56,9 +60,20 @@ impl Model for Restricted {
 
     ghost Value = { HeldMoves };
 
-    ghost view = { λ r. record { rows = r.rows.items; cols = r.cols.items; most_rows = r.most_rows; most_cols = r.most_cols } };
+    ghost view = { λ r. record {
+      rows = r.rows.items;
+      cols = r.cols.items;
+      most_rows = r.most_rows;
+      most_cols = r.most_cols;
+    } };
 
-    ghost invariant = { λ r. IsHolding (record { rows = r.rows.items; cols = r.cols.items; most_rows = r.most_rows; most_cols = r.most_cols })
+    ghost invariant = { λ r.
+        IsHolding (record {
+          rows = r.rows.items;
+          cols = r.cols.items;
+          most_rows = r.most_rows;
+          most_cols = r.most_cols;
+        })
         × (r.most_rows ≤ vec_capacity r.rows) × (r.most_cols ≤ vec_capacity r.cols) };
 }
 
@@ -73,9 +88,14 @@ impl Restricted {
     ) -> Result<Restricted, NoMemory>
         requires row { first.0 < rows }
         requires col { first.1 < cols }
-        requires few_rows { rows ≤ 32 }
-        requires few_cols { cols ≤ 32 }
-        ensures { IfOk result (λ r. r ≡ record { rows = first.0 ∷ []; cols = first.1 ∷ []; most_rows = rows; most_cols = cols }) }
+        requires few_rows { rows ≤ MOST_MOVES }
+        requires few_cols { cols ≤ MOST_MOVES }
+        ensures { IfOk result (λ r. r ≡ record {
+          rows = first.0 ∷ [];
+          cols = first.1 ∷ [];
+          most_rows = rows;
+          most_cols = cols;
+        }) }
     {
         let mut held_rows = Vec::with_capacity(alloc, rows as usize)?;
         let mut held_cols = Vec::with_capacity(alloc, cols as usize)?;
@@ -89,11 +109,35 @@ impl Restricted {
         })
     }
 
+    /// Holds all of `rows` moves of One and `cols` of Two, in order of their numbers, so that no step adds another.
+    pub fn full(alloc: Global, rows: u32, cols: u32) -> Result<Restricted, NoMemory>
+        requires some_row { 1 ≤ rows }
+        requires few_rows { rows ≤ MOST_MOVES }
+        requires some_col { 1 ≤ cols }
+        requires few_cols { cols ≤ MOST_MOVES }
+        ensures held { IfOk result (λ r. r ≡ record {
+          rows = range_with_len 0 rows;
+          cols = range_with_len 0 cols;
+          most_rows = rows;
+          most_cols = cols;
+        }) }
+        ensures all { IfOk result HoldsAll }
+    {
+        let held_rows = all_moves(alloc, rows)?;
+        let held_cols = all_moves(alloc, cols)?;
+        Ok(Restricted {
+            rows: held_rows,
+            cols: held_cols,
+            most_rows: rows,
+            most_cols: cols,
+        })
+    }
+
     /// The held moves of One, in order of addition.
     pub fn rows(&self) -> &[u32]
         ensures rows { result.now ≡ self.now.rows }
         ensures held { AreMoves self.now.most_rows result.now }
-        ensures few { self.now.most_rows ≤ 32 }
+        ensures few { self.now.most_rows ≤ MOST_MOVES }
     {
         self.rows.as_slice()
     }
@@ -102,7 +146,7 @@ impl Restricted {
     pub fn cols(&self) -> &[u32]
         ensures cols { result.now ≡ self.now.cols }
         ensures held { AreMoves self.now.most_cols result.now }
-        ensures few { self.now.most_cols ≤ 32 }
+        ensures few { self.now.most_cols ≤ MOST_MOVES }
     {
         self.cols.as_slice()
     }
@@ -116,42 +160,45 @@ impl Restricted {
     pub fn step<G: Game, B: Bounds<G>>(
         &mut self,
         g: G,
-        s: G::State,
-        row: Row,
+        node: Node<G::State>,
         children: &mut ChildRows,
         board: &mut B,
         turns: &mut Turns,
-        memory: &mut StageMemory,
+        solver: &mut StageSolver,
     ) -> Result<StepEnd, StepFault>
         requires game { (B.view board.old).game ≡ g }
-        requires reachable { Reachable (G.model g) s }
-        requires goes_on { 1 ≤ (G.model g).rank s }
-        requires row { (B.view board.old).key_at row ≡ Some ((G.model g).key s) }
-        requires rows { self.old.most_rows ≡ (G.model g).moves Side.One s }
-        requires cols { self.old.most_cols ≡ (G.model g).moves Side.Two s }
-        requires children { AreChildRows (G.model g) (B.view board.old) s children.old }
+        requires reachable { Reachable (G.model g) node.state }
+        requires goes_on { 1 ≤ (G.model g).rank node.state }
+        requires row { (B.view board.old).key_at node.row ≡ Some ((G.model g).key node.state) }
+        requires rows { self.old.most_rows ≡ (G.model g).moves Side.One node.state }
+        requires cols { self.old.most_cols ≡ (G.model g).moves Side.Two node.state }
+        requires children { AreChildRows (G.model g) (B.view board.old) node.state children.old }
         ensures later { IsLater (B.view board.old) (B.view board.new) }
-        ensures posted { Grows (IsLawfulEntry (G.model g) (B.view board.old).total) (B.view board.old).entries (B.view board.new).entries }
-        ensures children { AreChildRows (G.model g) (B.view board.new) s children.new }
-        ensures ended { IfOk result (IsStepEnd (G.model g) (B.view board.old) (B.view board.new) s self.old) }
-        ensures gap { IfOk result (HasStepGap (G.model g) (B.view board.old) (B.view board.new) s self.old) }
+        ensures posted { Grows (IsLawfulEntry (G.model g) (B.view board.old).total)
+            (B.view board.old).entries (B.view board.new).entries }
+        ensures children { AreChildRows (G.model g) (B.view board.new) node.state children.new }
+        ensures ended { IfOk result (IsStepEnd (G.model g)
+            (B.view board.old) (B.view board.new) solver.old node.state self.old) }
+        ensures gap { IfOk result (HasStepGap (G.model g)
+            (B.view board.old) (B.view board.new) node.state self.old) }
         ensures held { IfOk result (λ end. self.new ≡ held_after self.old end) }
         ensures grown { IfOk result (HasGrown self.old self.new) }
-        ensures turn { OnOk result (turns.new ≡ after_turn turns.old) }
+        ensures all { HoldsAll self.old → IfOk result (λ end. IsGrown end → ⊥) }
 
         // A turn that was left and a claim that was full gave `Full`: on Ok each child that was asked for has a row.
-        ensures spent { (result ≡ Err StepFault.Spent) ↔ (left_of turns.old ≡ 0) }
+        ensures turn { TakesStepTurn turns.old turns.new result }
         ensures untouched { left_of turns.old ≡ 0 → B.view board.new ≡ B.view board.old }
-        ensures full { result ≡ Err StepFault.Full → WasFull (G.model g) (B.view board.new) (IsReadChild (G.model g) s self.old.rows self.old.cols) }
-        ensures unposted { result ≡ Err StepFault.Full → (B.view board.new).entries ≡ (B.view board.old).entries }
+        ensures full { result ≡ Err StepFault.Full → WasFull (G.model g) (B.view board.new)
+            (IsReadChild (G.model g) node.state self.old.rows self.old.cols) }
+        ensures unposted { turns.new ≡ turns.old → (B.view board.new).entries ≡ (B.view board.old).entries }
         ensures kept { OnErr result (self.new ≡ self.old) }
-        ensures no_turn { (result ≡ Err StepFault.Spent) ⊎ (result ≡ Err StepFault.Full) → turns.new ≡ turns.old }
-        ensures one_turn { (turns.new ≡ turns.old) ⊎ (turns.new ≡ after_turn turns.old) }
+        ensures kind { UsesRegret solver.new ↔ UsesRegret solver.old }
     {
         if turns.left() == 0 {
             return Err(StepFault::Spent);
         }
         let alloc = *self.rows.allocator();
+        let s = node.state;
         let rows = self.rows.as_slice();
         let cols = self.cols.as_slice();
         let total = board.total();
@@ -160,13 +207,13 @@ impl Restricted {
             Err(BoardFault::Full) => return Err(StepFault::Full),
             Err(BoardFault::NoMemory) => return Err(StepFault::NoMemory),
         };
-        let plans = match plan_both(alloc, g, s, total, &table, rows, cols, turns, memory) {
+        let plans = match self.plan(g, s, total, &table, turns, solver) {
             Ok(plans) => plans,
             Err(_) => return Err(StepFault::NoMemory),
         };
         let (lower, fresh_col) = (plans.one.bound, plans.one.fresh);
         let (upper, fresh_row) = (plans.two.bound, plans.two.fresh);
-        match post_both(alloc, g, s, row, &table, plans, board) {
+        match post_both(alloc, g, node, &table, plans, board) {
             Ok(()) => {}
             Err(_) => return Err(StepFault::NoMemory),
         }
@@ -182,13 +229,25 @@ impl Restricted {
     }
 }
 
+/// All of so many moves, in order of their numbers.
+fn all_moves(alloc: Global, count: u32) -> Result<Vec<u32>, NoMemory>
+    ensures moves { IfOk result (λ moves. moves.items ≡ range_with_len 0 count) }
+    ensures room { IfOk result (λ moves. count ≤ vec_capacity moves) }
+{
+    let mut moves = Vec::with_capacity(alloc, count as usize)?;
+    for number in 0..count {
+        moves.push_reserved(number);
+    }
+    Ok(moves)
+}
+
 /// Holds a further move, if there is one, in the room that there is.
-fn hold(held: &mut Vec<u32>, place: Option<u32>)
-    requires { IfSome place (λ _. vec_len held.old < vec_capacity held.old) }
-    ensures items { held.new.items ≡ with_move held.old.items place }
+fn hold(held: &mut Vec<u32>, number: Option<u32>)
+    requires { IfSome number (λ _. vec_len held.old < vec_capacity held.old) }
+    ensures items { held.new.items ≡ with_move held.old.items number }
     ensures room { vec_capacity held.new ≡ vec_capacity held.old }
 {
-    if let Some(place) = place {
-        held.push_reserved(place);
+    if let Some(number) = number {
+        held.push_reserved(number);
     }
 }

@@ -6,6 +6,7 @@ ghost use Rattle.restricted_game.specs.Held.{FewSteps};
 mod cells;
 mod children;
 mod held;
+mod node;
 mod plans;
 mod posts;
 mod reading;
@@ -15,6 +16,7 @@ mod table;
 
 pub use children::ChildRows;
 pub use held::{Restricted, StepEnd, StepFault};
+pub use node::Node;
 
 /// A restricted game takes at most 63 steps up to and with the first that is done.
 pub fn few_steps()

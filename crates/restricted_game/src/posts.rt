@@ -8,10 +8,11 @@ ghost use Rattle.bounds_board.specs.Views.{IsLater, IsPostable};
 ghost use Rattle.restricted_game.specs.Runs.{IsPosted};
 ghost use Rattle.restricted_game.specs.Tables.{HasShape, side_entry, ArePosted};
 
+use crate::node::Node;
 use crate::plans::{Plans, SidePlan};
 use crate::reads::reads_of;
 use crate::table::Table;
-use bounds_board::{Bounds, Row};
+use bounds_board::Bounds;
 use plan_book::Entry;
 use seq::Seq;
 use sim_game::{Game, NoMemory, Side};
@@ -45,30 +46,32 @@ fn entry_of<G: Game>(
 fn post_plan<G: Game, B: Bounds<G>>(
     alloc: Global,
     g: G,
-    s: G::State,
+    node: Node<G::State>,
     side: Side,
-    row: Row,
     table: &Table,
     plan: SidePlan,
     board: &mut B,
 ) -> Result<(), NoMemory>
     requires game { (B.view board.old).game ≡ g }
-    requires reachable { Reachable (G.model g) s }
-    requires row { (B.view board.old).key_at row ≡ Some ((G.model g).key s) }
-    requires shape { HasShape (G.model g) s table.now }
-    requires weights { length plan.weights.items ≡ (G.model g).moves side s }
-    requires entry { IsPostable (G.model g) (B.view board.old) (side_entry (G.model g) side s table.now plan) }
+    requires reachable { Reachable (G.model g) node.state }
+    requires row { (B.view board.old).key_at node.row ≡ Some ((G.model g).key node.state) }
+    requires shape { HasShape (G.model g) node.state table.now }
+    requires weights { length plan.weights.items ≡ (G.model g).moves side node.state }
+    requires entry { IsPostable (G.model g) (B.view board.old) (side_entry (G.model g) side node.state table.now plan) }
     ensures later { IsLater (B.view board.old) (B.view board.new) }
-    ensures lawful { Grows (IsLawfulEntry (G.model g) (B.view board.old).total) (B.view board.old).entries (B.view board.new).entries }
-    ensures posted { OnOk result (IsPosted (B.view board.old) (side_entry (G.model g) side s table.now plan) (B.view board.old).entries (B.view board.new).entries) }
-    ensures seen { OnOk result (IsNoTighter side plan.bound ((B.view board.new).seen side ((G.model g).key s))) }
+    ensures lawful { Grows (IsLawfulEntry (G.model g) (B.view board.old).total)
+        (B.view board.old).entries (B.view board.new).entries }
+    ensures posted { OnOk result (IsPosted (B.view board.old) (side_entry (G.model g) side node.state table.now plan)
+        (B.view board.old).entries (B.view board.new).entries) }
+    ensures seen { OnOk result (IsNoTighter side plan.bound
+        ((B.view board.new).seen side ((G.model g).key node.state))) }
 {
-    let known = board.read(row).of(side);
+    let known = board.read(node.row).of(side);
     if !side.is_tighter(plan.bound, known) {
         return Ok(());
     }
-    let e = entry_of(alloc, g, s, side, table, plan)?;
-    match board.post(row, e) {
+    let e = entry_of(alloc, g, node.state, side, table, plan)?;
+    match board.post(node.row, e) {
         Ok(()) => Ok(()),
         Err(_) => Err(NoMemory),
     }
@@ -78,26 +81,29 @@ fn post_plan<G: Game, B: Bounds<G>>(
 pub(crate) fn post_both<G: Game, B: Bounds<G>>(
     alloc: Global,
     g: G,
-    s: G::State,
-    row: Row,
+    node: Node<G::State>,
     table: &Table,
     plans: Plans,
     board: &mut B,
 ) -> Result<(), NoMemory>
     requires game { (B.view board.old).game ≡ g }
-    requires reachable { Reachable (G.model g) s }
-    requires row { (B.view board.old).key_at row ≡ Some ((G.model g).key s) }
-    requires shape { HasShape (G.model g) s table.now }
-    requires rows { length plans.one.weights.items ≡ (G.model g).moves Side.One s }
-    requires cols { length plans.two.weights.items ≡ (G.model g).moves Side.Two s }
-    requires one { IsPostable (G.model g) (B.view board.old) (side_entry (G.model g) Side.One s table.now plans.one) }
-    requires two { IsPostable (G.model g) (B.view board.old) (side_entry (G.model g) Side.Two s table.now plans.two) }
+    requires reachable { Reachable (G.model g) node.state }
+    requires row { (B.view board.old).key_at node.row ≡ Some ((G.model g).key node.state) }
+    requires shape { HasShape (G.model g) node.state table.now }
+    requires rows { length plans.one.weights.items ≡ (G.model g).moves Side.One node.state }
+    requires cols { length plans.two.weights.items ≡ (G.model g).moves Side.Two node.state }
+    requires one { IsPostable (G.model g) (B.view board.old)
+        (side_entry (G.model g) Side.One node.state table.now plans.one) }
+    requires two { IsPostable (G.model g) (B.view board.old)
+        (side_entry (G.model g) Side.Two node.state table.now plans.two) }
     ensures later { IsLater (B.view board.old) (B.view board.new) }
-    ensures lawful { Grows (IsLawfulEntry (G.model g) (B.view board.old).total) (B.view board.old).entries (B.view board.new).entries }
-    ensures posted { OnOk result (ArePosted (G.model g) (B.view board.old) (B.view board.new) s table.now plans) }
+    ensures lawful { Grows (IsLawfulEntry (G.model g) (B.view board.old).total)
+        (B.view board.old).entries (B.view board.new).entries }
+    ensures posted { OnOk result (ArePosted (G.model g)
+        (B.view board.old) (B.view board.new) node.state table.now plans) }
 {
     let Plans { one, two } = plans;
-    post_plan(alloc, g, s, Side::One, row, table, one, board)?;
-    post_plan(alloc, g, s, Side::Two, row, table, two, board)?;
+    post_plan(alloc, g, node, Side::One, table, one, board)?;
+    post_plan(alloc, g, node, Side::Two, table, two, board)?;
     Ok(())
 }

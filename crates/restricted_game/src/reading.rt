@@ -23,33 +23,41 @@ fn is_wanted(rows: &[u32], cols: &[u32], one: u32, two: u32) -> bool
     cols.contains(&two)
 }
 
-/// The bounds after a pair of moves and a draw, read anew where one of the moves is held and there is such a draw: the
+/// A draw after a pair of moves.
+#[derive(Clone, Copy)]
+struct Draw {
+    one: u32,
+    two: u32,
+    draw: u32,
+}
+
+/// The bounds after a draw, read anew where one of the moves is held and there is such a draw: the
 /// payoff of an end, else those of the state's row. Elsewhere zeros.
 fn read_child<G: Game, B: Bounds<G>>(
     g: G,
     s: G::State,
     rows: &[u32],
     cols: &[u32],
-    one: u32,
-    two: u32,
-    draw: u32,
+    at: Draw,
     children: &mut ChildRows,
     board: &mut B,
 ) -> Result<Enclosure, Full>
     requires game { (B.view board.old).game ≡ g }
     requires reachable { Reachable (G.model g) s }
-    requires one { one < (G.model g).moves Side.One s }
-    requires two { two < (G.model g).moves Side.Two s }
+    requires one { at.one < (G.model g).moves Side.One s }
+    requires two { at.two < (G.model g).moves Side.Two s }
     requires children { AreChildRows (G.model g) (B.view board.old) s children.old }
     ensures later { IsLater (B.view board.old) (B.view board.new) }
     ensures entries { (B.view board.new).entries ≡ (B.view board.old).entries }
     ensures children { AreChildRows (G.model g) (B.view board.new) s children.new }
-    ensures read { IfOk result (λ e. IsWanted rows.now cols.now one two → draw < (G.model g).draws s one two
-        → AreRead (G.model g) (B.view board.old) (B.view board.new) ((G.model g).drawn s one two draw) e) }
+    ensures read { IfOk result (λ e. IsWanted rows.now cols.now at.one at.two
+        → at.draw < (G.model g).draws s at.one at.two
+        → AreRead (G.model g) (B.view board.old) (B.view board.new) ((G.model g).drawn s at.one at.two at.draw) e) }
     ensures small { IfOk result IsSmallEnclosure }
     ensures full { OnErr result (WasFull (G.model g) (B.view board.new) (IsReadChild (G.model g) s rows.now cols.now)) }
 {
     let zeros = Enclosure { lower: 0, upper: 0 };
+    let Draw { one, two, draw } = at;
     if !is_wanted(rows, cols, one, two) {
         return Ok(zeros);
     }
@@ -88,7 +96,8 @@ pub(crate) fn read_table<G: Game, B: Bounds<G>>(
     ensures children { AreChildRows (G.model g) (B.view board.new) s children.new }
     ensures shape { IfOk result (HasShape (G.model g) s) }
     ensures filled { IfOk result (IsFilled (G.model g) (B.view board.old) (B.view board.new) s rows.now cols.now) }
-    ensures full { result ≡ Err BoardFault.Full → WasFull (G.model g) (B.view board.new) (IsReadChild (G.model g) s rows.now cols.now) }
+    ensures full { result ≡ Err BoardFault.Full
+        → WasFull (G.model g) (B.view board.new) (IsReadChild (G.model g) s rows.now cols.now) }
 {
     let height = g.moves(Side::One, s);
     let width = g.moves(Side::Two, s);
@@ -100,7 +109,8 @@ pub(crate) fn read_table<G: Game, B: Bounds<G>>(
     for place in 0..height * width * stride {
         let one = place / stride / width;
         let two = place / stride % width;
-        match read_child(g, s, rows, cols, one, two, place % stride, children, board) {
+        let draw = place % stride;
+        match read_child(g, s, rows, cols, Draw { one, two, draw }, children, board) {
             Ok(found) => enclosures[place as usize] = found,
             Err(_) => return Err(BoardFault::Full),
         }

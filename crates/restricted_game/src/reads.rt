@@ -23,7 +23,9 @@ fn add_pair<G: Game>(
     requires shape { HasShape (G.model g) s table.now }
     requires own { own < (G.model g).moves side s }
     requires other { other < (G.model g).moves (other_side side) s }
-    ensures { IfOk result (λ _. reads.new.items ≡ reads.old.items ++ concat_below (draws_of (G.model g) side s own other) (λ draw. numbers_in side table.now own other draw ∷ [])) }
+    ensures { IfOk result (λ _. reads.new.items ≡ reads.old.items
+        ++ concat_below (draws_of (G.model g) side s own other)
+        (λ draw. numbers_in side table.now own other draw ∷ [])) }
 {
     let one = side.move_of_one(own, other);
     let two = side.move_of_two(own, other);
@@ -45,7 +47,8 @@ fn add_move<G: Game>(
     requires reachable { Reachable (G.model g) s }
     requires shape { HasShape (G.model g) s table.now }
     requires own { own < (G.model g).moves side s }
-    ensures { IfOk result (λ _. reads.new.items ≡ reads.old.items ++ reads_of_move (G.model g) side s (numbers_in side table.now) own) }
+    ensures { IfOk result (λ _. reads.new.items ≡ reads.old.items
+        ++ reads_of_move (G.model g) side s (numbers_in side table.now) own) }
 {
     for other in 0..g.moves(side.other(), s) {
         add_pair(g, s, side, own, other, table, reads)?;

@@ -1,6 +1,9 @@
-//! Tables of what a step reads.
+//! Tables of what a step reads, and of its cells.
 
-ghost use Rattle.std.specs.Prelude.{◌≡◌, ◌*◌, All, vec_len};
+ghost use Rattle.std.specs.Prelude.{◌≡◌, ◌*◌, ◌≤◌, All, length, vec_len};
+ghost use Rattle.sums.specs.declared.TheConstants.{MOST_BOUND};
+ghost use Rattle.matrix_game.specs.declared.TheConstants.{MOST_MOVES};
+ghost use Rattle.matrix_game.specs.Grid.{IsSmallCell};
 ghost use Rattle.restricted_game.specs.Sizes.{IsSmallEnclosure};
 
 use bounds_board::Enclosure;
@@ -21,6 +24,22 @@ pub(crate) struct Table {
     ghost small: { All IsSmallEnclosure enclosures.items },
 }
 
+/// The cells of all pairs of moves, row by row, in millionths of a payoff to One.
+#[derive(Drop)]
+pub(crate) struct Cells {
+    /// How many moves One has.
+    pub(crate) height: u32,
+    /// How many moves Two has.
+    pub(crate) width: u32,
+    pub(crate) items: Vec<i64>,
+    ghost some_row: { 1 ≤ height },
+    ghost few_rows: { height ≤ MOST_MOVES },
+    ghost some_col: { 1 ≤ width },
+    ghost few_cols: { width ≤ MOST_MOVES },
+    ghost all: { length items.items ≡ height * width },
+    ghost small: { All IsSmallCell items.items },
+}
+
 impl Table {
     ghost use Rattle.std.specs.Prelude.{◌≡◌, ◌<◌, ◌≤◌, unsigned_abs};
     ghost use Rattle.bounds_board.specs.Views.{bound_in};
@@ -28,14 +47,14 @@ impl Table {
 
     /// The bound of a side at a draw after a pair of moves, in millionths.
     pub(crate) fn number(&self, side: Side, one: u32, two: u32, draw: u32) -> i64
-        requires few_rows { self.now.height ≤ 32 }
-        requires few_cols { self.now.width ≤ 32 }
+        requires few_rows { self.now.height ≤ MOST_MOVES }
+        requires few_cols { self.now.width ≤ MOST_MOVES }
         requires few_draws { self.now.stride ≤ 13 }
         requires one { one < self.now.height }
         requires two { two < self.now.width }
         requires draw { draw < self.now.stride }
         ensures value { result ≡ bound_in side (enclosure_in self.now one two draw) }
-        ensures small { unsigned_abs result ≤ 4000000000 }
+        ensures small { unsigned_abs result ≤ MOST_BOUND }
     {
         let pair = one as usize * self.width as usize + two as usize;
         self.enclosures[pair * self.stride as usize + draw as usize].of(side)

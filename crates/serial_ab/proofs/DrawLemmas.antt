@@ -29,11 +29,13 @@ product_low k x h l = omega (arith, ints, times_mono k (negsuc 3999999999) x l)
 product_high : (k : ℕ) (x : ℤ) → k ≤ 360360 → x ≤ℤ pos 4000000000 → (pos k *ℤ x) ≤ℤ pos 1441440000000000
 product_high k x h l = omega (arith, ints, times_mono k x (pos 4000000000) l)
 
-module _ {S : Type 0} (m : GameModel S) (game : IsGame m) (side : Side) (s : S) (own reply : ℕ) (r : Reachable m s) (at : own < m.moves side s) (against : reply < m.moves (other_side side) s) where
+module _ {S : Type 0} (m : GameModel S) (game : IsGame m) (side : Side) (s : S) (own reply : ℕ) (r : Reachable m s) (at : own < m.moves side s)
+    (against : reply < m.moves (other_side side) s) where
   small : (d : ℕ) → d < draws_of m side s own reply → IsSmall (serial_bound m side (child_of m side s own reply d))
   small d h =
       let is : Reachable m (child_of m side s own reply d) = child_is m game side s own reply d r at against h in
-      let range = in_range m side (serial_bound m side (child_of m side s own reply d)) (serial_low m game side (child_of m side s own reply d) is) (serial_high m game side (child_of m side s own reply d) is) in
+      let range = in_range m side (serial_bound m side (child_of m side s own reply d)) (serial_low m game side (child_of m side s own reply d) is)
+      (serial_high m game side (child_of m side s own reply d) is) in
       let a = game.low_least in let b = game.high_most in let c = game.low_high in
       let low : opening_bound m One ≤ℤ serial_bound m side (child_of m side s own reply d) = range.0 in
       let high : serial_bound m side (child_of m side s own reply d) ≤ℤ opening_bound m Two = range.1 in
@@ -45,19 +47,24 @@ module _ {S : Type 0} (m : GameModel S) (game : IsGame m) (side : Side) (s : S) 
   chances_small : (n : ℕ) → n ≤ draws_of m side s own reply → count_below n (chance_of m side s own reply) ≤ 360360
   chances_small n h = omega (arith, count_front (chance_of m side s own reply) n (draws_of m side s own reply) h, chances m game side s own reply r at against)
 
-  pub sum_low : (n : ℕ) → n ≤ draws_of m side s own reply → negsuc 1441439999999999 ≤ℤ sum_below n (λ d. pos (chance_of m side s own reply d) *ℤ serial_bound m side (child_of m side s own reply d))
+  pub sum_low : (n : ℕ) → n ≤ draws_of m side s own reply → negsuc 1441439999999999 ≤ℤ sum_below n
+      (λ d. pos (chance_of m side s own reply d) *ℤ serial_bound m side (child_of m side s own reply d))
   sum_low n h =
-      let each : sum_below n (λ d. pos (chance_of m side s own reply d) *ℤ negsuc 3999999999) ≤ℤ sum_below n (λ d. pos (chance_of m side s own reply d) *ℤ serial_bound m side (child_of m side s own reply d)) =
+      let each : sum_below n (λ d. pos (chance_of m side s own reply d) *ℤ negsuc 3999999999) ≤ℤ sum_below n
+      (λ d. pos (chance_of m side s own reply d) *ℤ serial_bound m side (child_of m side s own reply d)) =
       sum_mono n _ _ (λ d l. times_mono (chance_of m side s own reply d) (negsuc 3999999999) _ (small d (omega arith)).low) in
       omega (arith, ints, each, sum_weights n (chance_of m side s own reply) (negsuc 3999999999), chances_small n h)
 
-  pub sum_high : (n : ℕ) → n ≤ draws_of m side s own reply → sum_below n (λ d. pos (chance_of m side s own reply d) *ℤ serial_bound m side (child_of m side s own reply d)) ≤ℤ pos 1441440000000000
+  pub sum_high : (n : ℕ) → n ≤ draws_of m side s own reply → sum_below n (λ d. pos (chance_of m side s own reply d) *ℤ serial_bound m side (child_of m side s own reply d)) ≤ℤ pos
+      1441440000000000
   sum_high n h =
-      let each : sum_below n (λ d. pos (chance_of m side s own reply d) *ℤ serial_bound m side (child_of m side s own reply d)) ≤ℤ sum_below n (λ d. pos (chance_of m side s own reply d) *ℤ pos 4000000000) =
+      let each : sum_below n (λ d. pos (chance_of m side s own reply d) *ℤ serial_bound m side (child_of m side s own reply d)) ≤ℤ sum_below n
+      (λ d. pos (chance_of m side s own reply d) *ℤ pos 4000000000) =
       sum_mono n _ _ (λ d l. times_mono (chance_of m side s own reply d) _ (pos 4000000000) (small d (omega arith)).high) in
       omega (arith, ints, each, sum_weights n (chance_of m side s own reply) (pos 4000000000), chances_small n h)
 
-  module _ (d : ℕ) (h : d < draws_of m side s own reply) (k : ℕ) (is_chance : k ≡ chance_of m side s own reply d) (x : ℤ) (is_value : x ≡ serial_bound m side (child_of m side s own reply d)) where
+  module _ (d : ℕ) (h : d < draws_of m side s own reply) (k : ℕ) (is_chance : k ≡ chance_of m side s own reply d) (x : ℤ)
+      (is_value : x ≡ serial_bound m side (child_of m side s own reply d)) where
     few : k ≤ 360360
     few = omega (arith, chance_small d h)
 
@@ -85,12 +92,14 @@ module _ {S : Type 0} (m : GameModel S) (game : IsGame m) (side : Side) (s : S) 
           (let a = product_low k x few small_x.low in let b = product_high k x few small_x.high in let e = sum_is_low in let f = sum_is_high in omega (arith, ints))
 
       -- the sum with one draw more
-      pub added_is : to_z w64 (of_z w64 (sum +ℤ to_z w64 (of_z w64 (to_z w64 k *ℤ to_z w64 (of_z w64 x))))) ≡ sum_below (d + 1) (λ i. pos (chance_of m side s own reply i) *ℤ serial_bound m side (child_of m side s own reply i))
+      pub added_is : to_z w64 (of_z w64 (sum +ℤ to_z w64 (of_z w64 (to_z w64 k *ℤ to_z w64 (of_z w64 x))))) ≡ sum_below (d + 1)
+          (λ i. pos (chance_of m side s own reply i) *ℤ serial_bound m side (child_of m side s own reply i))
       added_is = to_z-of_z w64 _ added_fits
           ∙ rw (to_z-of_z w64 (to_z w64 k *ℤ to_z w64 (of_z w64 x)) product_fits, chance_is, found_is, is_value, is_chance, summed, add-one d) refl
 
     -- the list with one draw more
-    pub listed_more : (before now mid after : List ℤ) → now ≡ before ++ concat_below d (λ i. serial_bound m side (child_of m side s own reply i) ∷ []) → mid ≡ now → after ≡ mid ++ to_z w64 (of_z w64 x) ∷ []
+    pub listed_more : (before now mid after : List ℤ) → now ≡ before ++ concat_below d (λ i. serial_bound m side (child_of m side s own reply i) ∷ []) → mid ≡ now
+        → after ≡ mid ++ to_z w64 (of_z w64 x) ∷ []
         → after ≡ before ++ concat_below (d + 1) (λ i. serial_bound m side (child_of m side s own reply i) ∷ [])
     listed_more before now mid after p same q =
         q ∙ ap (λ (l : List ℤ). l ++ to_z w64 (of_z w64 x) ∷ []) (same ∙ p) ∙ append_assoc before (concat_below d (λ i. serial_bound m side (child_of m side s own reply i) ∷ [])) _
@@ -98,10 +107,12 @@ module _ {S : Type 0} (m : GameModel S) (game : IsGame m) (side : Side) (s : S) 
         ∙ sym (ap (λ (n : ℕ). before ++ concat_below n (λ i. serial_bound m side (child_of m side s own reply i) ∷ [])) (add-one d))
 
     pub good_more : {G N : Type 0} (u v : BoardView G N) → IsLater u v
-        → ((i : ℕ) → i < d → IsGoodNumber m side u (child_of m side s own reply i) (serial_bound m side (child_of m side s own reply i))) → IsGoodNumber m side v (child_of m side s own reply d) x
+        → ((i : ℕ) → i < d → IsGoodNumber m side u (child_of m side s own reply i) (serial_bound m side (child_of m side s own reply i)))
+        → IsGoodNumber m side v (child_of m side s own reply d) x
         → (i : ℕ) → i < d + 1 → IsGoodNumber m side v (child_of m side s own reply i) (serial_bound m side (child_of m side s own reply i))
     good_more u v later before here i w = ⊎_elim
         (λ (lt : i < d). good_later later (before i lt))
-        (λ (ge : d ≤ i). let same : d ≡ i = omega arith in subst (λ (k : ℕ). IsGoodNumber m side v (child_of m side s own reply k) (serial_bound m side (child_of m side s own reply k))) same
+        (λ (ge : d ≤ i). let same : d ≡ i = omega arith in subst (λ (k : ℕ). IsGoodNumber m side v (child_of m side s own reply k)
+        (serial_bound m side (child_of m side s own reply k))) same
         (subst (IsGoodNumber m side v (child_of m side s own reply d)) is_value here))
         (cases_lt i d)

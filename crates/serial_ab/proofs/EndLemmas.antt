@@ -9,11 +9,11 @@ use Rattle.plan_book.specs.Serial.{serial_bound}
 use Rattle.bounds_board.specs.Views.{BoardView}
 use Rattle.serial_ab.specs.declared.windowed.SerialEnd.{SerialEnd}
 use Rattle.serial_ab.specs.declared.windowed.SerialEnd.TheVariants.{Exact, AtLeast, AtMost, Cut}
-use Rattle.serial_ab.specs.Ends.{IsValue, IsPlaced, IsRange, worse_end, better_end}
+use Rattle.serial_ab.specs.Ends.{IsValue, IsPlaced, IsShown, IsPayoffWindow, worse_end, better_end}
 use Rattle.serial_ab.specs.Searches.{IsWindow, IsFound}
-use Rattle.serial_ab.proofs.SearchLemmas.{whole_seen}
+use Rattle.serial_ab.proofs.SearchLemmas.{found_seen, whole_seen}
 
-pub range_window : {S : Type 0} (m : GameModel S) (side : Side) (low high : ℤ) → IsRange m low high → IsWindow m side (worse_end side low high) (better_end side low high)
+pub range_window : {S : Type 0} (m : GameModel S) (side : Side) (low high : ℤ) → IsPayoffWindow m low high → IsWindow m side (worse_end side low high) (better_end side low high)
 range_window m One low high r = record { from = r.from; to = r.to; wide = r.wide }
 range_window m Two low high r = record { from = r.to; to = r.from; wide = r.wide }
 
@@ -26,16 +26,57 @@ above x y z p q = omega (arith, ints)
 below : (x y z : ℤ) → x ≤ℤ y → y <ℤ z → x <ℤ z
 below x y z p q = omega (arith, ints)
 
-pub value_of : {S G N : Type 0} (m : GameModel S) (side : Side) (s : S) (low high : ℤ) (v : BoardView G N) (x : ℤ) (end : SerialEnd) → low <ℤ high → IsFound m side s (worse_end side low high) (better_end side low high) v x
+pub value_of : {S G N : Type 0} (m : GameModel S) (side : Side) (s : S) (low high : ℤ) (v : BoardView G N) (x : ℤ) (end : SerialEnd) → low <ℤ high
+    → IsFound m side s (worse_end side low high) (better_end side low high) v x
     → IsPlaced low high x end → IsValue low high (serial_bound m side s) end
-value_of m One s low high v x (Exact y) wide found p = (p.0 ∙ both x _ (found.proven p.1) (found.reached p.2), subst (λ (z : ℤ). low <ℤ z) (sym p.0) p.1, subst (λ (z : ℤ). z <ℤ high) (sym p.0) p.2)
-value_of m One s low high v x (AtLeast y) wide found p = (subst (λ (z : ℤ). high ≤ℤ z) (sym p.0) p.1, subst (λ (z : ℤ). z ≤ℤ serial_bound m One s) (sym p.0) (found.proven (above low high x wide p.1)))
-value_of m One s low high v x (AtMost y) wide found p = (subst (λ (z : ℤ). serial_bound m One s ≤ℤ z) (sym p.0) (found.reached (below x low high p.1 wide)), subst (λ (z : ℤ). z ≤ℤ low) (sym p.0) p.1)
+value_of m One s low high v x (Exact y) wide found p = (
+  p.0 ∙ both x _ (found.proven p.1) (found.reached p.2),
+  subst (λ (z : ℤ). low <ℤ z) (sym p.0) p.1,
+  subst
+      (λ (z : ℤ). z <ℤ high) (sym p.0) p.2,
+)
+value_of m One s low high v x (AtLeast y) wide found p = (
+  subst (λ (z : ℤ). high ≤ℤ z) (sym p.0) p.1,
+  subst (λ (z : ℤ). z ≤ℤ serial_bound m One s) (sym p.0)
+      (found.proven (above low high x wide p.1)),
+)
+value_of m One s low high v x (AtMost y) wide found p = (
+  subst (λ (z : ℤ). serial_bound m One s ≤ℤ z) (sym p.0) (found.reached (below x low high p.1 wide)),
+  subst
+      (λ (z : ℤ). z ≤ℤ low) (sym p.0) p.1,
+)
 value_of m One s low high v x Cut wide found p = tt
-value_of m Two s low high v x (Exact y) wide found p = (p.0 ∙ both x _ (found.reached p.1) (found.proven p.2), subst (λ (z : ℤ). low <ℤ z) (sym p.0) p.1, subst (λ (z : ℤ). z <ℤ high) (sym p.0) p.2)
-value_of m Two s low high v x (AtLeast y) wide found p = (subst (λ (z : ℤ). high ≤ℤ z) (sym p.0) p.1, subst (λ (z : ℤ). z ≤ℤ serial_bound m Two s) (sym p.0) (found.reached (above low high x wide p.1)))
-value_of m Two s low high v x (AtMost y) wide found p = (subst (λ (z : ℤ). serial_bound m Two s ≤ℤ z) (sym p.0) (found.proven (below x low high p.1 wide)), subst (λ (z : ℤ). z ≤ℤ low) (sym p.0) p.1)
+value_of m Two s low high v x (Exact y) wide found p = (
+  p.0 ∙ both x _ (found.reached p.1) (found.proven p.2),
+  subst (λ (z : ℤ). low <ℤ z) (sym p.0) p.1,
+  subst
+      (λ (z : ℤ). z <ℤ high) (sym p.0) p.2,
+)
+value_of m Two s low high v x (AtLeast y) wide found p = (
+  subst (λ (z : ℤ). high ≤ℤ z) (sym p.0) p.1,
+  subst (λ (z : ℤ). z ≤ℤ serial_bound m Two s) (sym p.0)
+      (found.reached (above low high x wide p.1)),
+)
+value_of m Two s low high v x (AtMost y) wide found p = (
+  subst (λ (z : ℤ). serial_bound m Two s ≤ℤ z) (sym p.0) (found.proven (below x low high p.1 wide)),
+  subst
+      (λ (z : ℤ). z ≤ℤ low) (sym p.0) p.1,
+)
 value_of m Two s low high v x Cut wide found p = tt
+
+-- above the window's worse end the number was seen
+pub shown : {S G N : Type 0} (m : GameModel S) (side : Side) (s : S) (low high : ℤ) (v : BoardView G N) (x : ℤ) (end : SerialEnd) → 1 ≤ m.rank s → low <ℤ high
+    → IsFound m side s (worse_end side low high) (better_end side low high) v x → IsPlaced low high x end → IsShown side (v.seen side (m.key s)) end
+shown m One s low high v x (Exact y) goes wide found p = subst (λ (z : ℤ). IsNoTighter One z (v.seen One (m.key s))) (sym p.0) (found_seen m One s v x goes found p.1)
+shown m One s low high v x (AtLeast y) goes wide found p = subst (λ (z : ℤ). IsNoTighter One z (v.seen One (m.key s))) (sym p.0)
+    (found_seen m One s v x goes found (above low high x wide p.1))
+shown m One s low high v x (AtMost y) goes wide found p = tt
+shown m One s low high v x Cut goes wide found p = tt
+shown m Two s low high v x (Exact y) goes wide found p = subst (λ (z : ℤ). IsNoTighter Two z (v.seen Two (m.key s))) (sym p.0) (found_seen m Two s v x goes found p.2)
+shown m Two s low high v x (AtLeast y) goes wide found p = tt
+shown m Two s low high v x (AtMost y) goes wide found p = subst (λ (z : ℤ). IsNoTighter Two z (v.seen Two (m.key s))) (sym p.0)
+    (found_seen m Two s v x goes found (below x low high p.1 wide))
+shown m Two s low high v x Cut goes wide found p = tt
 
 pub not_cut : (low high x : ℤ) (end : SerialEnd) → IsPlaced low high x end → end ≢ Cut
 not_cut low high x (Exact y) p e = cc
@@ -44,7 +85,8 @@ not_cut low high x (AtMost y) p e = cc
 not_cut low high x Cut p e = p
 
 -- over the whole range the bound was seen
-pub whole_on_board : {S G N : Type 0} (m : GameModel S) (game : IsGame m) (side : Side) (s : S) (v : BoardView G N) (x : ℤ) → Reachable m s → 1 ≤ m.rank s → opening_bound m One <ℤ opening_bound m Two
+pub whole_on_board : {S G N : Type 0} (m : GameModel S) (game : IsGame m) (side : Side) (s : S) (v : BoardView G N) (x : ℤ) → Reachable m s → 1 ≤ m.rank s
+    → opening_bound m One <ℤ opening_bound m Two
     → IsFound m side s (worse_end side (opening_bound m One) (opening_bound m Two)) (better_end side (opening_bound m One) (opening_bound m Two)) v x
     → IsNoTighter side (serial_bound m side s) (v.seen side (m.key s))
 whole_on_board m game One s v x r goes wide found = whole_seen m game One s v x r goes found wide

@@ -58,16 +58,19 @@ joined_none (suc n) f h = let front = joined_none n f (λ i p. h i (omega arith)
 joined_only : {A : Type 0} (n place : ℕ) (f : ℕ → List A) → place < n → ((i : ℕ) → i < n → i ≢ place → f i ≡ []) → concat_below n f ≡ f place
 joined_only zero place f p h = absurd (omega arith)
 joined_only (suc n) place f p h = ⊎_elim
-    (λ (lt : place < n). let front = joined_only n place f lt (λ i q d. h i (omega arith) d) in let last = h n (omega arith) (λ e. omega arith) in rw (front, last) (append-nil (f place)))
+    (λ (lt : place < n). let front = joined_only n place f lt (λ i q d. h i (omega arith) d) in let last = h n (omega arith) (λ e. omega arith) in
+    rw (front, last) (append-nil (f place)))
     (λ (ge : n ≤ place). let same : place ≡ n = omega arith in let front = joined_none n f (λ i q. h i (omega arith) (λ e. omega arith)) in rw (front, same) refl)
     (cases_lt place n)
 
-pub in_range : {S : Type 0} (m : GameModel S) (of : Side) (x : ℤ) → IsNoTighter of (opening_bound m of) x → IsNoTighter of x (opening_bound m (other_side of)) → IsNoTighter One (opening_bound m One) x × IsNoTighter Two (opening_bound m Two) x
+pub in_range : {S : Type 0} (m : GameModel S) (of : Side) (x : ℤ) → IsNoTighter of (opening_bound m of) x → IsNoTighter of x (opening_bound m (other_side of))
+    → IsNoTighter One (opening_bound m One) x × IsNoTighter Two (opening_bound m Two) x
 in_range m One x p q = (p, q)
 in_range m Two x p q = (q, p)
 
 module _ {S G N : Type 0} (m : GameModel S) (game : IsGame m) (side : Side) (s : S) (r : Reachable m s) (goes : 1 ≤ m.rank s) (own : ℕ) (at : own < m.moves side s)
-    (u v : BoardView G N) (later : IsLater u v) (reads : List ℤ) (bound : ℤ) (low : IsNoTighter side (opening_bound m side) bound) (replied : IsReplied m side s own (m.moves (other_side side) s) u reads bound)
+    (u v : BoardView G N) (later : IsLater u v) (reads : List ℤ) (bound : ℤ) (low : IsNoTighter side (opening_bound m side) bound)
+    (replied : IsReplied m side s own (m.moves (other_side side) s) u reads bound)
     (total : ℕ) (some : 1 ≤ total) where
   positive : (o : ℕ) → 1 ≤ get_or (one_move total (m.moves side s) own) o 0 → own ≡ o
   positive o w = ⊎_elim (λ (e : o ≡ own). sym e) (λ (n : o ≢ own). let none = one_move_other total (m.moves side s) own o n in absurd (omega arith)) (cases_eq o own)
@@ -76,7 +79,8 @@ module _ {S G N : Type 0} (m : GameModel S) (game : IsGame m) (side : Side) (s :
   bound_high = let others = game.other_moves (other_side side) s r goes in
       looser_trans side _ _ _ (replied.proven 0 (omega arith))
       (mean_within m game side s (λ _ a b. replied.numbers a b) own 0 (opening_bound m (other_side side)) r at (omega arith) (λ d w.
-      looser_trans side _ _ _ (replied.good 0 d (omega arith) w).proven (serial_high m game side (child_of m side s own 0 d) (child_is m game side s own 0 d r at (omega arith) w))))
+      looser_trans side _ _ _ (replied.good 0 d (omega arith) w).proven
+      (serial_high m game side (child_of m side s own 0 d) (child_is m game side s own 0 d r at (omega arith) w))))
 
   pub pure_entry : IsEntry m total (IsSeenNumber m v) (record { key = m.key s; side = side; bound = bound; weights = one_move total (m.moves side s) own; reads = reads })
   pure_entry = let range = in_range m side bound low bound_high in record {
@@ -86,7 +90,8 @@ module _ {S G N : Type 0} (m : GameModel S) (game : IsGame m) (side : Side) (s :
     low = range.0;
     high = range.1;
     numbers = λ _ a b. replied.numbers a b;
-    listed = replied.listed ∙ sym (joined_only (m.moves side s) own (λ o. cond (nat_eq (get_or (one_move total (m.moves side s) own) o 0) 0) [] (reads_of_move m side s (λ _ a b. replied.numbers a b) o)) at
+    listed = replied.listed ∙ sym (joined_only (m.moves side s) own
+        (λ o. cond (nat_eq (get_or (one_move total (m.moves side s) own) o 0) 0) [] (reads_of_move m side s (λ _ a b. replied.numbers a b) o)) at
         (λ o p n. rw (one_move_other total (m.moves side s) own o n) refl)
         ∙ rw (one_move_at total (m.moves side s) own at, is_other total 0 (λ e. omega arith)) refl);
     step = pure_step m side s total own (λ _ a b. replied.numbers a b) bound goes some at replied.proven;

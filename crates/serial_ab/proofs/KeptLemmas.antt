@@ -12,7 +12,7 @@ use Rattle.bounds_board.proofs.ViewLemmas.{later_refl, later_trans, seen_later}
 use Rattle.serial_ab.specs.declared.stop.Stop.{Stop}
 use Rattle.serial_ab.specs.declared.stop.Stop.TheVariants.{Cut, Full, NoMemory}
 use Rattle.serial_ab.specs.Counts.{VisitsView, Counts, IsCut}
-use Rattle.serial_ab.specs.Searches.{IsPureEntry, IsKept, IsGoodNumber, Stops, Ends}
+use Rattle.serial_ab.specs.Searches.{IsPureEntry, IsSerialKept, IsGoodNumber, Stops, EndsWith}
 use Rattle.serial_ab.proofs.CountLemmas.{counts_none, counts_after, cut_after}
 
 pub grows_none : (P : Entry → Type 0) (xs ys : List Entry) → ys ≡ xs → Grows P xs ys
@@ -36,10 +36,11 @@ pub count_part : (f : ℕ → ℕ) (i n : ℕ) → i < n → count_below i f + f
 count_part f i n h = count_front f (suc i) n (omega arith)
 
 module _ {S G N : Type 0} {m : GameModel S} {side : Side} where
-  pub kept_none : {n : ℕ} {v : BoardView G N} {x : VisitsView} → IsKept m side n v v x x
+  pub kept_none : {n : ℕ} {v : BoardView G N} {x : VisitsView} → IsSerialKept m side n v v x x
   kept_none {v = v} = record { later = later_refl v; posted = grows_none (IsPureEntry m v.total) v.entries v.entries refl; visits = counts_none }
 
-  pub kept_after : {a b c : ℕ} {u v w : BoardView G N} {x y z : VisitsView} → IsKept m side a u v x y → IsKept m side b v w y z → a + b ≤ c → IsKept m side c u w x z
+  pub kept_after : {a b c : ℕ} {u v w : BoardView G N} {x y z : VisitsView} → IsSerialKept m side a u v x y → IsSerialKept m side b v w y z → a + b ≤ c
+      → IsSerialKept m side c u w x z
   kept_after {u = u} {v = v} {w = w} p q h = record {
     later = later_trans u v w p.later q.later;
     posted = grows_after (IsPureEntry m u.total) u.entries v.entries w.entries p.posted (subst (λ (t : ℕ). Grows (IsPureEntry m t) v.entries w.entries) p.later.total q.posted);
@@ -47,25 +48,25 @@ module _ {S G N : Type 0} {m : GameModel S} {side : Side} where
   }
 
   -- a part that counts nothing
-  pub kept_posted : {n : ℕ} {u v : BoardView G N} {x : VisitsView} → IsLater u v → Grows (IsPureEntry m u.total) u.entries v.entries → IsKept m side n u v x x
+  pub kept_posted : {n : ℕ} {u v : BoardView G N} {x : VisitsView} → IsLater u v → Grows (IsPureEntry m u.total) u.entries v.entries → IsSerialKept m side n u v x x
   kept_posted later posted = record { later = later; posted = posted; visits = counts_none }
 
   -- and posts nothing
-  pub kept_quiet : {n : ℕ} {u v : BoardView G N} {x : VisitsView} → IsLater u v → v.entries ≡ u.entries → IsKept m side n u v x x
+  pub kept_quiet : {n : ℕ} {u v : BoardView G N} {x : VisitsView} → IsLater u v → v.entries ≡ u.entries → IsSerialKept m side n u v x x
   kept_quiet later same = kept_posted later (grows_none _ _ _ same)
 
-  pub kept_counted : {n : ℕ} {u : BoardView G N} {x y : VisitsView} → Counts side n x y → IsKept m side n u u x y
+  pub kept_counted : {n : ℕ} {u : BoardView G N} {x y : VisitsView} → Counts side n x y → IsSerialKept m side n u u x y
   kept_counted {u = u} counts = record { later = later_refl u; posted = grows_none _ _ _ refl; visits = counts }
 
   pub good_later : {u v : BoardView G N} {s : S} {x : ℤ} → IsLater u v → IsGoodNumber m side u s x → IsGoodNumber m side v s x
   good_later later good = record { proven = good.proven; seen = seen_later m _ _ side _ _ later good.seen }
 
   -- ---- the parts of a loop
-  module _ {u v : BoardView G N} {x y z : VisitsView} (f : ℕ → ℕ) (i n : ℕ) (before : IsKept m side (count_below i f) u v x y) where
-    pub part_kept : {w : BoardView G N} → i < n → IsKept m side (f i) v w y z → IsKept m side (count_below n f) u w x z
+  module _ {u v : BoardView G N} {x y z : VisitsView} (f : ℕ → ℕ) (i n : ℕ) (before : IsSerialKept m side (count_below i f) u v x y) where
+    pub part_kept : {w : BoardView G N} → i < n → IsSerialKept m side (f i) v w y z → IsSerialKept m side (count_below n f) u w x z
     part_kept l q = kept_after before q (count_part f i n l)
 
-    pub part_more : {w : BoardView G N} → IsKept m side (f i) v w y z → IsKept m side (count_below (i + 1) f) u w x z
+    pub part_more : {w : BoardView G N} → IsSerialKept m side (f i) v w y z → IsSerialKept m side (count_below (i + 1) f) u w x z
     part_more q = kept_after before q (count_part f i (i + 1) (omega arith))
 
     pub part_cut : i < n → IsCut side (f i) y z → IsCut side (count_below n f) x z
@@ -80,7 +81,7 @@ stops_below L L' NoMemory c l h = h
 pub stops_more : {C C' : Type 0} (L : Type 0) (stop : Stop) → (C → C') → Stops C L stop → Stops C' L stop
 stops_more L stop c h = stops_below L L stop c (λ l. l) h
 
-pub ends_more : (F : ℤ → Type 0) {C C' : Type 0} (L : Type 0) (r : Result ℤ Stop) → (C → C') → Ends F C L r → Ends F C' L r
+pub ends_more : (F : ℤ → Type 0) {C C' : Type 0} (L : Type 0) (r : Result ℤ Stop) → (C → C') → EndsWith F C L r → EndsWith F C' L r
 ends_more F L (Ok x) c h = h
 ends_more F L (Err stop) c h = stops_more L stop c h
 

@@ -12,7 +12,7 @@ use Rattle.bounds_board.specs.Views.{BoardView, WasFull}
 use Rattle.bounds_board.proofs.FullLemmas.{rows_too_few}
 use Rattle.serial_ab.specs.Counts.{VisitsView, Counts, IsCut, spent_on, left_on}
 use Rattle.serial_ab.specs.Roots.{IsSearchable, IsRootValue}
-use Rattle.serial_ab.specs.Searches.{Ends, IsFound}
+use Rattle.serial_ab.specs.Searches.{EndsWith, IsFound}
 use Rattle.serial_ab.specs.declared.stop.Stop.{Stop}
 use Rattle.serial_ab.specs.declared.stop.Stop.TheVariants.{Cut, Full, NoMemory}
 use Rattle.serial_ab.proofs.SearchLemmas.{whole_range}
@@ -42,8 +42,8 @@ had_left side v r not none = let some : ¬ (left_on side v ≡ 0) = λ e. not (n
 -- how a search of the root over the whole range ends
 pub root_ends : {S G N : Type 0} (m : GameModel S) (game : IsGame m) (side : Side) (v : BoardView G N) (old new : VisitsView) (r : Result ℤ Stop) → IsSearchable m
     → (left_on side old ≡ 0 → r ≡ Err Cut) → OnOk r (spent_on side old + 2 ≤ spent_on side new)
-    → Ends (IsFound m side m.root (opening_bound m side) (opening_bound m (other_side side)) v) (IsCut side (tree_size m m.root) old new) (WasFull m v (LeadsTo m m.root)) r
-    → Ends (IsRootValue m side old new) (IsCut side (tree_size m m.root) old new) (1 ≤ left_on side old × WasFull m v (LeadsTo m m.root)) r
+    → EndsWith (IsFound m side m.root (opening_bound m side) (opening_bound m (other_side side)) v) (IsCut side (tree_size m m.root) old new) (WasFull m v (LeadsTo m m.root)) r
+    → EndsWith (IsRootValue m side old new) (IsCut side (tree_size m m.root) old new) (1 ≤ left_on side old × WasFull m v (LeadsTo m m.root)) r
 root_ends m game side v old new (Ok x) searched none entered found = record {
   value = (whole_range m game side m.root v x (reachable_root m) found (whole_wide m side searched)).0;
   had_left = λ _. had_left side old (Ok x) (λ e. cc) none;
@@ -57,7 +57,8 @@ root_ends m game side v old new (Err NoMemory) searched none entered h = h
 pub one_word : (x y : ℤ) → SFits w64 x → SFits w64 y → of_z w64 x ≡ of_z w64 y → x ≡ y
 one_word x y f g e = sym (to_z-of_z w64 x f) ∙ ap (to_z w64) e ∙ to_z-of_z w64 y g
 
-pub equal_payoffs : {S : Type 0} (m : GameModel S) (game : IsGame m) (side : Side) (v : VisitsView) → opening_bound m One ≡ opening_bound m Two → IsRootValue m side v v (opening_bound m One)
+pub equal_payoffs : {S : Type 0} (m : GameModel S) (game : IsGame m) (side : Side) (v : VisitsView) → opening_bound m One ≡ opening_bound m Two
+    → IsRootValue m side v v (opening_bound m One)
 equal_payoffs m game side v e = record {
   value = value_alone m game m.root (reachable_root m) side e;
   had_left = λ open_game. let wide = open_game.wide in absurd (omega (arith, ints));
@@ -66,8 +67,16 @@ equal_payoffs m game side v e = record {
 
 -- visits of the other side change nothing
 pub cut_before : (side : Side) (need most : ℕ) (old mid new : VisitsView) → Counts (other_side side) most old mid → IsCut side need mid new → IsCut side need old new
-cut_before One need most old mid new counts cut = record { none_left = cut.none_left; too_few = let l = counts.limit in let o = counts.other in let f = cut.too_few in rw (sym l, sym o) f }
-cut_before Two need most old mid new counts cut = record { none_left = cut.none_left; too_few = let l = counts.limit in let o = counts.other in let f = cut.too_few in rw (sym l, sym o) f }
+cut_before One need most old mid new counts cut = record {
+  none_left = cut.none_left;
+  too_few = let l = counts.limit in let o = counts.other in let f = cut.too_few in
+      rw (sym l, sym o) f;
+}
+cut_before Two need most old mid new counts cut = record {
+  none_left = cut.none_left;
+  too_few = let l = counts.limit in let o = counts.other in let f = cut.too_few in
+      rw (sym l, sym o) f;
+}
 
 -- a full board had no row for each state
 pub no_room : {S G N : Type 0} (m : GameModel S) (v : BoardView G N) (IsAsked : S → Type 0) (rows : ℕ) → v.rows ≡ rows → WasFull m v IsAsked → HasAtMost m rows → ⊥

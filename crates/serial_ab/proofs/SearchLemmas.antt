@@ -1,5 +1,6 @@
 -- The steps of a search.
-use Rattle.std.proofs.Common.{◌≡◌, ◌⊎◌, inl, inr, ⊎_elim, ℕ, zero, suc, ◌+◌, ◌<◌, ◌≤◌, ℤ, pos, cond, eqb, List, [], ◌∷◌, ◌++◌, length, length-append, take, drop, ◌-◌, refl, sym, ap, subst, ◌∙◌, append-nil, append_assoc, add-one, arith}
+use Rattle.std.proofs.Common.{◌≡◌, ◌⊎◌, inl, inr, ⊎_elim, ℕ, zero, suc, ◌+◌, ◌<◌, ◌≤◌, ℤ, pos, cond, eqb, List, [], ◌∷◌, ◌++◌, length, length-append, take}
+use Rattle.std.proofs.Common.{drop, ◌-◌, refl, sym, ap, subst, ◌∙◌, append-nil, append_assoc, add-one, arith}
 use Rattle.std.proofs.Math.Seq.{drop-append_seam, take-length}
 use Rattle.std.proofs.lemmas.Bool.{cases_lt}
 use Rattle.sim_game.specs.declared.Side.{Side}
@@ -10,7 +11,9 @@ use Rattle.plan_book.specs.Serial.{serial_bound}
 use Rattle.plan_book.specs.Entries.{concat_below}
 use Rattle.plan_book.proofs.BackedLemmas.{mean_within}
 use Rattle.plan_book.proofs.ExpectedLemmas.{is_same, is_other}
-use Rattle.sim_game.proofs.SideLemmas.{better_cases, better_left, better_right, looser_refl, looser_trans, looser_left, looser_right, looser_both, tighter_or, tighter_not, tighter_is, tighter_than, least_tighter, above_better, worse_left, worse_right, below_worse, worse_is, better_is}
+use Rattle.sim_game.proofs.SideLemmas.{better_cases, better_left, better_right, looser_refl, looser_trans, looser_left, looser_right, looser_both, tighter_or}
+use Rattle.sim_game.proofs.SideLemmas.{tighter_not, tighter_is, tighter_than, least_tighter, above_better, worse_left, worse_right, below_worse, worse_is}
+use Rattle.sim_game.proofs.SideLemmas.{better_is}
 use Rattle.bounds_board.specs.Views.{BoardView, IsLater, IsSeenNumber, by_end, by_opening, by_seen}
 use Rattle.serial_ab.specs.Values.{pair_value, move_value}
 use Rattle.serial_ab.specs.Searches.{IsWindow, IsFound, IsMoveFound, IsPairFound, IsGoodNumber, IsReplied}
@@ -24,7 +27,8 @@ joined_same (suc n) f g h = let front = joined_same n f g (λ i p. h i (omega ar
 
 -- the part of a stack from where it began
 pub part_of : (before part all : List ℤ) (start : ℕ) → start ≡ length before → all ≡ before ++ part → take (length all - start) (drop start all) ≡ part
-part_of before part all start s e = rw (e, s, drop-append_seam before part, length-append before part) (let n : (length before + length part) - length before ≡ length part = omega arith in rw n (take-length part))
+part_of before part all start s e = rw (e, s, drop-append_seam before part, length-append before part)
+    (let n : (length before + length part) - length before ≡ length part = omega arith in rw n (take-length part))
 
 -- what is known after the first own moves
 pub record MovesSoFar {S G N : Type 0} (m : GameModel S) (side : Side) (s : S) (worse good : ℤ) (owns : ℕ) (value : ℤ) (v : BoardView G N) : Type 0 where
@@ -35,14 +39,16 @@ pub record MovesSoFar {S G N : Type 0} (m : GameModel S) (side : Side) (s : S) (
   pub opened : IsNoTighter side (opening_bound m side) (v.seen side (m.key s))
 
 -- what is known after the first replies to an own move
-pub record RepliesSoFar {S G N : Type 0} (m : GameModel S) (side : Side) (s : S) (own : ℕ) (floor good : ℤ) (replies : ℕ) (least : ℤ) (v : BoardView G N) (before reads : List ℤ) : Type 0 where
+pub record RepliesSoFar {S G N : Type 0} (m : GameModel S) (side : Side) (s : S) (own : ℕ) (floor good : ℤ) (replies : ℕ) (least : ℤ) (v : BoardView G N)
+    (before reads : List ℤ) : Type 0 where
   pub wide : IsTighter side least floor
   pub part : List ℤ
   pub joins : reads ≡ before ++ part
   pub replied : IsReplied m side s own replies v part least
   pub reached : IsTighter side good least → IsNoTighter side (move_value m side s own) least
 
-pub move_window : {S : Type 0} (m : GameModel S) (side : Side) (worse good value : ℤ) → IsWindow m side worse good → IsTighter side good value → IsWindow m side (better side value worse) good
+pub move_window : {S : Type 0} (m : GameModel S) (side : Side) (worse good value : ℤ) → IsWindow m side worse good → IsTighter side good value
+    → IsWindow m side (better side value worse) good
 move_window m side worse good value window wide = record {
   from = looser_trans side _ worse _ window.from (better_right side value worse);
   to = window.to;
@@ -50,11 +56,16 @@ move_window m side worse good value window wide = record {
 }
 
 -- a number that is at least as tight as the window's worse end came from the first moves, or from this one
-new_value : (side : Side) (worse value x : ℤ) → IsTighter side (better side value x) worse → (IsTighter side value worse × (better side value x ≡ value)) ⊎ (IsTighter side x (better side value worse) × (better side value x ≡ x))
+new_value : (side : Side) (worse value x : ℤ) → IsTighter side (better side value x) worse
+    → (IsTighter side value worse × (better side value x ≡ value)) ⊎ (IsTighter side x (better side value worse) × (better side value x ≡ x))
 new_value side worse value x t = ⊎_elim
     (λ (more : IsTighter side x (better side value worse)).
     let higher : IsNoTighter side value x = looser_trans side _ _ _ (better_left side value worse) (tighter_is side x (better side value worse) more) in
-    inr (more, ⊎_elim (λ (e : better side value x ≡ value). e ∙ looser_both side value x higher (looser_right side _ _ _ e (better_right side value x))) (λ (e : better side value x ≡ x). e) (better_cases side value x)))
+    inr (
+      more,
+      ⊎_elim (λ (e : better side value x ≡ value). e ∙ looser_both side value x higher (looser_right side _ _ _ e (better_right side value x)))
+          (λ (e : better side value x ≡ x). e) (better_cases side value x),
+    ))
     (λ (less : IsNoTighter side x (better side value worse)). ⊎_elim
     (λ (e : better side value x ≡ value). inl (subst (λ (z : ℤ). IsTighter side z worse) e t, e))
     (λ (e : better side value x ≡ x). let above : IsTighter side x worse = subst (λ (z : ℤ). IsTighter side z worse) e t in ⊎_elim
@@ -65,10 +76,12 @@ new_value side worse value x t = ⊎_elim
     (better_cases side value x))
     (tighter_or side x (better side value worse))
 
-pub whole_window : {S : Type 0} (m : GameModel S) (side : Side) → IsTighter side (opening_bound m (other_side side)) (opening_bound m side) → IsWindow m side (opening_bound m side) (opening_bound m (other_side side))
+pub whole_window : {S : Type 0} (m : GameModel S) (side : Side) → IsTighter side (opening_bound m (other_side side)) (opening_bound m side)
+    → IsWindow m side (opening_bound m side) (opening_bound m (other_side side))
 whole_window m side wide = record { from = looser_refl side (opening_bound m side); to = looser_refl side (opening_bound m (other_side side)); wide = wide }
 
-pub pair_window : {S : Type 0} (m : GameModel S) (side : Side) (floor good least : ℤ) → IsWindow m side floor good → IsTighter side least floor → IsWindow m side floor (better (other_side side) good least)
+pub pair_window : {S : Type 0} (m : GameModel S) (side : Side) (floor good least : ℤ) → IsWindow m side floor good → IsTighter side least floor
+    → IsWindow m side floor (better (other_side side) good least)
 pair_window m side floor good least window wide = record {
   from = window.from;
   to = looser_trans side _ good _ (worse_left side good least) window.to;
@@ -76,9 +89,23 @@ pair_window m side floor good least window wide = record {
 }
 
 -- a pair of moves is worth no more than the other side's opening bound
-top_pair : {S : Type 0} (m : GameModel S) (game : IsGame m) (side : Side) (s : S) (own reply : ℕ) → Reachable m s → own < m.moves side s → reply < m.moves (other_side side) s → IsNoTighter side (pair_value m side s own reply) (opening_bound m (other_side side))
+top_pair : {S : Type 0} (m : GameModel S) (game : IsGame m) (side : Side) (s : S) (own reply : ℕ) → Reachable m s → own < m.moves side s → reply < m.moves (other_side side) s
+    → IsNoTighter side (pair_value m side s own reply) (opening_bound m (other_side side))
 top_pair m game side s own reply r at q = mean_within m game side s (λ a b d. serial_bound m side (child_of m side s a b d)) own reply (opening_bound m (other_side side)) r at q
     (λ d u. serial_high m game side (child_of m side s own reply d) (child_is m game side s own reply d r at q u))
+
+bound_seen : {S G N : Type 0} (m : GameModel S) (side : Side) (s : S) (v : BoardView G N) (x : ℤ) → 1 ≤ m.rank s → IsNoTighter side (opening_bound m side) (v.seen side (m.key s))
+    → IsSeenNumber m v side s x
+    → IsNoTighter side x (v.seen side (m.key s))
+bound_seen m side s v x goes opened (by_end e h) = absurd (omega arith)
+bound_seen m side s v x goes opened (by_opening e) = looser_left side _ _ _ (sym e) opened
+bound_seen m side s v x goes opened (by_seen h) = h
+
+-- of a state that is no end, a number above the window's worse end was seen
+pub found_seen : {S G N : Type 0} (m : GameModel S) (side : Side) (s : S) {worse good : ℤ} (v : BoardView G N) (x : ℤ) → 1 ≤ m.rank s → IsFound m side s worse good v x
+    → IsTighter side x worse
+    → IsNoTighter side x (v.seen side (m.key s))
+found_seen m side s v x goes found t = bound_seen m side s v x goes (found.opened goes) (found.seen t)
 
 module _ {S G N : Type 0} (m : GameModel S) (game : IsGame m) (side : Side) (s : S) where
   -- ---- an end
@@ -92,7 +119,8 @@ module _ {S G N : Type 0} (m : GameModel S) (game : IsGame m) (side : Side) (s :
 
   module _ (r : Reachable m s) (goes : 1 ≤ m.rank s) where
     -- ---- the moves of a state
-    pub moves_start : (worse good : ℤ) (v : BoardView G N) → IsWindow m side worse good → IsNoTighter side (opening_bound m side) (v.seen side (m.key s)) → MovesSoFar m side s worse good 0 (opening_bound m side) v
+    pub moves_start : (worse good : ℤ) (v : BoardView G N) → IsWindow m side worse good → IsNoTighter side (opening_bound m side) (v.seen side (m.key s))
+        → MovesSoFar m side s worse good 0 (opening_bound m side) v
     moves_start worse good v window opened = record {
       wide = tighter_than side good worse (opening_bound m side) window.wide window.from;
       proven = λ t. absurd (tighter_not side (opening_bound m side) worse t window.from);
@@ -106,12 +134,14 @@ module _ {S G N : Type 0} (m : GameModel S) (game : IsGame m) (side : Side) (s :
       value_proven : IsTighter side (better side value x) worse → IsNoTighter side (better side value x) (serial_bound m side s)
       value_proven t = ⊎_elim
           (λ (h : IsTighter side value worse × (better side value x ≡ value)). looser_left side _ _ _ (sym h.1) (so_far.proven h.0))
-          (λ (h : IsTighter side x (better side value worse) × (better side value x ≡ x)). looser_left side _ _ _ (sym h.1) (looser_trans side _ _ _ (found.proven h.0) (move_below m game side s own r goes at)))
+          (λ (h : IsTighter side x (better side value worse) × (better side value x ≡ x)). looser_left side _ _ _ (sym h.1)
+          (looser_trans side _ _ _ (found.proven h.0) (move_below m game side s own r goes at)))
           (new_value side worse value x t)
 
       value_seen : IsTighter side (better side value x) worse → IsNoTighter side (better side value x) (v.seen side (m.key s))
       value_seen t = ⊎_elim
-          (λ (h : IsTighter side value worse × (better side value x ≡ value)). looser_left side _ _ _ (sym h.1) (looser_trans side _ _ _ (so_far.seen h.0) (later.seen side (m.key s))))
+          (λ (h : IsTighter side value worse × (better side value x ≡ value)). looser_left side _ _ _ (sym h.1)
+          (looser_trans side _ _ _ (so_far.seen h.0) (later.seen side (m.key s))))
           (λ (h : IsTighter side x (better side value worse) × (better side value x ≡ x)). looser_left side _ _ _ (sym h.1) (found.seen h.0))
           (new_value side worse value x t)
 
@@ -147,7 +177,8 @@ module _ {S G N : Type 0} (m : GameModel S) (game : IsGame m) (side : Side) (s :
 
     -- ---- the replies to an own move
     module _ (own : ℕ) (at : own < m.moves side s) where
-      pub replies_start : (floor good : ℤ) (v : BoardView G N) (before : List ℤ) → IsWindow m side floor good → RepliesSoFar m side s own floor good 0 (opening_bound m (other_side side)) v before before
+      pub replies_start : (floor good : ℤ) (v : BoardView G N) (before : List ℤ) → IsWindow m side floor good
+          → RepliesSoFar m side s own floor good 0 (opening_bound m (other_side side)) v before before
       replies_start floor good v before window = record {
         wide = least_tighter side _ good floor window.to window.wide;
         part = [];
@@ -158,7 +189,8 @@ module _ {S G N : Type 0} (m : GameModel S) (game : IsGame m) (side : Side) (s :
       }
 
       module _ (floor good : ℤ) (reply : ℕ) (against : reply < m.moves (other_side side) s) (least x : ℤ) (u v : BoardView G N) (later : IsLater u v) (before now after : List ℤ)
-          (so_far : RepliesSoFar m side s own floor good reply least u before now) (found : IsPairFound m side s own reply floor (better (other_side side) good least) v now after x) where
+          (so_far : RepliesSoFar m side s own floor good reply least u before now)
+          (found : IsPairFound m side s own reply floor (better (other_side side) good least) v now after x) where
         -- the least number so far bounds the move where it is below the window's better end
         least_reached : IsTighter side good (better (other_side side) least x) → IsNoTighter side (move_value m side s own) (better (other_side side) least x)
         least_reached t = ⊎_elim
@@ -171,7 +203,8 @@ module _ {S G N : Type 0} (m : GameModel S) (game : IsGame m) (side : Side) (s :
             looser_right side _ _ _ (sym is) (so_far.reached (subst (λ (z : ℤ). IsTighter side good z) is t)))
             (tighter_or side least x) where
               worse_least : (a b c : ℤ) → IsNoTighter side c a → IsNoTighter side c b → IsNoTighter side c (better (other_side side) a b)
-              worse_least a b c p q = ⊎_elim (λ (e : better (other_side side) a b ≡ a). looser_right side c _ _ (sym e) p) (λ (e : better (other_side side) a b ≡ b). looser_right side c _ _ (sym e) q) (better_cases (other_side side) a b)
+              worse_least a b c p q = ⊎_elim (λ (e : better (other_side side) a b ≡ a). looser_right side c _ _ (sym e) p)
+                  (λ (e : better (other_side side) a b ≡ b). looser_right side c _ _ (sym e) q) (better_cases (other_side side) a b)
 
         joined : after ≡ before ++ (so_far.part ++ concat_below (draws_of m side s own reply) (λ d. found.numbers d ∷ []))
         joined = found.listed ∙ ap (λ (l : List ℤ). l ++ concat_below (draws_of m side s own reply) (λ d. found.numbers d ∷ [])) so_far.joins ∙ append_assoc before so_far.part _
@@ -193,7 +226,8 @@ module _ {S G N : Type 0} (m : GameModel S) (game : IsGame m) (side : Side) (s :
         latest : (d : ℕ) → numbers_after reply d ≡ found.numbers d
         latest d = rw (is_same reply reply refl) refl
 
-        pub replies_more : IsTighter side (better (other_side side) least x) floor → RepliesSoFar m side s own floor good (reply + 1) (better (other_side side) least x) v before after
+        pub replies_more : IsTighter side (better (other_side side) least x) floor → RepliesSoFar m side s own floor good (reply + 1) (better (other_side side) least x) v before
+            after
         replies_more wide =
             let tight : IsTighter side x floor = least_tighter side x (better (other_side side) least x) floor (worse_right side least x) wide in record {
               wide = wide;
@@ -204,10 +238,12 @@ module _ {S G N : Type 0} (m : GameModel S) (game : IsGame m) (side : Side) (s :
                 numbers = numbers_after;
                 listed = ap (λ (l : List ℤ). l ++ concat_below (draws_of m side s own reply) (λ d. found.numbers d ∷ [])) (so_far.replied.listed
                     ∙ joined_same reply _ _ (λ i h. joined_same (draws_of m side s own i) _ _ (λ d _. ap (λ (z : ℤ). z ∷ []) (sym (earlier i d h)))))
-                    ∙ ap (λ (l : List ℤ). concat_below reply (λ i. concat_below (draws_of m side s own i) (λ d. numbers_after i d ∷ [])) ++ l) (joined_same (draws_of m side s own reply) _ _ (λ d _. ap (λ (z : ℤ). z ∷ []) (sym (latest d))))
+                    ∙ ap (λ (l : List ℤ). concat_below reply (λ i. concat_below (draws_of m side s own i) (λ d. numbers_after i d ∷ [])) ++ l)
+                    (joined_same (draws_of m side s own reply) _ _ (λ d _. ap (λ (z : ℤ). z ∷ []) (sym (latest d))))
                     ∙ sym (ap (λ (n : ℕ). concat_below n (λ i. concat_below (draws_of m side s own i) (λ d. numbers_after i d ∷ []))) (add-one reply));
                 good = λ i d h w. ⊎_elim
-                    (λ (lt : i < reply). subst (λ (z : ℤ). IsGoodNumber m side v (child_of m side s own i d) z) (sym (earlier i d lt)) (good_later later (so_far.replied.good i d lt w)))
+                    (λ (lt : i < reply). subst (λ (z : ℤ). IsGoodNumber m side v (child_of m side s own i d) z) (sym (earlier i d lt))
+                    (good_later later (so_far.replied.good i d lt w)))
                     (λ (ge : reply ≤ i). let same : reply ≡ i = omega arith in
                     subst (λ (k : ℕ). (d' : ℕ) → d' < draws_of m side s own k → IsGoodNumber m side v (child_of m side s own k d') (numbers_after k d')) same
                     (λ d' w'. subst (λ (z : ℤ). IsGoodNumber m side v (child_of m side s own reply d') z) (sym (latest d')) (found.good tight d' w')) d w)
@@ -224,28 +260,34 @@ module _ {S G N : Type 0} (m : GameModel S) (game : IsGame m) (side : Side) (s :
             }
 
       -- all replies were tried and the step was posted
-      pub replies_end : (floor good least : ℤ) (u v : BoardView G N) (before reads : List ℤ) → RepliesSoFar m side s own floor good (m.moves (other_side side) s) least u before reads → IsNoTighter side least (v.seen side (m.key s)) → IsMoveFound m side s own floor good v least
+      pub replies_end : (floor good least : ℤ) (u v : BoardView G N) (before reads : List ℤ) → RepliesSoFar m side s own floor good (m.moves (other_side side) s) least u before
+          reads → IsNoTighter side least (v.seen side (m.key s)) → IsMoveFound m side s own floor good v least
       replies_end floor good least u v before reads so_far seen = record {
         proven = λ _. replies_all m game side s own least (game.other_moves (other_side side) s r goes) (λ reply q. looser_trans side _ _ _ (so_far.replied.proven reply q)
-            (cell_mono m side s (λ _ a b. so_far.replied.numbers a b) (λ a b d. serial_bound m side (child_of m side s a b d)) own reply (λ d w. (so_far.replied.good reply d q w).proven)));
+            (cell_mono m side s (λ _ a b. so_far.replied.numbers a b) (λ a b d. serial_bound m side (child_of m side s a b d)) own reply
+            (λ d w. (so_far.replied.good reply d q w).proven)));
         seen = λ _. seen;
         reached = so_far.reached;
       }
 
       -- ---- a reply with one draw
       module _ (reply : ℕ) (against : reply < m.moves (other_side side) s) where
-        pub pair_one : (floor ceiling : ℤ) (v : BoardView G N) (before after : List ℤ) (x : ℤ) → draws_of m side s own reply ≡ 1 → IsFound m side (child_of m side s own reply 0) floor ceiling v x → after ≡ before ++ x ∷ []
+        pub pair_one : (floor ceiling : ℤ) (v : BoardView G N) (before after : List ℤ) (x : ℤ) → draws_of m side s own reply ≡ 1
+            → IsFound m side (child_of m side s own reply 0) floor ceiling v x → after ≡ before ++ x ∷ []
             → IsPairFound m side s own reply floor ceiling v before after x
         pair_one floor ceiling v before after x one found listed = record {
           numbers = λ _. x;
           listed = listed ∙ ap (λ (n : ℕ). before ++ concat_below n (λ d. x ∷ [])) (sym one);
-          good = λ t d w. let first : 0 ≡ d = omega arith in subst (λ (i : ℕ). IsGoodNumber m side v (child_of m side s own reply i) x) first (record { proven = found.proven t; seen = found.seen t });
+          good = λ t d w. let first : 0 ≡ d = omega arith in subst (λ (i : ℕ). IsGoodNumber m side v (child_of m side s own reply i) x) first
+              (record { proven = found.proven t; seen = found.seen t });
           proven = λ t. looser_right side x _ _ (sym (cell_one m game side s (λ _ _ d. x) own reply r at against one)) (looser_refl side x);
-          reached = λ t. looser_left side _ _ _ (sym (cell_one m game side s (λ a b d. serial_bound m side (child_of m side s a b d)) own reply r at against one)) (found.reached t);
+          reached = λ t. looser_left side _ _ _ (sym (cell_one m game side s (λ a b d. serial_bound m side (child_of m side s a b d)) own reply r at against one))
+              (found.reached t);
         }
 
         -- ---- a reply with several draws
-        pub pair_several : (floor ceiling : ℤ) (v : BoardView G N) (before after : List ℤ) → after ≡ before ++ concat_below (draws_of m side s own reply) (λ d. serial_bound m side (child_of m side s own reply d) ∷ [])
+        pub pair_several : (floor ceiling : ℤ) (v : BoardView G N) (before after : List ℤ)
+            → after ≡ before ++ concat_below (draws_of m side s own reply) (λ d. serial_bound m side (child_of m side s own reply d) ∷ [])
             → ((d : ℕ) → d < draws_of m side s own reply → IsGoodNumber m side v (child_of m side s own reply d) (serial_bound m side (child_of m side s own reply d)))
             → IsPairFound m side s own reply floor ceiling v before after (pair_value m side s own reply)
         pair_several floor ceiling v before after listed good = record {
@@ -258,12 +300,15 @@ module _ {S G N : Type 0} (m : GameModel S) (game : IsGame m) (side : Side) (s :
 
   -- ---- the whole range
   -- over the whole range the number is the serial bound, and seen
-  pub whole_range : (v : BoardView G N) (x : ℤ) → Reachable m s → IsFound m side s (opening_bound m side) (opening_bound m (other_side side)) v x → IsTighter side (opening_bound m (other_side side)) (opening_bound m side)
+  pub whole_range : (v : BoardView G N) (x : ℤ) → Reachable m s → IsFound m side s (opening_bound m side) (opening_bound m (other_side side)) v x
+      → IsTighter side (opening_bound m (other_side side)) (opening_bound m side)
       → (x ≡ serial_bound m side s) × IsGoodNumber m side v s x
   whole_range v x r found range = let low = serial_low m game side s r in ⊎_elim
       (λ (t : IsTighter side x (opening_bound m side)).
       let proven = found.proven t in
-      let upper : IsNoTighter side (serial_bound m side s) x = ⊎_elim (λ (b : IsTighter side (opening_bound m (other_side side)) x). found.reached b) (λ (b : IsNoTighter side (opening_bound m (other_side side)) x). looser_trans side _ _ _ (serial_high m game side s r) b) (tighter_or side (opening_bound m (other_side side)) x) in
+      let upper : IsNoTighter side (serial_bound m side s) x = ⊎_elim (λ (b : IsTighter side (opening_bound m (other_side side)) x). found.reached b)
+      (λ (b : IsNoTighter side (opening_bound m (other_side side)) x). looser_trans side _ _ _ (serial_high m game side s r) b)
+      (tighter_or side (opening_bound m (other_side side)) x) in
       (looser_both side x _ proven upper, record { proven = proven; seen = found.seen t }))
       (λ (t : IsNoTighter side x (opening_bound m side)).
       let upper = found.reached (tighter_than side _ (opening_bound m side) x range t) in
@@ -271,10 +316,8 @@ module _ {S G N : Type 0} (m : GameModel S) (game : IsGame m) (side : Side) (s :
       (looser_both side x _ lower upper, record { proven = lower; seen = by_opening (looser_both side x _ t (looser_trans side _ _ _ low upper)) }))
       (tighter_or side x (opening_bound m side))
 
-  pub whole_seen : (v : BoardView G N) (x : ℤ) → Reachable m s → 1 ≤ m.rank s → IsFound m side s (opening_bound m side) (opening_bound m (other_side side)) v x → IsTighter side (opening_bound m (other_side side)) (opening_bound m side)
+  pub whole_seen : (v : BoardView G N) (x : ℤ) → Reachable m s → 1 ≤ m.rank s → IsFound m side s (opening_bound m side) (opening_bound m (other_side side)) v x
+      → IsTighter side (opening_bound m (other_side side)) (opening_bound m side)
       → IsNoTighter side (serial_bound m side s) (v.seen side (m.key s))
-  whole_seen v x r goes found range = let is = whole_range v x r found range in subst (λ (z : ℤ). IsNoTighter side z (v.seen side (m.key s))) is.0 (bound_seen is.1.seen) where
-    bound_seen : IsSeenNumber m v side s x → IsNoTighter side x (v.seen side (m.key s))
-    bound_seen (by_end e h) = absurd (omega arith)
-    bound_seen (by_opening e) = looser_left side _ _ _ (sym e) (found.opened goes)
-    bound_seen (by_seen h) = h
+  whole_seen v x r goes found range = let is = whole_range v x r found range in
+      subst (λ (z : ℤ). IsNoTighter side z (v.seen side (m.key s))) is.0 (bound_seen m side s v x goes (found.opened goes) is.1.seen)

@@ -17,8 +17,8 @@ use Rattle.serial_ab.specs.declared.transpositions.Query.{Query}
 use Rattle.serial_ab.specs.declared.stop.Stop.{Stop}
 use Rattle.serial_ab.specs.declared.stop.Stop.TheVariants.{Cut, Full, NoMemory}
 use Rattle.serial_ab.specs.Counts.{VisitsView, IsCut}
-use Rattle.serial_ab.specs.Searches.{IsFound, Ends}
-use Rattle.serial_ab.specs.Tables.{same_query, told, Tells}
+use Rattle.serial_ab.specs.Searches.{IsFound, EndsWith}
+use Rattle.serial_ab.specs.Tables.{TableView, same_query, told, Tells}
 use Rattle.serial_ab.specs.Values.{inner_nodes}
 use Rattle.serial_ab.specs.Transpositions.{IsRemembered, AreRemembered}
 
@@ -46,7 +46,7 @@ one_more before new k v now q e tells = ⊎_elim
 
 module _ {S G N : Type 0} {m : GameModel S} where
   -- what is remembered stays true as the board knows more
-  pub remembered_later : {u v : BoardView G N} {table : List (Query × Memo)} → IsLater u v → AreRemembered m u table → AreRemembered m v table
+  pub remembered_later : {u v : BoardView G N} {table : TableView} → IsLater u v → AreRemembered m u table → AreRemembered m v table
   remembered_later {u = u} {v = v} later old = record {
     each = λ q e told. let was = old.each q e told in record {
       found = λ s r k. let found = was.found s r k in record {
@@ -60,13 +60,13 @@ module _ {S G N : Type 0} {m : GameModel S} where
     };
   }
 
-  pub remembered_none : {v : BoardView G N} → AreRemembered m v []
-  remembered_none = record { each = λ q e told. absurd (cc) }
+  pub remembered_none : {v : BoardView G N} {table : TableView} → table.stored ≡ [] → AreRemembered m v table
+  remembered_none none = record { each = λ q e told. let nothing = subst (λ (l : List (Query × Memo)). Tells l q e) none told in absurd (cc) }
 
   -- a search of a state is stored
-  pub remembered_more : (game : IsGame m) {v : BoardView G N} {old new : List (Query × Memo)} {query : Query} {memo : Memo} (s : S) → Reachable m s → m.key s ≡ query.key
+  pub remembered_more : (game : IsGame m) {v : BoardView G N} {old new : TableView} {query : Query} {memo : Memo} (s : S) → Reachable m s → m.key s ≡ query.key
       → IsFound m query.side s query.worse query.better v memo.number → 1 ≤ memo.visits → memo.visits ≤ inner_nodes m query.side s → AreRemembered m v old
-      → ((q : Query) (e : Memo) → Tells new q e → (Tells old q e) ⊎ ((q ≡ query) × (e ≡ memo))) → AreRemembered m v new
+      → ((q : Query) (e : Memo) → Tells new.stored q e → (Tells old.stored q e) ⊎ ((q ≡ query) × (e ≡ memo))) → AreRemembered m v new
   remembered_more game {v = v} {query = query} {memo = memo} s r k found some few old stored = record {
     each = λ q e told. ⊎_elim
         (old.each q e)
@@ -84,7 +84,8 @@ module _ {S G N : Type 0} {m : GameModel S} where
     }
 
 -- the answer of a stored search ends as the search does
-pub recall_ends : (F : ℤ → Type 0) {C C' : Type 0} (L : Type 0) (y : ℤ) (r : Result ℤ Stop) → F y → (C → C') → IfOk r (λ x. x ≡ y) → OnErr r C → OnErr r (r ≡ Err Cut) → Ends F C' L r
+pub recall_ends : (F : ℤ → Type 0) {C C' : Type 0} (L : Type 0) (y : ℤ) (r : Result ℤ Stop) → F y → (C → C') → IfOk r (λ x. x ≡ y) → OnErr r C → OnErr r (r ≡ Err Cut)
+    → EndsWith F C' L r
 recall_ends F L y (Ok x) f c ok cut err = subst F (sym ok) f
 recall_ends F L y (Err Cut) f c ok cut err = c cut
 recall_ends F L y (Err Full) f c ok cut err = absurd (cc)

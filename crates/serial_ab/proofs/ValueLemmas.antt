@@ -25,10 +25,12 @@ pub best_same : (side : Side) (last : ℕ) (f g : ℕ → ℤ) → ((i : ℕ) �
 best_same side zero f g h = h 0 (omega arith)
 best_same side (suc last) f g h = let front = best_same side last f g (λ i p. h i (omega arith)) in let end = h (suc last) (omega arith) in cc
 
-pub cell_same : {S : Type 0} (m : GameModel S) (side : Side) (s : S) (f g : ℕ → ℕ → ℕ → ℤ) (own reply : ℕ) → ((d : ℕ) → d < draws_of m side s own reply → f own reply d ≡ g own reply d) → cell m side s f own reply ≡ cell m side s g own reply
+pub cell_same : {S : Type 0} (m : GameModel S) (side : Side) (s : S) (f g : ℕ → ℕ → ℕ → ℤ) (own reply : ℕ)
+    → ((d : ℕ) → d < draws_of m side s own reply → f own reply d ≡ g own reply d) → cell m side s f own reply ≡ cell m side s g own reply
 cell_same m side s f g own reply h = ap (rounded side) (sum_same (draws_of m side s own reply) _ _ (λ d p. ap (λ (x : ℤ). pos (chance_of m side s own reply d) *ℤ x) (h d p)))
 
-pub cell_mono : {S : Type 0} (m : GameModel S) (side : Side) (s : S) (f g : ℕ → ℕ → ℕ → ℤ) (own reply : ℕ) → ((d : ℕ) → d < draws_of m side s own reply → IsNoTighter side (f own reply d) (g own reply d)) → IsNoTighter side (cell m side s f own reply) (cell m side s g own reply)
+pub cell_mono : {S : Type 0} (m : GameModel S) (side : Side) (s : S) (f g : ℕ → ℕ → ℕ → ℤ) (own reply : ℕ)
+    → ((d : ℕ) → d < draws_of m side s own reply → IsNoTighter side (f own reply d) (g own reply d)) → IsNoTighter side (cell m side s f own reply) (cell m side s g own reply)
 cell_mono m side s f g own reply h =
     rounded_tightest side _ _ (looser_trans side _ _ _ (looser_rounded side _)
     (looser_sum side (draws_of m side s own reply) _ _ (λ d p. looser_times side (chance_of m side s own reply d) _ _ (h d p))))
@@ -50,10 +52,12 @@ count_exchange zero k f = sym (count_none k)
 count_exchange (suc n) k f = ap (λ (x : ℕ). x + count_below k (f n)) (count_exchange n k f) ∙ sym (count_add k (λ j. count_below n (λ i. f i j)) (f n))
 
 module _ {S : Type 0} (m : GameModel S) (game : IsGame m) where
-  pub child_is : (side : Side) (s : S) (own reply d : ℕ) → Reachable m s → own < m.moves side s → reply < m.moves (other_side side) s → d < draws_of m side s own reply → Reachable m (child_of m side s own reply d)
+  pub child_is : (side : Side) (s : S) (own reply d : ℕ) → Reachable m s → own < m.moves side s → reply < m.moves (other_side side) s → d < draws_of m side s own reply
+      → Reachable m (child_of m side s own reply d)
   child_is side s own reply d r p q u = reachable_turn m s (turn_of side own reply d) r (side_turn m side s own reply d p q u)
 
-  pub child_lower : (side : Side) (s : S) (own reply d : ℕ) → Reachable m s → own < m.moves side s → reply < m.moves (other_side side) s → d < draws_of m side s own reply → m.rank (child_of m side s own reply d) < m.rank s
+  pub child_lower : (side : Side) (s : S) (own reply d : ℕ) → Reachable m s → own < m.moves side s → reply < m.moves (other_side side) s → d < draws_of m side s own reply
+      → m.rank (child_of m side s own reply d) < m.rank s
   child_lower side s own reply d r p q u = game.rank_falls s (turn_of side own reply d) r (side_turn m side s own reply d p q u)
 
   pub some_draws : (side : Side) (s : S) (own reply : ℕ) → Reachable m s → own < m.moves side s → reply < m.moves (other_side side) s → 1 ≤ draws_of m side s own reply
@@ -61,7 +65,8 @@ module _ {S : Type 0} (m : GameModel S) (game : IsGame m) where
   some_draws Two s own reply r p q = game.draws_low s reply own r q p
 
   -- a state that a child leads to
-  pub full_below : {G N : Type 0} (v : BoardView G N) (side : Side) (s : S) (own reply d : ℕ) → own < m.moves side s → reply < m.moves (other_side side) s → d < draws_of m side s own reply
+  pub full_below : {G N : Type 0} (v : BoardView G N) (side : Side) (s : S) (own reply d : ℕ) → own < m.moves side s → reply < m.moves (other_side side) s
+      → d < draws_of m side s own reply
       → WasFull m v (LeadsTo m (child_of m side s own reply d)) → WasFull m v (LeadsTo m s)
   full_below v side s own reply d p q u = full_weaker m v _ _ (λ t l. leads_turn m s (turn_of side own reply d) t (side_turn m side s own reply d p q u) l)
 
@@ -91,7 +96,8 @@ module _ {S : Type 0} (m : GameModel S) (game : IsGame m) where
       more ∙ rw (is_other (m.rank s) 0 on) (best_same side (m.moves side s - 1) _ _ (λ own a. best_same (other_side side) (m.moves (other_side side) s - 1) _ _ (λ reply b.
       cell_same m side s (λ a b d. serial_within m side (m.rank s) (child_of m side s a b d)) (λ a b d. serial_bound m side (child_of m side s a b d)) own reply (λ d u.
       let lower = child_lower side s own reply d r (omega arith) (omega arith) u in
-      serial_enough side (m.rank s) (m.rank (child_of m side s own reply d)) (child_of m side s own reply d) (child_is side s own reply d r (omega arith) (omega arith) u) (omega arith) (omega arith)))))
+      serial_enough side (m.rank s) (m.rank (child_of m side s own reply d)) (child_of m side s own reply d) (child_is side s own reply d r (omega arith) (omega arith) u)
+      (omega arith) (omega arith)))))
 
   nodes_enough : (n k : ℕ) (s : S) → Reachable m s → m.rank s ≤ n → m.rank s ≤ k → nodes_within m n s ≡ nodes_within m k s
   nodes_enough zero zero s r p q = refl
@@ -125,10 +131,13 @@ module _ {S : Type 0} (m : GameModel S) (game : IsGame m) where
   low_within side (suc turns) s r h = elim (cases_eq (m.rank s) 0) [
     | inl stop ↦ rw (is_same (m.rank s) 0 stop) (opening_at_end m game side s r stop)
     | inr on ↦ let some = game.other_moves side s r (omega arith) in let others = game.other_moves (other_side side) s r (omega arith) in
-        let value : ℕ → ℤ = λ own. best_upto (other_side side) (m.moves (other_side side) s - 1) (λ reply. cell m side s (λ a b d. serial_within m side turns (child_of m side s a b d)) own reply) in
-        let worst = best_reached (other_side side) (m.moves (other_side side) s - 1) (λ reply. cell m side s (λ a b d. serial_within m side turns (child_of m side s a b d)) 0 reply) in
+        let value : ℕ → ℤ = λ own. best_upto (other_side side) (m.moves (other_side side) s - 1)
+        (λ reply. cell m side s (λ a b d. serial_within m side turns (child_of m side s a b d)) own reply) in
+        let worst = best_reached (other_side side) (m.moves (other_side side) s - 1)
+        (λ reply. cell m side s (λ a b d. serial_within m side turns (child_of m side s a b d)) 0 reply) in
         rw (is_other (m.rank s) 0 on) (looser_trans side _ (value 0) _
-        (looser_right side _ _ _ (sym worst.2) (mean_above side s (λ a b d. serial_within m side turns (child_of m side s a b d)) 0 worst.0 (opening_bound m side) r (omega arith) (omega (arith, worst.1)) (λ d u.
+        (looser_right side _ _ _ (sym worst.2) (mean_above side s (λ a b d. serial_within m side turns (child_of m side s a b d)) 0 worst.0 (opening_bound m side) r (omega arith)
+        (omega (arith, worst.1)) (λ d u.
         let lower = child_lower side s 0 worst.0 d r (omega arith) (omega (arith, worst.1)) u in
         low_within side turns (child_of m side s 0 worst.0 d) (child_is side s 0 worst.0 d r (omega arith) (omega (arith, worst.1)) u) (omega arith))))
         (best_bounds side (m.moves side s - 1) value 0 (omega arith)))
@@ -144,23 +153,27 @@ module _ {S : Type 0} (m : GameModel S) (game : IsGame m) where
   pub move_below : (side : Side) (s : S) (own : ℕ) → Reachable m s → 1 ≤ m.rank s → own < m.moves side s → IsNoTighter side (move_value m side s own) (serial_bound m side s)
   move_below side s own r goes p = looser_right side _ _ _ (sym (serial_moves side s r goes)) (best_bounds side (m.moves side s - 1) (move_value m side s) own (omega arith))
 
-  pub pair_above : (side : Side) (s : S) (own reply : ℕ) → 1 ≤ m.moves (other_side side) s → reply < m.moves (other_side side) s → IsNoTighter side (move_value m side s own) (pair_value m side s own reply)
+  pub pair_above : (side : Side) (s : S) (own reply : ℕ) → 1 ≤ m.moves (other_side side) s → reply < m.moves (other_side side) s
+      → IsNoTighter side (move_value m side s own) (pair_value m side s own reply)
   pair_above side s own reply some q = flip_side side _ _ (best_bounds (other_side side) (m.moves (other_side side) s - 1) (pair_value m side s own) reply (omega arith))
 
   -- what bounds each own move's value bounds the state's
-  pub moves_all : (side : Side) (s : S) (x : ℤ) → Reachable m s → 1 ≤ m.rank s → ((own : ℕ) → own < m.moves side s → IsNoTighter side (move_value m side s own) x) → IsNoTighter side (serial_bound m side s) x
+  pub moves_all : (side : Side) (s : S) (x : ℤ) → Reachable m s → 1 ≤ m.rank s → ((own : ℕ) → own < m.moves side s → IsNoTighter side (move_value m side s own) x)
+      → IsNoTighter side (serial_bound m side s) x
   moves_all side s x r goes h =
       let best = best_reached side (m.moves side s - 1) (move_value m side s) in let some = game.other_moves side s r goes in
       looser_left side _ _ _ (sym (serial_moves side s r goes ∙ best.2)) (h best.0 (omega (arith, best.1)))
 
   -- what each reply's cell is no looser than
-  pub replies_all : (side : Side) (s : S) (own : ℕ) (x : ℤ) → 1 ≤ m.moves (other_side side) s → ((reply : ℕ) → reply < m.moves (other_side side) s → IsNoTighter side x (pair_value m side s own reply)) → IsNoTighter side x (move_value m side s own)
+  pub replies_all : (side : Side) (s : S) (own : ℕ) (x : ℤ) → 1 ≤ m.moves (other_side side) s
+      → ((reply : ℕ) → reply < m.moves (other_side side) s → IsNoTighter side x (pair_value m side s own reply)) → IsNoTighter side x (move_value m side s own)
   replies_all side s own x some h =
       let worst = best_reached (other_side side) (m.moves (other_side side) s - 1) (pair_value m side s own) in
       looser_right side _ _ _ (sym worst.2) (h worst.0 (omega (arith, worst.1)))
 
   -- with one draw the cell is its number
-  pub cell_one : (side : Side) (s : S) (numbers : ℕ → ℕ → ℕ → ℤ) (own reply : ℕ) → Reachable m s → own < m.moves side s → reply < m.moves (other_side side) s → draws_of m side s own reply ≡ 1 → cell m side s numbers own reply ≡ numbers own reply 0
+  pub cell_one : (side : Side) (s : S) (numbers : ℕ → ℕ → ℕ → ℤ) (own reply : ℕ) → Reachable m s → own < m.moves side s → reply < m.moves (other_side side) s
+      → draws_of m side s own reply ≡ 1 → cell m side s numbers own reply ≡ numbers own reply 0
   cell_one side s numbers own reply r p q e =
       let same : (d : ℕ) → d < draws_of m side s own reply → numbers own reply d ≡ numbers own reply 0 = λ d u. let first : d ≡ 0 = omega arith in ap (numbers own reply) first in
       looser_both side _ _

@@ -28,3 +28,8 @@ pub record Counts (side : Side) (most : ℕ) (old new : VisitsView) : Type 0 whe
 pub record IsCut (side : Side) (need : ℕ) (old new : VisitsView) : Type 0 where
   pub none_left : left_on side new ≡ 0
   pub too_few : left_on side old < need
+
+-- visits were counted, with the same limit
+pub record HasCounted (old new : VisitsView) : Type 0 where
+  pub limit : new.limit ≡ old.limit
+  pub rises : (side : Side) → spent_on side old ≤ spent_on side new

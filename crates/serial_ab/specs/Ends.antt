@@ -3,7 +3,7 @@ use Rattle.std.specs.Prelude.{◌≡◌, ℤ, ◌<ℤ◌, ◌≤ℤ◌}
 use Rattle.sim_game.specs.declared.Side.{Side}
 use Rattle.sim_game.specs.declared.Side.TheVariants.{One, Two}
 use Rattle.sim_game.specs.Model.{GameModel}
-use Rattle.sim_game.specs.Sides.{opening_bound}
+use Rattle.sim_game.specs.Sides.{IsNoTighter, opening_bound}
 use Rattle.serial_ab.specs.declared.windowed.SerialEnd.{SerialEnd}
 use Rattle.serial_ab.specs.declared.windowed.SerialEnd.TheVariants.{Exact, AtLeast, AtMost, Cut}
 
@@ -21,8 +21,17 @@ IsPlaced low high x (AtLeast y) = (y ≡ x) × (high ≤ℤ x)
 IsPlaced low high x (AtMost y) = (y ≡ x) × (x ≤ℤ low)
 IsPlaced low high x Cut = ⊥
 
+-- a number inside the window or beyond the side's better end is no tighter than the bound that is known
+abbrev pub IsShown : Side → ℤ → SerialEnd → Type 0
+IsShown side known (Exact x) = IsNoTighter side x known
+IsShown One known (AtLeast x) = IsNoTighter One x known
+IsShown Two known (AtLeast x) = Unit {0}
+IsShown One known (AtMost x) = Unit {0}
+IsShown Two known (AtMost x) = IsNoTighter Two x known
+IsShown side known Cut = Unit {0}
+
 -- the window within the range of payoffs
-pub record IsRange {S : Type 0} (m : GameModel S) (low high : ℤ) : Type 0 where
+pub record IsPayoffWindow {S : Type 0} (m : GameModel S) (low high : ℤ) : Type 0 where
   pub from : opening_bound m One ≤ℤ low
   pub wide : low <ℤ high
   pub to : high ≤ℤ opening_bound m Two

@@ -31,8 +31,3 @@ IsRootEnd m rows old new (Found lower upper) = IsRootValue m One old new lower �
 IsRootEnd m rows old new (Cut One) = IsRootCut m One old new
 IsRootEnd m rows old new (Cut Two) = IsRootCut m Two old new × 1 ≤ left_on One old
 IsRootEnd m rows old new Full = IsSearchable m × 1 ≤ left_on One old × (HasAtMost m rows → ⊥)
-
--- visits were counted, with the same limit
-pub record HasCounted (old new : VisitsView) : Type 0 where
-  pub limit : new.limit ≡ old.limit
-  pub rises : (side : Side) → spent_on side old ≤ spent_on side new

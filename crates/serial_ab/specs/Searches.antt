@@ -22,7 +22,8 @@ pub record IsPureEntry {S : Type 0} (m : GameModel S) (total : ℕ) (e : Entry) 
   pub pure : e.weights ≡ one_move total (length e.weights) place
 
 -- the board knows no less, only lawful steps by one move were posted, and visits were counted
-pub record IsKept {S G N : Type 0} (m : GameModel S) (side : Side) (most : ℕ) (old new : BoardView G N) (before after : VisitsView) : Type 0 where
+pub record IsSerialKept {S G N : Type 0} (m : GameModel S) (side : Side) (most : ℕ) (old new : BoardView G N)
+    (before after : VisitsView) : Type 0 where
   pub later : IsLater old new
   pub posted : Grows (IsPureEntry m old.total) old.entries new.entries
   pub visits : Counts side most before after
@@ -40,44 +41,53 @@ Stops WasCut IsBoardFull Full = IsBoardFull
 Stops WasCut IsBoardFull NoMemory = Unit {0}
 
 -- how a search ends
-abbrev pub Ends : (ℤ → Type 0) → Type 0 → Type 0 → Result ℤ Stop → Type 0
-Ends Found WasCut IsBoardFull (Ok x) = Found x
-Ends Found WasCut IsBoardFull (Err stop) = Stops WasCut IsBoardFull stop
+abbrev pub EndsWith : (ℤ → Type 0) → Type 0 → Type 0 → Result ℤ Stop → Type 0
+EndsWith Found WasCut IsBoardFull (Ok x) = Found x
+EndsWith Found WasCut IsBoardFull (Err stop) = Stops WasCut IsBoardFull stop
 
 -- above the window's worse end the number is proved and seen; below its better end nothing better is there
-pub record IsFound {S G N : Type 0} (m : GameModel S) (side : Side) (s : S) (worse better : ℤ) (v : BoardView G N) (x : ℤ) : Type 0 where
+pub record IsFound {S G N : Type 0} (m : GameModel S) (side : Side) (s : S) (worse better : ℤ) (v : BoardView G N)
+    (x : ℤ) : Type 0 where
   pub proven : IsTighter side x worse → IsNoTighter side x (serial_bound m side s)
   pub seen : IsTighter side x worse → IsSeenNumber m v side s x
   pub reached : IsTighter side better x → IsNoTighter side (serial_bound m side s) x
   pub opened : 1 ≤ m.rank s → IsNoTighter side (opening_bound m side) (v.seen side (m.key s))
 
 -- the row of a state, where what was seen is no looser than the opening bound
-pub record IsOpened {S G N : Type 0} (m : GameModel S) (side : Side) (s : S) (v : BoardView G N) (row : ℕ) : Type 0 where
-  pub has_key : v.key_at row ≡ Some (m.key s)
-  pub opened : IsNoTighter side (opening_bound m side) (v.seen side (m.key s))
+pub record IsOpened {S G N : Type 0} (m : GameModel S) (side : Side) (s : S) (v : BoardView G N) (row : ℕ) : Type 0
+  where
+    pub has_key : v.key_at row ≡ Some (m.key s)
+    pub opened : IsNoTighter side (opening_bound m side) (v.seen side (m.key s))
 
 -- the same of an own move
-pub record IsMoveFound {S G N : Type 0} (m : GameModel S) (side : Side) (s : S) (own : ℕ) (floor better : ℤ) (v : BoardView G N) (x : ℤ) : Type 0 where
+pub record IsMoveFound {S G N : Type 0} (m : GameModel S) (side : Side) (s : S) (own : ℕ) (floor better : ℤ)
+    (v : BoardView G N) (x : ℤ) : Type 0 where
   pub proven : IsTighter side x floor → IsNoTighter side x (move_value m side s own)
   pub seen : IsTighter side x floor → IsNoTighter side x (v.seen side (m.key s))
   pub reached : IsTighter side better x → IsNoTighter side (move_value m side s own) x
 
 -- a number at a child that proves and is seen
-pub record IsGoodNumber {S G N : Type 0} (m : GameModel S) (side : Side) (v : BoardView G N) (s : S) (x : ℤ) : Type 0 where
-  pub proven : IsNoTighter side x (serial_bound m side s)
-  pub seen : IsSeenNumber m v side s x
+pub record IsGoodNumber {S G N : Type 0} (m : GameModel S) (side : Side) (v : BoardView G N) (s : S) (x : ℤ) : Type 0
+  where
+    pub proven : IsNoTighter side x (serial_bound m side s)
+    pub seen : IsSeenNumber m v side s x
 
 -- the same of an own move and a reply, with the numbers at the draws
-pub record IsPairFound {S G N : Type 0} (m : GameModel S) (side : Side) (s : S) (own reply : ℕ) (floor ceiling : ℤ) (v : BoardView G N) (before after : List ℤ) (x : ℤ) : Type 0 where
+pub record IsPairFound {S G N : Type 0} (m : GameModel S) (side : Side) (s : S) (own reply : ℕ) (floor ceiling : ℤ)
+    (v : BoardView G N) (before after : List ℤ) (x : ℤ) : Type 0 where
   pub numbers : ℕ → ℤ
   pub listed : after ≡ before ++ concat_below (draws_of m side s own reply) (λ d. numbers d ∷ [])
-  pub good : IsTighter side x floor → (d : ℕ) → d < draws_of m side s own reply → IsGoodNumber m side v (child_of m side s own reply d) (numbers d)
+  pub good : IsTighter side x floor → (d : ℕ) → d < draws_of m side s own reply
+      → IsGoodNumber m side v (child_of m side s own reply d) (numbers d)
   pub proven : IsTighter side x floor → IsNoTighter side x (cell m side s (λ _ _ d. numbers d) own reply)
   pub reached : IsTighter side ceiling x → IsNoTighter side (pair_value m side s own reply) x
 
 -- the numbers against the first replies of an own move
-pub record IsReplied {S G N : Type 0} (m : GameModel S) (side : Side) (s : S) (own replies : ℕ) (v : BoardView G N) (reads : List ℤ) (least : ℤ) : Type 0 where
+pub record IsReplied {S G N : Type 0} (m : GameModel S) (side : Side) (s : S) (own replies : ℕ) (v : BoardView G N)
+    (reads : List ℤ) (least : ℤ) : Type 0 where
   pub numbers : ℕ → ℕ → ℤ
-  pub listed : reads ≡ concat_below replies (λ reply. concat_below (draws_of m side s own reply) (λ d. numbers reply d ∷ []))
-  pub good : (reply d : ℕ) → reply < replies → d < draws_of m side s own reply → IsGoodNumber m side v (child_of m side s own reply d) (numbers reply d)
+  pub listed : reads ≡ concat_below replies
+      (λ reply. concat_below (draws_of m side s own reply) (λ d. numbers reply d ∷ []))
+  pub good : (reply d : ℕ) → reply < replies → d < draws_of m side s own reply
+      → IsGoodNumber m side v (child_of m side s own reply d) (numbers reply d)
   pub proven : (reply : ℕ) → reply < replies → IsNoTighter side least (cell m side s (λ _ r d. numbers r d) own reply)

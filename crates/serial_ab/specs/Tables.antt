@@ -1,5 +1,5 @@
--- What a transposition table tells. It is seen as the searches that it holds.
-use Rattle.std.specs.Prelude.{◌≡◌, ◌&&◌, Bool, List, Option, Some, nat_eq}
+-- What a transposition table tells.
+use Rattle.std.specs.Prelude.{◌≡◌, ◌&&◌, ℕ, Bool, List, Option, Some, nat_eq}
 use Rattle.std.specs.Ordering.{int_eq}
 use Rattle.std.specs.Map.{lookup}
 use denote.Enum.Bare.{sameb}
@@ -7,9 +7,15 @@ use Rattle.sim_game.specs.contracts.Side.{the_type}
 use Rattle.serial_ab.specs.declared.transpositions.Query.{Query}
 use Rattle.serial_ab.specs.declared.transpositions.Memo.{Memo}
 
+-- how many searches a table may hold, and those that it holds
+pub record TableView : Type 0 where
+  pub limit : ℕ
+  pub stored : List (Query × Memo)
+
 -- whether both ask for the same search
 abbrev pub same_query : Query → Query → Bool
-same_query p q = nat_eq p.key q.key && (sameb the_type p.side q.side && (int_eq p.worse q.worse && int_eq p.better q.better))
+same_query p q = nat_eq p.key q.key && (sameb the_type p.side q.side &&
+    (int_eq p.worse q.worse && int_eq p.better q.better))
 
 -- what the search of the query found
 abbrev pub told : List (Query × Memo) → Query → Option Memo

@@ -16,7 +16,8 @@ abbrev pub move_value : {S : Type 0} → GameModel S → Side → S → ℕ → 
 move_value m side s own = best_upto (other_side side) (m.moves (other_side side) s - 1) (pair_value m side s own)
 
 abbrev pub pair_nodes : {S : Type 0} → GameModel S → Side → S → ℕ → ℕ → ℕ
-pair_nodes m side s own reply = count_below (draws_of m side s own reply) (λ d. tree_size m (child_of m side s own reply d))
+pair_nodes m side s own reply = count_below (draws_of m side s own reply)
+    (λ d. tree_size m (child_of m side s own reply d))
 
 abbrev pub move_nodes : {S : Type 0} → GameModel S → Side → S → ℕ → ℕ
 move_nodes m side s own = count_below (m.moves (other_side side) s) (pair_nodes m side s own)

@@ -1,8 +1,7 @@
 //! Steps by one move, and the means of numbers at draws.
-ghost use Rattle.std.specs.Prelude.{◌≡◌, ◌<◌, ◌≤◌, ◌++◌, ◌∷◌, [], ℕ, ℤ, pos, neg_ℤ, ◌≤ℤ◌, Some, OnOk, OnErr, IfOk, length};
+ghost use Rattle.std.specs.Prelude.{◌≡◌, ◌<◌, ◌≤◌, ◌++◌, ◌∷◌, [], Some, OnOk, OnErr, IfOk};
 ghost use Rattle.sim_game.specs.Model.{Reachable};
-ghost use Rattle.sim_game.specs.Sides.{other_side, IsNoTighter, opening_bound, move_of_one, move_of_two};
-ghost use Rattle.plan_book.specs.Steps.{rounded};
+ghost use Rattle.sim_game.specs.Sides.{other_side, IsNoTighter, opening_bound};
 ghost use Rattle.plan_book.specs.Plans.{one_move};
 ghost use Rattle.plan_book.specs.Books.{Grows};
 ghost use Rattle.bounds_board.specs.Views.{IsLater};
@@ -74,10 +73,13 @@ pub(crate) fn post_move<G: Game, B: Bounds<G>>(
     requires own_move { own < (G.model task.now.game).moves task.now.side s }
     requires row { (B.view board.old).key_at row ≡ Some ((G.model task.now.game).key s) }
     requires low { IsNoTighter task.now.side (opening_bound (G.model task.now.game) task.now.side) bound }
-    requires replied { IsReplied (G.model task.now.game) task.now.side s own ((G.model task.now.game).moves (other_side task.now.side) s) (B.view board.old) reads.now bound }
+    requires replied { IsReplied (G.model task.now.game) task.now.side s own
+        ((G.model task.now.game).moves (other_side task.now.side) s) (B.view board.old) reads.now bound }
     ensures later { IsLater (B.view board.old) (B.view board.new) }
-    ensures posted { Grows (IsPureEntry (G.model task.now.game) (B.view board.old).total) (B.view board.old).entries (B.view board.new).entries }
-    ensures seen { OnOk result (IsNoTighter task.now.side bound ((B.view board.new).seen task.now.side ((G.model task.now.game).key s))) }
+    ensures posted { Grows (IsPureEntry (G.model task.now.game) (B.view board.old).total)
+        (B.view board.old).entries (B.view board.new).entries }
+    ensures seen { OnOk result (IsNoTighter task.now.side bound
+        ((B.view board.new).seen task.now.side ((G.model task.now.game).key s))) }
     ensures err { OnErr result (result ≡ Err Stop.NoMemory) }
 {
     let known = board.read(row).of(task.side);

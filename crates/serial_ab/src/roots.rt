@@ -1,23 +1,24 @@
 //! The serial bounds of a whole game.
-ghost use Rattle.std.specs.Prelude.{◌≡◌, ◌≤◌, ◌<ℤ◌, IfOk};
+ghost use Rattle.std.specs.Prelude.{◌≡◌, ◌≤◌, IfOk};
 ghost use Rattle.sim_game.specs.declared.Side.TheVariants.{One, Two};
 ghost use Rattle.sim_game.specs.Model.{LeadsTo};
 ghost use Rattle.sim_game.specs.Sides.{opening_bound};
-ghost use Rattle.plan_book.specs.Serial.{serial_bound, tree_size};
+ghost use Rattle.plan_book.specs.Serial.{tree_size};
 ghost use Rattle.bounds_board.specs.Views.{WasFull};
-ghost use Rattle.serial_ab.specs.Counts.{left_on, IsCut};
-ghost use Rattle.serial_ab.specs.Searches.{Ends, IsKept};
+ghost use Rattle.serial_ab.specs.Counts.{left_on, IsCut, HasCounted};
+ghost use Rattle.serial_ab.specs.Searches.{EndsWith, IsSerialKept};
 ghost use Rattle.serial_ab.specs.Transpositions.{AreRemembered};
-ghost use Rattle.serial_ab.specs.Roots.{IsSearchable, IsRootValue, IsRootEnd, HasCounted};
+ghost use Rattle.serial_ab.specs.Roots.{IsSearchable, IsRootValue, IsRootEnd};
 
 use crate::search::search_state;
 use crate::stop::Stop;
-use crate::task::Task;
+use crate::task::{SerialWorker, Task, Window};
 use crate::transpositions::{TABLE_LIMIT, TranspositionTable};
 use crate::visits::Visits;
 use bounds_board::{Bounds, PlainBoard};
 use sim_game::{Game, NoMemory, Side, end_bound, opening_bound};
 use std::alloc::Global;
+use std::mem;
 
 /// What the serial searches of a root found, One's first.
 #[derive(Clone, Copy, PartialEq, Eq, Debug, Drop)]
@@ -79,9 +80,28 @@ fn search_both<G: Game, B: Bounds<G>>(
     ensures ends { IfOk result (IsRootEnd (G.model g) (B.view board.old).rows visits.old visits.new) }
     ensures counted { HasCounted visits.old visits.new }
 {
-    let mut table = TranspositionTable::new(alloc, TABLE_LIMIT);
-    match search_root(alloc, g, Side::One, visits, &mut table, board) {
-        Ok(lower) => match search_root(alloc, g, Side::Two, visits, &mut table, board) {
+    let table = TranspositionTable::new(alloc, TABLE_LIMIT);
+    let mine = mem::replace(visits, Visits::new(0));
+    let mut worker = SerialWorker::new(alloc, mine, table);
+    let end = search_sides(g, &mut worker, board);
+    *visits = worker.visits;
+    end
+}
+
+/// Searches the root for One, then for Two, with one table.
+fn search_sides<G: Game, B: Bounds<G>>(
+    g: G,
+    worker: &mut SerialWorker,
+    board: &mut B,
+) -> Result<RootEnd, NoMemory>
+    requires game { (B.view board.old).game ≡ g }
+    requires remembered { AreRemembered (G.model g) (B.view board.old) worker.old.table }
+    requires searched { IsSearchable (G.model g) }
+    ensures ends { IfOk result (IsRootEnd (G.model g) (B.view board.old).rows worker.old.visits worker.new.visits) }
+    ensures counted { HasCounted worker.old.visits worker.new.visits }
+{
+    match search_root(g, Side::One, worker, board) {
+        Ok(lower) => match search_root(g, Side::Two, worker, board) {
             Ok(upper) => Ok(RootEnd::Found { lower, upper }),
             Err(Stop::Cut) => Ok(RootEnd::Cut { side: Side::Two }),
             Err(Stop::Full) => Ok(RootEnd::Full),
@@ -95,31 +115,30 @@ fn search_both<G: Game, B: Bounds<G>>(
 
 /// The serial bound of the root for a side.
 fn search_root<G: Game, B: Bounds<G>>(
-    alloc: Global,
     g: G,
     side: Side,
-    visits: &mut Visits,
-    table: &mut TranspositionTable,
+    worker: &mut SerialWorker,
     board: &mut B,
 ) -> Result<i64, Stop>
     requires game { (B.view board.old).game ≡ g }
-    requires remembered { AreRemembered (G.model g) (B.view board.old) table.old }
+    requires remembered { AreRemembered (G.model g) (B.view board.old) worker.old.table }
     requires searched { IsSearchable (G.model g) }
-    ensures kept { IsKept (G.model g) side (tree_size (G.model g) (G.model g).root) (B.view board.old) (B.view board.new) visits.old visits.new }
-    ensures remembered { AreRemembered (G.model g) (B.view board.new) table.new }
-    ensures ends { Ends (IsRootValue (G.model g) side visits.old visits.new) (IsCut side (tree_size (G.model g) (G.model g).root) visits.old visits.new)
-        ((1 ≤ left_on side visits.old) × WasFull (G.model g) (B.view board.new) (LeadsTo (G.model g) (G.model g).root)) result }
+    ensures kept { IsSerialKept (G.model g) side (tree_size (G.model g) (G.model g).root)
+        (B.view board.old) (B.view board.new) worker.old.visits worker.new.visits }
+    ensures remembered { AreRemembered (G.model g) (B.view board.new) worker.new.table }
+    ensures ends { EndsWith (IsRootValue (G.model g) side worker.old.visits worker.new.visits)
+        (IsCut side (tree_size (G.model g) (G.model g).root) worker.old.visits worker.new.visits)
+        ((1 ≤ left_on side worker.old.visits)
+        × WasFull (G.model g) (B.view board.new) (LeadsTo (G.model g) (G.model g).root)) result }
 {
-    let worse = opening_bound(g, side);
-    let better = opening_bound(g, side.other());
+    let range = Window {
+        worse: opening_bound(g, side),
+        better: opening_bound(g, side.other()),
+    };
     let task = Task {
-        alloc,
+        alloc: worker.alloc,
         game: g,
         side,
     };
-    let root = g.root();
-    let mut reads = Vec::new(alloc);
-    search_state(
-        &task, root, None, worse, better, &mut reads, visits, table, board,
-    )
+    search_state(&task, g.root(), None, range, worker, board)
 }

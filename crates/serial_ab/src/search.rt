@@ -1,19 +1,20 @@
-//! The search: a state, its moves, a move, a pair of moves, its draws. One stack of numbers, `reads`, serves them all: a
-//! move puts the numbers at its children on it, and cuts them off when it is left or done.
-ghost use Rattle.std.specs.Prelude.{◌≡◌, ◌+◌, ◌<◌, ◌≤◌, ℕ, ℤ, Some, Err, IfSome, IfOk, OnOk, OnErr};
+//! The search: a state, its moves, a move, a pair of moves, its draws. One stack of numbers, `reads`, serves them all:
+//! a move pushes the numbers at its children, and pops them when it is left or done.
+ghost use Rattle.std.specs.Prelude.{◌≡◌, ◌+◌, ◌<◌, ◌≤◌, ℤ, Some, Err, IfSome, IfOk, OnOk, OnErr};
 ghost use Rattle.sim_game.specs.Model.{Reachable, LeadsTo};
-ghost use Rattle.sim_game.specs.Sides.{other_side, IsNoTighter, opening_bound, move_of_one, move_of_two, draws_of, IsTighter};
+ghost use Rattle.sim_game.specs.Sides.{other_side, opening_bound, move_of_one, move_of_two, draws_of, IsTighter};
 ghost use Rattle.plan_book.specs.Serial.{tree_size};
 ghost use Rattle.serial_ab.specs.Counts.{spent_on, left_on, Counts, IsCut};
 ghost use Rattle.serial_ab.specs.Values.{pair_nodes, move_nodes, inner_nodes};
 ghost use Rattle.bounds_board.specs.Views.{IsLater, WasFull};
 ghost use Rattle.serial_ab.specs.Transpositions.{AreRemembered};
-ghost use Rattle.serial_ab.specs.Searches.{Ends, IsKept, IsWindow, IsFound, IsOpened, IsMoveFound, IsPairFound};
+ghost use Rattle.serial_ab.specs.Parts.{IsPart};
+ghost use Rattle.serial_ab.specs.Searches.{IsWindow, IsFound, IsOpened, IsMoveFound, IsPairFound};
 
 use crate::moves::{keep, post_move};
 use crate::stop::Stop;
-use crate::task::Task;
-use crate::transpositions::{Memo, Query, TranspositionTable};
+use crate::task::{SerialWorker, Task, Window};
+use crate::transpositions::{Memo, Query};
 use crate::visits::Visits;
 use bounds_board::{Bounds, Row};
 use sim_game::{CHANCE, Game, Side, end_bound, opening_bound};
@@ -27,82 +28,78 @@ pub(crate) fn search_state<G: Game, B: Bounds<G>>(
     task: &Task<G>,
     s: G::State,
     known: Option<Row>,
-    worse: i64,
-    better: i64,
-    reads: &mut Vec<i64>,
-    visits: &mut Visits,
-    table: &mut TranspositionTable,
+    window: Window,
+    worker: &mut SerialWorker,
     board: &mut B,
 ) -> Result<i64, Stop>
     requires game { (B.view board.old).game ≡ task.now.game }
-    requires remembered { AreRemembered (G.model task.now.game) (B.view board.old) table.old }
+    requires remembered { AreRemembered (G.model task.now.game) (B.view board.old) worker.old.table }
     requires reachable { Reachable (G.model task.now.game) s }
     requires known { IfSome known (IsOpened (G.model task.now.game) task.now.side s (B.view board.old)) }
-    requires window { IsWindow (G.model task.now.game) task.now.side worse better }
-    ensures kept { IsKept (G.model task.now.game) task.now.side (tree_size (G.model task.now.game) s) (B.view board.old) (B.view board.new) visits.old visits.new }
-    ensures remembered { AreRemembered (G.model task.now.game) (B.view board.new) table.new }
-    ensures ends { Ends (IsFound (G.model task.now.game) task.now.side s worse better (B.view board.new)) (IsCut task.now.side (tree_size (G.model task.now.game) s) visits.old visits.new) (WasFull (G.model task.now.game) (B.view board.new) (LeadsTo (G.model task.now.game) s)) result }
-    ensures same_reads { OnOk result (reads.new.items ≡ reads.old.items) }
-    ensures none_left { left_on task.now.side visits.old ≡ 0 → result ≡ Err Stop.Cut }
-    ensures entered { 1 ≤ left_on task.now.side visits.old → spent_on task.now.side visits.old + 1 ≤ spent_on task.now.side visits.new }
-    ensures counted { OnOk result (spent_on task.now.side visits.old + 1 ≤ spent_on task.now.side visits.new) }
-    ensures below { 1 ≤ (G.model task.now.game).rank s → OnOk result (spent_on task.now.side visits.old + 2 ≤ spent_on task.now.side visits.new) }
+    requires window { IsWindow (G.model task.now.game) task.now.side window.worse window.better }
+    ensures ends { IsPart (G.model task.now.game) task.now.side s
+        (tree_size (G.model task.now.game) s)
+        (IsFound (G.model task.now.game) task.now.side s window.worse window.better (B.view board.new))
+        (B.view board.old) (B.view board.new) worker.old worker.new result }
+    ensures same_reads { OnOk result (worker.new.reads.items ≡ worker.old.reads.items) }
+    ensures none_left { left_on task.now.side worker.old.visits ≡ 0 → result ≡ Err Stop.Cut }
+    ensures entered { 1 ≤ left_on task.now.side worker.old.visits
+        → spent_on task.now.side worker.old.visits + 1 ≤ spent_on task.now.side worker.new.visits }
+    ensures below { 1 ≤ (G.model task.now.game).rank s
+        → OnOk result (spent_on task.now.side worker.old.visits + 2 ≤ spent_on task.now.side worker.new.visits) }
 {
-    if visits.left(task.side) == 0 {
+    if worker.visits.left(task.side) == 0 {
         return Err(Stop::Cut);
     }
-    visits.spend(task.side);
+    worker.visits.spend(task.side);
     if task.game.rank(s) == 0 {
         return Ok(end_bound(task.game, s));
     }
     match row_of(task, s, known, board) {
-        Ok(row) => search_inner(task, s, row, worse, better, reads, visits, table, board),
+        Ok(row) => search_inner(task, s, row, window, worker, board),
         Err(stop) => Err(stop),
     }
 }
 
-/// The number of a state that is no end. Where a search of it with the same window was stored, the answer is that of a
-/// second one: it would find the same number by as many visits, or be cut.
+/// The number of a state that is no end. Where a search of it with the same window was stored, its number is the
+/// answer, for the visits that it took.
 #[cycle(serial)]
 fn search_inner<G: Game, B: Bounds<G>>(
     task: &Task<G>,
     s: G::State,
     row: Row,
-    worse: i64,
-    better: i64,
-    reads: &mut Vec<i64>,
-    visits: &mut Visits,
-    table: &mut TranspositionTable,
+    window: Window,
+    worker: &mut SerialWorker,
     board: &mut B,
 ) -> Result<i64, Stop>
     requires game { (B.view board.old).game ≡ task.now.game }
-    requires remembered { AreRemembered (G.model task.now.game) (B.view board.old) table.old }
+    requires remembered { AreRemembered (G.model task.now.game) (B.view board.old) worker.old.table }
     requires reachable { Reachable (G.model task.now.game) s }
     requires goes_on { 1 ≤ (G.model task.now.game).rank s }
     requires row { IsOpened (G.model task.now.game) task.now.side s (B.view board.old) row }
-    requires window { IsWindow (G.model task.now.game) task.now.side worse better }
-    ensures kept { IsKept (G.model task.now.game) task.now.side (inner_nodes (G.model task.now.game) task.now.side s) (B.view board.old) (B.view board.new) visits.old visits.new }
-    ensures remembered { AreRemembered (G.model task.now.game) (B.view board.new) table.new }
-    ensures ends { Ends (IsFound (G.model task.now.game) task.now.side s worse better (B.view board.new)) (IsCut task.now.side (inner_nodes (G.model task.now.game) task.now.side s) visits.old visits.new) (WasFull (G.model task.now.game) (B.view board.new) (LeadsTo (G.model task.now.game) s)) result }
-    ensures same_reads { OnOk result (reads.new.items ≡ reads.old.items) }
-    ensures below { OnOk result (spent_on task.now.side visits.old + 1 ≤ spent_on task.now.side visits.new) }
+    requires window { IsWindow (G.model task.now.game) task.now.side window.worse window.better }
+    ensures ends { IsPart (G.model task.now.game) task.now.side s
+        (inner_nodes (G.model task.now.game) task.now.side s)
+        (IsFound (G.model task.now.game) task.now.side s window.worse window.better (B.view board.new))
+        (B.view board.old) (B.view board.new) worker.old worker.new result }
+    ensures same_reads { OnOk result (worker.new.reads.items ≡ worker.old.reads.items) }
 {
     if task.game.rank(s) < STORED_RANK {
-        return search_moves(task, s, row, worse, better, reads, visits, table, board);
+        return search_moves(task, s, row, window, worker, board);
     }
     let query = Query {
         key: task.game.key(s),
         side: task.side,
-        worse,
-        better,
+        worse: window.worse,
+        better: window.better,
     };
-    match table.probe(&query) {
-        Some(memo) => recall(task.side, &memo, visits),
+    match worker.table.probe(&query) {
+        Some(memo) => recall(task.side, &memo, &mut worker.visits),
         None => {
-            let before = visits.spent(task.side);
-            let number = search_moves(task, s, row, worse, better, reads, visits, table, board)?;
-            let spent = visits.spent(task.side) - before;
-            table.store(
+            let before = worker.visits.spent(task.side);
+            let number = search_moves(task, s, row, window, worker, board)?;
+            let spent = worker.visits.spent(task.side) - before;
+            worker.table.store(
                 &query,
                 &Memo {
                     number,
@@ -144,7 +141,8 @@ fn row_of<G: Game, B: Bounds<G>>(
     ensures entries { (B.view board.new).entries ≡ (B.view board.old).entries }
     ensures ok { IfOk result (IsOpened (G.model task.now.game) task.now.side s (B.view board.new)) }
     ensures err { OnErr result (result ≡ Err Stop.Full) }
-    ensures full { OnErr result (WasFull (G.model task.now.game) (B.view board.new) (LeadsTo (G.model task.now.game) s)) }
+    ensures full { OnErr result
+        (WasFull (G.model task.now.game) (B.view board.new) (LeadsTo (G.model task.now.game) s)) }
 {
     match known {
         Some(row) => Ok(row),
@@ -161,81 +159,77 @@ fn search_moves<G: Game, B: Bounds<G>>(
     task: &Task<G>,
     s: G::State,
     row: Row,
-    worse: i64,
-    better: i64,
-    reads: &mut Vec<i64>,
-    visits: &mut Visits,
-    table: &mut TranspositionTable,
+    window: Window,
+    worker: &mut SerialWorker,
     board: &mut B,
 ) -> Result<i64, Stop>
     requires game { (B.view board.old).game ≡ task.now.game }
-    requires remembered { AreRemembered (G.model task.now.game) (B.view board.old) table.old }
+    requires remembered { AreRemembered (G.model task.now.game) (B.view board.old) worker.old.table }
     requires reachable { Reachable (G.model task.now.game) s }
     requires goes_on { 1 ≤ (G.model task.now.game).rank s }
     requires row { IsOpened (G.model task.now.game) task.now.side s (B.view board.old) row }
-    requires window { IsWindow (G.model task.now.game) task.now.side worse better }
-    ensures kept { IsKept (G.model task.now.game) task.now.side (inner_nodes (G.model task.now.game) task.now.side s) (B.view board.old) (B.view board.new) visits.old visits.new }
-    ensures remembered { AreRemembered (G.model task.now.game) (B.view board.new) table.new }
-    ensures ends { Ends (IsFound (G.model task.now.game) task.now.side s worse better (B.view board.new)) (IsCut task.now.side (inner_nodes (G.model task.now.game) task.now.side s) visits.old visits.new) (WasFull (G.model task.now.game) (B.view board.new) (LeadsTo (G.model task.now.game) s)) result }
-    ensures same_reads { OnOk result (reads.new.items ≡ reads.old.items) }
-    ensures below { OnOk result (spent_on task.now.side visits.old + 1 ≤ spent_on task.now.side visits.new) }
+    requires window { IsWindow (G.model task.now.game) task.now.side window.worse window.better }
+    ensures ends { IsPart (G.model task.now.game) task.now.side s
+        (inner_nodes (G.model task.now.game) task.now.side s)
+        (IsFound (G.model task.now.game) task.now.side s window.worse window.better (B.view board.new))
+        (B.view board.old) (B.view board.new) worker.old worker.new result }
+    ensures same_reads { OnOk result (worker.new.reads.items ≡ worker.old.reads.items) }
 {
     let mut value = opening_bound(task.game, task.side);
     for own in 0..task.game.moves(task.side, s) {
-        let floor = task.side.better(value, worse);
-        let found = search_move(
-            task, s, row, own, floor, better, reads, visits, table, board,
-        )?;
+        let above = Window {
+            worse: task.side.better(value, window.worse),
+            better: window.better,
+        };
+        let found = search_move(task, s, row, own, above, worker, board)?;
         value = task.side.better(value, found);
-        if !task.side.is_tighter(better, value) {
+        if !task.side.is_tighter(window.better, value) {
             return Ok(value);
         }
     }
     Ok(value)
 }
 
-/// The number of an own move. It is left where it can't be better than the floor.
+/// The number of an own move. The move is left where it can't be better than the window's worse end.
 #[cycle(serial)]
 fn search_move<G: Game, B: Bounds<G>>(
     task: &Task<G>,
     s: G::State,
     row: Row,
     own: u32,
-    floor: i64,
-    better: i64,
-    reads: &mut Vec<i64>,
-    visits: &mut Visits,
-    table: &mut TranspositionTable,
+    window: Window,
+    worker: &mut SerialWorker,
     board: &mut B,
 ) -> Result<i64, Stop>
     requires game { (B.view board.old).game ≡ task.now.game }
-    requires remembered { AreRemembered (G.model task.now.game) (B.view board.old) table.old }
+    requires remembered { AreRemembered (G.model task.now.game) (B.view board.old) worker.old.table }
     requires reachable { Reachable (G.model task.now.game) s }
     requires goes_on { 1 ≤ (G.model task.now.game).rank s }
     requires own_move { own < (G.model task.now.game).moves task.now.side s }
     requires row { (B.view board.old).key_at row ≡ Some ((G.model task.now.game).key s) }
-    requires window { IsWindow (G.model task.now.game) task.now.side floor better }
-    ensures kept { IsKept (G.model task.now.game) task.now.side (move_nodes (G.model task.now.game) task.now.side s own) (B.view board.old) (B.view board.new) visits.old visits.new }
-    ensures remembered { AreRemembered (G.model task.now.game) (B.view board.new) table.new }
-    ensures ends { Ends (IsMoveFound (G.model task.now.game) task.now.side s own floor better (B.view board.new)) (IsCut task.now.side (move_nodes (G.model task.now.game) task.now.side s own) visits.old visits.new) (WasFull (G.model task.now.game) (B.view board.new) (LeadsTo (G.model task.now.game) s)) result }
-    ensures same_reads { OnOk result (reads.new.items ≡ reads.old.items) }
-    ensures below { OnOk result (spent_on task.now.side visits.old + 1 ≤ spent_on task.now.side visits.new) }
+    requires window { IsWindow (G.model task.now.game) task.now.side window.worse window.better }
+    ensures ends { IsPart (G.model task.now.game) task.now.side s
+        (move_nodes (G.model task.now.game) task.now.side s own)
+        (IsMoveFound (G.model task.now.game) task.now.side s own window.worse window.better (B.view board.new))
+        (B.view board.old) (B.view board.new) worker.old worker.new result }
+    ensures same_reads { OnOk result (worker.new.reads.items ≡ worker.old.reads.items) }
 {
     let mut least = opening_bound(task.game, task.side.other());
-    let start = reads.len();
+    let start = worker.reads.len();
     for reply in 0..task.game.moves(task.side.other(), s) {
-        let ceiling = task.side.other().better(better, least);
-        let found = search_pair(
-            task, s, own, reply, floor, ceiling, reads, visits, table, board,
-        )?;
+        let below = Window {
+            worse: window.worse,
+            better: task.side.other().better(window.better, least),
+        };
+        let found = search_pair(task, s, own, reply, below, worker, board)?;
         least = task.side.other().better(least, found);
-        if !task.side.is_tighter(least, floor) {
-            reads.truncate(start);
+        if !task.side.is_tighter(least, window.worse) {
+            worker.reads.truncate(start);
             return Ok(least);
         }
     }
-    post_move(task, s, row, own, least, &reads[start..], board)?;
-    reads.truncate(start);
+    post_move(task, s, row, own, least, &worker.reads[start..], board)?;
+    worker.reads.truncate(start);
     Ok(least)
 }
 
@@ -246,36 +240,32 @@ fn search_pair<G: Game, B: Bounds<G>>(
     s: G::State,
     own: u32,
     reply: u32,
-    floor: i64,
-    ceiling: i64,
-    reads: &mut Vec<i64>,
-    visits: &mut Visits,
-    table: &mut TranspositionTable,
+    window: Window,
+    worker: &mut SerialWorker,
     board: &mut B,
 ) -> Result<i64, Stop>
     requires game { (B.view board.old).game ≡ task.now.game }
-    requires remembered { AreRemembered (G.model task.now.game) (B.view board.old) table.old }
+    requires remembered { AreRemembered (G.model task.now.game) (B.view board.old) worker.old.table }
     requires reachable { Reachable (G.model task.now.game) s }
     requires goes_on { 1 ≤ (G.model task.now.game).rank s }
     requires own_move { own < (G.model task.now.game).moves task.now.side s }
     requires reply { reply < (G.model task.now.game).moves (other_side task.now.side) s }
-    requires window { IsWindow (G.model task.now.game) task.now.side floor ceiling }
-    ensures kept { IsKept (G.model task.now.game) task.now.side (pair_nodes (G.model task.now.game) task.now.side s own reply) (B.view board.old) (B.view board.new) visits.old visits.new }
-    ensures remembered { AreRemembered (G.model task.now.game) (B.view board.new) table.new }
-    ensures ends { Ends (IsPairFound (G.model task.now.game) task.now.side s own reply floor ceiling (B.view board.new) reads.old.items reads.new.items) (IsCut task.now.side (pair_nodes (G.model task.now.game) task.now.side s own reply) visits.old visits.new) (WasFull (G.model task.now.game) (B.view board.new) (LeadsTo (G.model task.now.game) s)) result }
-    ensures below { OnOk result (spent_on task.now.side visits.old + 1 ≤ spent_on task.now.side visits.new) }
+    requires window { IsWindow (G.model task.now.game) task.now.side window.worse window.better }
+    ensures { IsPart (G.model task.now.game) task.now.side s
+        (pair_nodes (G.model task.now.game) task.now.side s own reply)
+        (IsPairFound (G.model task.now.game) task.now.side s own reply window.worse window.better (B.view board.new)
+        worker.old.reads.items worker.new.reads.items)
+        (B.view board.old) (B.view board.new) worker.old worker.new result }
 {
     let one = task.side.move_of_one(own, reply);
     let two = task.side.move_of_two(own, reply);
     let draws = task.game.draws(s, one, two);
     if draws != 1 {
-        return search_draws(task, s, own, reply, draws, reads, visits, table, board);
+        return search_draws(task, s, own, reply, draws, worker, board);
     }
     let child = task.game.drawn(s, one, two, 0);
-    let found = search_state(
-        task, child, None, floor, ceiling, reads, visits, table, board,
-    )?;
-    keep(reads, found)?;
+    let found = search_state(task, child, None, window, worker, board)?;
+    keep(&mut worker.reads, found)?;
     Ok(found)
 }
 
@@ -287,36 +277,36 @@ fn search_draws<G: Game, B: Bounds<G>>(
     own: u32,
     reply: u32,
     draws: u32,
-    reads: &mut Vec<i64>,
-    visits: &mut Visits,
-    table: &mut TranspositionTable,
+    worker: &mut SerialWorker,
     board: &mut B,
 ) -> Result<i64, Stop>
     requires game { (B.view board.old).game ≡ task.now.game }
-    requires remembered { AreRemembered (G.model task.now.game) (B.view board.old) table.old }
+    requires remembered { AreRemembered (G.model task.now.game) (B.view board.old) worker.old.table }
     requires reachable { Reachable (G.model task.now.game) s }
     requires goes_on { 1 ≤ (G.model task.now.game).rank s }
     requires own_move { own < (G.model task.now.game).moves task.now.side s }
     requires reply { reply < (G.model task.now.game).moves (other_side task.now.side) s }
     requires draws { draws ≡ draws_of (G.model task.now.game) task.now.side s own reply }
-    requires wide { IsTighter task.now.side (opening_bound (G.model task.now.game) (other_side task.now.side)) (opening_bound (G.model task.now.game) task.now.side) }
-    ensures kept { IsKept (G.model task.now.game) task.now.side (pair_nodes (G.model task.now.game) task.now.side s own reply) (B.view board.old) (B.view board.new) visits.old visits.new }
-    ensures remembered { AreRemembered (G.model task.now.game) (B.view board.new) table.new }
-    ensures ends { (floor ceiling : ℤ) → Ends (IsPairFound (G.model task.now.game) task.now.side s own reply floor ceiling (B.view board.new) reads.old.items reads.new.items) (IsCut task.now.side (pair_nodes (G.model task.now.game) task.now.side s own reply) visits.old visits.new) (WasFull (G.model task.now.game) (B.view board.new) (LeadsTo (G.model task.now.game) s)) result }
-    ensures below { OnOk result (spent_on task.now.side visits.old + 1 ≤ spent_on task.now.side visits.new) }
+    requires wide { IsTighter task.now.side (opening_bound (G.model task.now.game) (other_side task.now.side))
+        (opening_bound (G.model task.now.game) task.now.side) }
+    ensures { (floor ceiling : ℤ) → IsPart (G.model task.now.game) task.now.side s
+        (pair_nodes (G.model task.now.game) task.now.side s own reply)
+        (IsPairFound (G.model task.now.game) task.now.side s own reply floor ceiling (B.view board.new)
+        worker.old.reads.items worker.new.reads.items)
+        (B.view board.old) (B.view board.new) worker.old worker.new result }
 {
-    let worse = opening_bound(task.game, task.side);
-    let better = opening_bound(task.game, task.side.other());
+    let range = Window {
+        worse: opening_bound(task.game, task.side),
+        better: opening_bound(task.game, task.side.other()),
+    };
     let one = task.side.move_of_one(own, reply);
     let two = task.side.move_of_two(own, reply);
     let mut sum = 0;
     for d in 0..draws {
         let child = task.game.drawn(s, one, two, d);
-        let found = search_state(
-            task, child, None, worse, better, reads, visits, table, board,
-        )?;
+        let found = search_state(task, child, None, range, worker, board)?;
         sum += task.game.chance(s, one, two, d) as i64 * found;
-        keep(reads, found)?;
+        keep(&mut worker.reads, found)?;
     }
     Ok(task.side.quotient(sum, CHANCE))
 }

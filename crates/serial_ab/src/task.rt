@@ -1,4 +1,8 @@
 //! What all parts of a search share.
+ghost use Rattle.std.specs.Prelude.{◌≡◌};
+
+use crate::transpositions::TranspositionTable;
+use crate::visits::Visits;
 use sim_game::{Game, Side};
 use std::alloc::Global;
 
@@ -8,4 +12,36 @@ pub(crate) struct Task<G: Game> {
     pub(crate) alloc: Global,
     pub(crate) game: G,
     pub(crate) side: Side,
+}
+
+/// The window of a search, from the end that is worse for its side to the better one, in millionths of a payoff.
+#[derive(Clone, Copy)]
+pub(crate) struct Window {
+    pub(crate) worse: i64,
+    pub(crate) better: i64,
+}
+
+/// What serial searches work with, one after another: the visits that are left, and what they remember.
+#[derive(Drop)]
+pub struct SerialWorker {
+    pub visits: Visits,
+    pub table: TranspositionTable,
+    pub(crate) alloc: Global,
+    // The numbers at the children of the moves that are searched.
+    pub(crate) reads: Vec<i64>,
+}
+
+impl SerialWorker {
+    /// A worker with these visits that remembers what the table tells. It takes no memory.
+    pub fn new(alloc: Global, visits: Visits, table: TranspositionTable) -> SerialWorker
+        ensures visits { result.visits ≡ visits }
+        ensures table { result.table ≡ table }
+    {
+        SerialWorker {
+            visits,
+            table,
+            alloc,
+            reads: Vec::new(alloc),
+        }
+    }
 }

@@ -1,5 +1,5 @@
 //! A transposition table: what finished searches found, by state, side and window.
-ghost use Rattle.std.specs.Prelude.{◌≡◌, ◌⊎◌, ◌<◌, ◌≤◌, [], length};
+ghost use Rattle.std.specs.Prelude.{◌≡◌, ◌⊎◌, ◌<◌, ◌≤◌, [], length, min};
 ghost use Rattle.serial_ab.specs.Tables.{Tells, told};
 ghost use Rattle.serial_ab.specs.declared.transpositions.Query.{Query};
 ghost use Rattle.serial_ab.specs.declared.transpositions.Memo.{Memo};
@@ -42,22 +42,21 @@ pub struct TranspositionTable {
 }
 
 impl Model for TranspositionTable {
-    ghost use Rattle.std.specs.Prelude.{◌≤◌, List, length};
-    ghost use Rattle.serial_ab.specs.declared.transpositions.Query.{Query};
-    ghost use Rattle.serial_ab.specs.declared.transpositions.Memo.{Memo};
+    ghost use Rattle.std.specs.Prelude.{◌≤◌, length};
+    ghost use Rattle.serial_ab.specs.Tables.{TableView};
 
-    ghost Value = { List (Query × Memo) };
+    ghost Value = { TableView };
 
-    ghost view = { λ t. t.memos.entries };
+    ghost view = { λ t. record { limit = t.limit; stored = t.memos.entries } };
 
     ghost invariant = { λ t. (length t.memos.entries ≤ t.limit) × (t.limit ≤ 262144) };
 }
 
 impl TranspositionTable {
-    /// An empty table that may hold so many searches, but not more than `TABLE_LIMIT`. It takes memory only when searches
-    /// are stored.
+    /// An empty table that may hold so many searches, but not more than `TABLE_LIMIT`. It takes memory only when
+    /// searches are stored.
     pub fn new(alloc: Global, limit: usize) -> TranspositionTable
-        ensures { result ≡ [] }
+        ensures { result ≡ record { limit = min limit 262144; stored = [] } }
     {
         TranspositionTable {
             memos: HashMap::new(alloc),
@@ -67,24 +66,26 @@ impl TranspositionTable {
 
     /// How many searches it holds.
     pub fn len(&self) -> usize
-        ensures len { result ≡ length self.now }
-        ensures few { result ≤ 262144 }
+        ensures len { result ≡ length self.now.stored }
+        ensures few { result ≤ self.now.limit }
+        ensures most { self.now.limit ≤ 262144 }
     {
         self.memos.len()
     }
 
     /// What the search found, where it was stored and not forgotten.
     pub(crate) fn probe(&self, query: &Query) -> Option<Memo>
-        ensures { result ≡ told self.now query.now }
+        ensures { result ≡ told self.now.stored query.now }
     {
         self.memos.get(query).copied()
     }
 
     /// Stores what a search found. Without memory for it the table forgets all.
     pub(crate) fn store(&mut self, query: &Query, memo: &Memo)
-        ensures stored { Tells self.new query.now memo.now ⊎ (self.new ≡ []) }
-        ensures others { (q : Query) (e : Memo) → Tells self.new q e
-            → (Tells self.old q e) ⊎ ((q ≡ query.now) × (e ≡ memo.now)) }
+        ensures stored { Tells self.new.stored query.now memo.now ⊎ (self.new.stored ≡ []) }
+        ensures limit { self.new.limit ≡ self.old.limit }
+        ensures others { (q : Query) (e : Memo) → Tells self.new.stored q e
+            → (Tells self.old.stored q e) ⊎ ((q ≡ query.now) × (e ≡ memo.now)) }
     {
         make_room(&mut self.memos, self.limit);
         if self.limit == 0 {

@@ -35,11 +35,14 @@ module _ {A : Type 0} where
       (λ (n : o.0 ≢ i). (o.0, o.1, set_else views i o.0 w n ∙ o.2, o.3))
 
   -- where two become one that has it too, and something else
-  pub somewhere_join : (P : A → Type 0) (views : List A) (i j : ℕ) (v w both spent : A) → get_elem? views i ≡ some v → get_elem? views j ≡ some w → j ≢ i → (P v → P both) → (P w → P both)
+  pub somewhere_join : (P : A → Type 0) (views : List A) (i j : ℕ) (v w both spent : A) → get_elem? views i ≡ some v → get_elem? views j ≡ some w → j ≢ i → (P v → P both)
+      → (P w → P both)
       → Somewhere views P → Somewhere (set (set views i both) j spent) P
   somewhere_join P views i j v w both spent at at' two left right o =
-      let here : get_elem? (set (set views i both) j spent) i ≡ some both = set_else (set views i both) j i spent (λ e. two (sym e)) ∙ set_here views i both (at_long views i v at) in
-      let moved : (n : ℕ) (u : A) → get_elem? views n ≡ some u → o.0 ≡ n → P u = λ n u e is. subst P (same_at views n o.1 u (subst (λ (z : ℕ). get_elem? views z ≡ some o.1) is o.2) e) o.3 in
+      let here : get_elem? (set (set views i both) j spent) i ≡ some both = set_else (set views i both) j i spent (λ e. two (sym e))
+      ∙ set_here views i both (at_long views i v at) in
+      let moved : (n : ℕ) (u : A) → get_elem? views n ≡ some u → o.0 ≡ n → P u =
+      λ n u e is. subst P (same_at views n o.1 u (subst (λ (z : ℕ). get_elem? views z ≡ some o.1) is o.2) e) o.3 in
       dite (ℕ_discrete o.0 i) (λ (e : o.0 ≡ i). (i, both, here, left (moved i v at e)))
       (λ (n : o.0 ≢ i). dite (ℕ_discrete o.0 j) (λ (e : o.0 ≡ j). (i, both, here, right (moved j w at' e)))
       (λ (n' : o.0 ≢ j). (o.0, o.1, set_else (set views i both) j o.0 spent n' ∙ (set_else views i o.0 both n ∙ o.2), o.3)))
@@ -76,7 +79,8 @@ module _ {A : Type 0} where
 
   pub has_split : (x : A) (xs ys : List A) → Has x (xs ++ ys) → Has x xs ⊎ Has x ys
   has_split x [] ys h = inr h
-  has_split x (y ∷ xs) ys h = ⊎_elim (λ (e : x ≡ y). inl (inl e)) (λ (t : Has x (xs ++ ys)). ⊎_elim (λ (l : Has x xs). inl (inr l)) (λ (r : Has x ys). inr r) (has_split x xs ys t)) h
+  has_split x (y ∷ xs) ys h = ⊎_elim (λ (e : x ≡ y). inl (inl e)) (λ (t : Has x (xs ++ ys)). ⊎_elim (λ (l : Has x xs). inl (inr l)) (λ (r : Has x ys). inr r) (has_split x xs ys t))
+      h
 
 pub times_append : (n : ℕ) (xs ys : List ℕ) → times n (xs ++ ys) ≡ times n xs + times n ys
 times_append n [] ys = omega arith

@@ -4,13 +4,13 @@ use Rattle.std.proofs.lemmas.Int.{ints}
 use Rattle.std.proofs.lemmas.Bool.{cases_lt}
 use Rattle.sim_game.specs.declared.Side.{Side}
 use Rattle.sim_game.specs.declared.Side.TheVariants.{One, Two}
-use Rattle.shared_board.specs.Words.{key_word, bound_word, word_of, bound_of, IsLooser, tighter, IsBlank}
+use Rattle.shared_board.specs.Words.{key_word, bound_word, word_of, as_bound, IsLooser, tighter, IsBlank}
 
 pub word_is : (x : ℤ) → neg_ℤ (pos 4000000000) ≤ℤ x → pos (word_of x) ≡ x +ℤ pos 4000000000
 word_is (pos n) h = omega (arith, ints)
 word_is (negsuc n) h = omega (arith, ints)
 
-pub bound_word-back : (x : ℤ) → neg_ℤ (pos 4000000000) ≤ℤ x → bound_of (word_of x) ≡ x
+pub bound_word-back : (x : ℤ) → neg_ℤ (pos 4000000000) ≤ℤ x → as_bound (word_of x) ≡ x
 bound_word-back x h = omega (arith, ints, word_is x h)
 
 pub word_mono : (x y : ℤ) → neg_ℤ (pos 4000000000) ≤ℤ x → x ≤ℤ y → word_of x ≤ word_of y
@@ -81,7 +81,10 @@ pub blank_more : (words : List ℕ) (n low high : ℕ) → IsBlank words n low h
 blank_more words n low high b = let wide = b.wide in record {
   wide = omega (arith, blank_long words 0 low high);
   zero_first = blank_there words 0 low high 0 (omega arith) ∙ b.zero_first;
-  free = λ i l. ⊎_elim (λ (h : i < n). blank_there words 0 low high (key_word i) (omega arith) ∙ b.free i h) (λ (h : n ≤ i). blank_at words 0 low high (key_word i) 0 (omega arith)) (cases_lt i n);
-  lower = λ i l. ⊎_elim (λ (h : i < n). blank_there words 0 low high (bound_word One i) (omega arith) ∙ b.lower i h) (λ (h : n ≤ i). blank_at words 0 low high (bound_word One i) 1 (omega arith)) (cases_lt i n);
-  upper = λ i l. ⊎_elim (λ (h : i < n). blank_there words 0 low high (bound_word Two i) (omega arith) ∙ b.upper i h) (λ (h : n ≤ i). blank_at words 0 low high (bound_word Two i) 2 (omega arith)) (cases_lt i n);
+  free = λ i l. ⊎_elim (λ (h : i < n). blank_there words 0 low high (key_word i) (omega arith) ∙ b.free i h) (λ (h : n ≤ i). blank_at words 0 low high (key_word i) 0 (omega arith))
+      (cases_lt i n);
+  lower = λ i l. ⊎_elim (λ (h : i < n). blank_there words 0 low high (bound_word One i) (omega arith) ∙ b.lower i h)
+      (λ (h : n ≤ i). blank_at words 0 low high (bound_word One i) 1 (omega arith)) (cases_lt i n);
+  upper = λ i l. ⊎_elim (λ (h : i < n). blank_there words 0 low high (bound_word Two i) (omega arith) ∙ b.upper i h)
+      (λ (h : n ≤ i). blank_at words 0 low high (bound_word Two i) 2 (omega arith)) (cases_lt i n);
 }

@@ -8,5 +8,6 @@ abbrev pub pass_of : {G : Type 0} → BarePass G → PassValue G
 pass_of b = record { name = b.seat.table_id; view = b.seat.me.0; total = b.book.total; entries = b.book.entries }
 
 -- what a pass's type says of it
-abbrev pub IsSound : {S G : Type 0} → (G → GameModel S) → BarePass G → Type 0
-IsSound model b = IsPass model b.seat.table_id.words b.seat.me.0 b.seat.me.1 b.book.total b.book.entries b.lead b.drawn b.held
+abbrev pub IsSoundPass : {S G : Type 0} → (G → GameModel S) → BarePass G → Type 0
+IsSoundPass model b = IsPass model b.seat.table_id.words b.seat.me.0 b.seat.me.1 b.book.total b.book.entries b.lead
+    b.issued b.held

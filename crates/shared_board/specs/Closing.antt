@@ -7,9 +7,9 @@ use Rattle.sim_game.specs.Sides.{IsNoTighter}
 use Rattle.plan_book.specs.declared.Entry.{Entry}
 use Rattle.plan_book.specs.Books.{best_posted}
 use Rattle.bounds_board.specs.Views.{IsInnerKey}
-use Rattle.shared_board.specs.Words.{key_at, bound_at, bound_of}
+use Rattle.shared_board.specs.Words.{key_in_row, bound_in_row, as_bound}
 use Rattle.shared_board.specs.Rule.{Has}
-use Rattle.shared_board.specs.Passes.{key_of, seen_by}
+use Rattle.shared_board.specs.Passes.{known_key, seen_by}
 use Rattle.shared_board.specs.Values.{BoardValue, PassValue}
 use Rattle.shared_board.specs.declared.view.View.{View}
 use Rattle.shared_board.specs.declared.close.Kept.{Kept}
@@ -17,7 +17,12 @@ use Rattle.shared_board.specs.declared.close.CloseError.{CloseError}
 use Rattle.shared_board.specs.declared.close.CloseError.TheVariants.{MissingPass, NoMemory}
 
 abbrev pub kept_row : List ℕ → ℕ → ℕ → Kept
-kept_row words i k = record { key = k; lower = bound_of (bound_at words One i); upper = bound_of (bound_at words Two i) }
+kept_row words i k = record {
+  key = k;
+  lower = as_bound (bound_in_row words One i);
+  upper =
+      as_bound (bound_in_row words Two i);
+}
 
 abbrev pub kept_if : List ℕ → ℕ → ℕ → List Kept
 kept_if words i zero = []
@@ -26,7 +31,7 @@ kept_if words i (suc k) = kept_row words i k ∷ []
 -- the claimed rows among the first n, in order
 abbrev pub kept_rows : List ℕ → ℕ → List Kept
 kept_rows words zero = []
-kept_rows words (suc n) = kept_rows words n ++ kept_if words n (key_at words n)
+kept_rows words (suc n) = kept_rows words n ++ kept_if words n (key_in_row words n)
 
 abbrev pub key_if : Option ℕ → List ℕ
 key_if None = []
@@ -35,7 +40,7 @@ key_if (Some k) = k ∷ []
 -- the keys that are known of the first n rows, in order
 abbrev pub known_keys : List (ℕ × ℕ) → ℕ → List ℕ
 known_keys ks zero = []
-known_keys ks (suc n) = known_keys ks n ++ key_if (key_of ks n)
+known_keys ks (suc n) = known_keys ks n ++ key_if (known_key ks n)
 
 abbrev pub kept_bound : Side → Kept → ℤ
 kept_bound One x = x.lower
@@ -58,7 +63,8 @@ pub record IsKeptRow {S : Type 0} (m : GameModel S) (entries : List Entry) (x : 
   pub best : (side : Side) → kept_bound side x ≡ best_posted m entries side x.key
 
 -- the rows that are kept beside the book of the pass that closed the board
-pub record IsKept {S G : Type 0} (m : GameModel S) (rows : ℕ) (v : View G) (entries : List Entry) (kept : List Kept) : Type 0 where
+pub record AreKeptRows {S G : Type 0} (m : GameModel S) (rows : ℕ) (v : View G) (entries : List Entry)
+    (kept : List Kept) : Type 0 where
   -- the keys are those that the pass knew, in the order of their rows
   pub keys : map (λ (x : Kept). x.key) kept ≡ known_keys v.keys rows
   pub few : length kept ≤ rows
@@ -73,5 +79,6 @@ pub record IsKept {S G : Type 0} (m : GameModel S) (rows : ℕ) (v : View G) (en
 
 -- why the board was not closed: all is as before
 abbrev pub IsRefusal : {G S : Type 0} → BoardValue G → PassValue G → CloseError G S → Type 0
-IsRefusal b p (MissingPass drawn held b' p') = (drawn ≡ p.view.drawn) × (held ≡ length p.view.numbers) × (held < drawn) × (b' ≡ b) × (p' ≡ p)
-IsRefusal b p (NoMemory b' p') = (p.view.drawn ≤ length p.view.numbers) × (b' ≡ b) × (p' ≡ p)
+IsRefusal b p (MissingPass issued held b' p') = (issued ≡ p.view.issued) × (held ≡ length p.view.tickets)
+    × (held < issued) × (b' ≡ b) × (p' ≡ p)
+IsRefusal b p (NoMemory b' p') = (p.view.issued ≤ length p.view.tickets) × (b' ≡ b) × (p' ≡ p)

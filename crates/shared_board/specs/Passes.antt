@@ -7,25 +7,25 @@ use Rattle.sim_game.specs.Sides.{IsNoTighter, better, opening_bound, end_bound}
 use Rattle.plan_book.specs.declared.Entry.{Entry}
 use Rattle.plan_book.specs.Backed.{IsBacked}
 use Rattle.plan_book.specs.Entries.{IsEntry}
-use Rattle.shared_board.specs.Words.{word_of, bound_of, opening_word}
+use Rattle.shared_board.specs.Words.{word_of, as_bound, opening_word}
 use Rattle.shared_board.specs.Rule.{Has, seen, seen_at}
 use Rattle.shared_board.specs.Plays.{AllNamed}
 use Rattle.shared_board.specs.declared.view.View.{View}
 
 -- the key of a row, where it is known
-abbrev pub key_of : List (ℕ × ℕ) → ℕ → Option ℕ
-key_of [] row = None
-key_of (p ∷ ps) row = cond (nat_eq p.0 row) (Some p.1) (key_of ps row)
+abbrev pub known_key : List (ℕ × ℕ) → ℕ → Option ℕ
+known_key [] row = None
+known_key (p ∷ ps) row = cond (nat_eq p.0 row) (Some p.1) (known_key ps row)
 
 module _ {G : Type 0} where
   -- the entry was posted in a row whose key the view knows
-  pub record IsEntered (v : View G) (e : Entry) : Type 0 where
+  pub record IsPostedEntry (v : View G) (e : Entry) : Type 0 where
     pub row : ℕ
     pub known : Has (row, e.key) v.keys
     pub posted : Has (row, e.side, word_of e.bound) v.posted
 
   -- what was posted has an entry
-  pub record IsBooked (v : View G) (entries : List Entry) (i : ℕ) (side : Side) (x : ℕ) : Type 0 where
+  pub record HasPostedEntry (v : View G) (entries : List Entry) (i : ℕ) (side : Side) (x : ℕ) : Type 0 where
     pub entry : Entry
     pub booked : Has entry entries
     pub same_side : entry.side ≡ side
@@ -36,7 +36,8 @@ module _ {S G : Type 0} (m : GameModel S) where
   -- the tightest bound that the view has seen in the rows of the key, else the opening bound
   abbrev pub seen_in : Side → View G → List (ℕ × ℕ) → ℕ → ℤ
   seen_in side v [] key = opening_bound m side
-  seen_in side v (p ∷ ps) key = cond (nat_eq p.1 key) (better side (bound_of (seen_at m side v p.0)) (seen_in side v ps key)) (seen_in side v ps key)
+  seen_in side v (p ∷ ps) key = cond (nat_eq p.1 key)
+      (better side (as_bound (seen_at m side v p.0)) (seen_in side v ps key)) (seen_in side v ps key)
 
   abbrev pub seen_by : View G → Side → ℕ → ℤ
   seen_by v side key = seen_in side v v.keys key
@@ -53,8 +54,8 @@ module _ {S G : Type 0} (m : GameModel S) where
   pub record IsTold (v : View G) (total : ℕ) (entries : List Entry) : Type 0 where
     pub named : AllNamed m v.keys
     pub lawful : All (IsEntry m total (IsKnown v)) entries
-    pub entered : All (IsEntered v) entries
-    pub booked : (i : ℕ) (side : Side) (x : ℕ) → Has (i, side, x) v.posted → IsBooked v entries i side x
+    pub entered : All (IsPostedEntry v) entries
+    pub booked : (i : ℕ) (side : Side) (x : ℕ) → Has (i, side, x) v.posted → HasPostedEntry v entries i side x
     pub unseen : (side : Side) (i : ℕ) → IsUnseen v side i
 
 -- the later view knows no less: neither keys nor bounds
@@ -63,20 +64,22 @@ pub record KnowsNoLess {S G : Type 0} (m : GameModel S) (old new : View G) : Typ
   pub seen : (side : Side) (key : ℕ) → IsNoTighter side (seen_by m old side key) (seen_by m new side key)
 
 module _ {S G : Type 0} (model : G → GameModel S) where
-  pub record IsPass (words : ℕ) (v : View G) (slots : List (ℕ × Unit {0})) (total : ℕ) (entries : List Entry) (lead : Bool) (drawn held : ℕ) : Type 0 where
+  pub record IsPass (words : ℕ) (v : View G) (slots : List (ℕ × Unit {0})) (total : ℕ) (entries : List Entry)
+      (lead : Bool) (issued held : ℕ) : Type 0 where
     pub no_slots : slots ≡ []
     pub leads : v.lead ≡ lead
-    pub draws : v.drawn ≡ drawn
-    pub holds : held ≡ min (length v.numbers) 4294967295
-    pub holder : v.numbers ≢ []
-    pub few : drawn ≤ 65535
+    pub issues : v.issued ≡ issued
+    pub holds : held ≡ min (length v.tickets) 4294967295
+    pub holder : v.tickets ≢ []
+    pub few : issued ≤ 65535
     pub inside : (i k : ℕ) → Has (i, k) v.keys → 3 * i + 3 < words
     pub shaped : (side : Side) → 3 * length (seen side v) + 1 ≡ words
     pub told : (g : G) → v.game ≡ Some g → IsTold (model g) v total entries
 
--- what an answer tells of a bound x in row i: no looser than what the view had seen, in range, and backed at the state of each key that the view knows there
-pub record IsAnswer {S G : Type 0} (m : GameModel S) (side : Side) (v : View G) (i : ℕ) (x : ℤ) : Type 0 where
-  pub no_looser : IsNoTighter side (bound_of (seen_at m side v i)) x
+-- what an answer tells of a bound x in row i: no looser than what the view had seen, in range, and backed at the state
+-- of each key that the view knows there
+pub record IsBoundAnswer {S G : Type 0} (m : GameModel S) (side : Side) (v : View G) (i : ℕ) (x : ℤ) : Type 0 where
+  pub no_looser : IsNoTighter side (as_bound (seen_at m side v i)) x
   pub low : IsNoTighter One (opening_bound m One) x
   pub high : IsNoTighter Two (opening_bound m Two) x
   pub backed : (k : ℕ) → Has (i, k) v.keys → (s : S) → Reachable m s → m.key s ≡ k → IsBacked m side s x

@@ -4,7 +4,7 @@ use Rattle.atomic_table.specs.Seated.{TableId}
 use Rattle.sim_game.specs.Model.{GameModel}
 use Rattle.plan_book.specs.declared.Entry.{Entry}
 use Rattle.bounds_board.specs.Views.{BoardView}
-use Rattle.shared_board.specs.Passes.{key_of, seen_by}
+use Rattle.shared_board.specs.Passes.{known_key, seen_by}
 use Rattle.shared_board.specs.declared.view.View.{View}
 
 pub record BoardValue (G : Type 0) : Type 0 where
@@ -37,21 +37,27 @@ viewing d v = record d { pass = record d.pass { view = v } }
 abbrev pub entering : {G : Type 0} → DeskValue G → View G → Entry → DeskValue G
 entering d v e = record d { pass = record d.pass { view = v; entries = d.pass.entries ++ e ∷ [] } }
 
--- what no call of a desk changes: the table, and the numbers of its pass
+-- what no call of a desk changes: the table, and the tickets of its pass
 pub record DeskName : Type 0 where
   pub table : TableId
   pub lead : Bool
-  pub drawn : ℕ
-  pub numbers : List ℕ
+  pub issued : ℕ
+  pub tickets : List ℕ
 
 -- a desk as a search sees it
 abbrev pub desk_view : {S G : Type 0} → (G → GameModel S) → DeskValue G → BoardView G DeskName
 desk_view model d = record {
-  name = record { table = d.pass.name; lead = d.pass.view.lead; drawn = d.pass.view.drawn; numbers = d.pass.view.numbers };
+  name = record {
+    table = d.pass.name;
+    lead = d.pass.view.lead;
+    issued = d.pass.view.issued;
+    tickets =
+        d.pass.view.tickets;
+  };
   game = d.board.game;
   total = d.board.total;
   rows = d.board.rows;
-  key_at = key_of d.pass.view.keys;
+  key_at = known_key d.pass.view.keys;
   seen = seen_by (model d.board.game) d.pass.view;
   entries = d.pass.entries;
 }

@@ -5,10 +5,10 @@ ghost use Rattle.shared_board.specs.Words.{opening_word};
 ghost use Rattle.shared_board.specs.Rule.{first_view};
 ghost use Rattle.shared_board.specs.Passes.{KnowsNoLess};
 ghost use Rattle.shared_board.specs.Values.{IsPassOf};
-ghost use Rattle.shared_board.specs.Plays.{drawing, drawn_view, joined};
+ghost use Rattle.shared_board.specs.Plays.{issuing, issued_view, joined};
 
 use crate::pass::{BarePass, Pass};
-use crate::rule::{Draw, Gather, Rules};
+use crate::rule::{Gather, Issue, Rules};
 use crate::view::View;
 use crate::words::{blank_words, word_of_bound};
 use atomic_table::Table;
@@ -37,10 +37,12 @@ impl<G: Game> Model for Board<G> {
 
     ghost view = { λ b. record { name = b.words.shared.table_id; game = b.game; rows = b.rows; total = b.total } };
 
-    ghost invariant = { λ b. (b.words.shared.key ≡ (b.game, b.rows)) × (b.words.shared.table_id.words ≡ 3 * b.rows + 1) × (1 ≤ b.rows) × (b.rows ≤ 1048576) × (b.words.shared.table_id.slots ≡ 0) × (8192 ≤ b.total) × (b.total ≤ 1048576) };
+    ghost invariant = { λ b. (b.words.shared.key ≡ (b.game, b.rows)) × (b.words.shared.table_id.words ≡ 3 * b.rows + 1)
+        × (1 ≤ b.rows) × (b.rows ≤ 1048576) × (b.words.shared.table_id.slots ≡ 0) × (8192 ≤ b.total)
+        × (b.total ≤ 1048576) };
 }
 
-/// 65535 numbers of the board were drawn.
+/// 65535 tickets of the board were issued.
 #[derive(Clone, Copy, PartialEq, Eq, Debug)]
 pub struct TooMany;
 
@@ -50,7 +52,7 @@ pub struct JoinError<G: Game> {
     pub other: Pass<G>,
 }
 
-const MOST_DRAWN: u32 = 65535;
+const MOST_TICKETS: u32 = 65535;
 
 impl<G: Game> Board<G> {
     /// A board of free rows, and the pass of its lead.
@@ -69,7 +71,8 @@ impl<G: Game> Board<G> {
         ensures total { IfOk result (λ r. r.0.total ≡ total) }
         ensures ours { IfOk result (λ r. IsPassOf r.0 r.1) }
         ensures entries { IfOk result (λ r. r.1.entries ≡ []) }
-        ensures view { IfOk result (λ r. r.1.view ≡ first_view game rows (opening_word (G.model game) One) (opening_word (G.model game) Two)) }
+        ensures view { IfOk result (λ r. r.1.view ≡ first_view game rows (opening_word (G.model game) One)
+            (opening_word (G.model game) Two)) }
     {
         let low = word_of_bound(opening_bound(game, Side::One));
         let high = word_of_bound(opening_bound(game, Side::Two));
@@ -86,7 +89,7 @@ impl<G: Game> Board<G> {
             seat,
             book: Book::new(alloc, total),
             lead: true,
-            drawn: 1,
+            issued: 1,
             held: 1,
         };
         Ok((board, Pass { bare }))
@@ -96,31 +99,31 @@ impl<G: Game> Board<G> {
     pub fn split(&self, pass: &mut Pass<G>) -> Result<Pass<G>, TooMany>
         requires ours { IsPassOf self.now pass.old }
         requires lead { pass.old.view.lead ≡ true }
-        ensures few { OnOk result (pass.old.view.drawn < 65535) }
-        ensures pass { OnOk result (pass.new ≡ record pass.old { view = drawing pass.old.view }) }
+        ensures few { OnOk result (pass.old.view.issued < 65535) }
+        ensures pass { OnOk result (pass.new ≡ record pass.old { view = issuing pass.old.view }) }
         ensures ours { IfOk result (λ new. IsPassOf self.now new) }
-        ensures view { IfOk result (λ new. new.view ≡ drawn_view pass.old.view) }
+        ensures view { IfOk result (λ new. new.view ≡ issued_view pass.old.view) }
         ensures entries { IfOk result (λ new. new.entries ≡ []) }
         ensures mine { OnOk result (KnowsNoLess (G.model self.now.game) pass.old.view pass.new.view) }
         ensures theirs { IfOk result (λ new. KnowsNoLess (G.model self.now.game) pass.old.view new.view) }
-        ensures err { OnErr result ((pass.new ≡ pass.old) × (pass.old.view.drawn ≡ 65535)) }
+        ensures err { OnErr result ((pass.new ≡ pass.old) × (pass.old.view.issued ≡ 65535)) }
     {
-        if pass.bare.drawn >= MOST_DRAWN {
+        if pass.bare.issued >= MOST_TICKETS {
             return Err(TooMany);
         }
-        let seat = self.words.shared.split_seat::<Draw>(&mut pass.bare.seat);
-        pass.bare.drawn += 1;
+        let seat = self.words.shared.split_seat::<Issue>(&mut pass.bare.seat);
+        pass.bare.issued += 1;
         let bare = BarePass {
             seat,
             book: Book::new(self.alloc, self.total),
             lead: false,
-            drawn: 0,
+            issued: 0,
             held: 1,
         };
         Ok(Pass { bare })
     }
 
-    /// The first pass takes in the other one: its numbers, its book and what it has seen.
+    /// The first pass takes in the other one: its tickets, its book and what it has seen.
     pub fn join(&self, pass: &mut Pass<G>, other: Pass<G>) -> Result<(), JoinError<G>>
         requires ours { IsPassOf self.now pass.old }
         requires theirs { IsPassOf self.now other }
@@ -137,7 +140,7 @@ impl<G: Game> Board<G> {
                 seat,
                 book,
                 lead,
-                drawn,
+                issued,
                 held,
             },
         } = other;
@@ -146,7 +149,7 @@ impl<G: Game> Board<G> {
                 seat,
                 book,
                 lead,
-                drawn,
+                issued,
                 held,
             };
             return Err(JoinError {
@@ -157,7 +160,7 @@ impl<G: Game> Board<G> {
             .shared
             .join_seat::<Gather>(&mut pass.bare.seat, seat);
         pass.bare.lead = pass.bare.lead || lead;
-        pass.bare.drawn = pass.bare.drawn.max(drawn);
+        pass.bare.issued = pass.bare.issued.max(issued);
         pass.bare.held = pass.bare.held.saturating_add(held);
         Ok(())
     }

@@ -3,9 +3,9 @@ ghost use Rattle.std.specs.Prelude.{◌≡◌, ℕ, ◌+◌, ◌*◌, ◌<◌, �
 ghost use Rattle.std.specs.Mem.Slots.{slots_items, slots_len, IsFull};
 ghost use Rattle.sim_game.specs.declared.Side.{Side};
 ghost use Rattle.plan_book.specs.Books.{IsClosed};
-ghost use Rattle.shared_board.specs.Words.{bound_at};
+ghost use Rattle.shared_board.specs.Words.{bound_in_row};
 ghost use Rattle.shared_board.specs.Values.{IsPassOf};
-ghost use Rattle.shared_board.specs.Closing.{kept_rows, IsKept, IsRefusal};
+ghost use Rattle.shared_board.specs.Closing.{kept_rows, AreKeptRows, IsRefusal};
 
 use crate::board::Board;
 use crate::pass::{BarePass, Pass};
@@ -34,7 +34,7 @@ pub struct Closed {
 /// The board and the pass come back.
 #[derive(Drop)]
 pub enum CloseError<G: Game> {
-    /// Not every number that was drawn is held.
+    /// Not every ticket that was issued is held.
     MissingPass {
         drawn: u32,
         held: u32,
@@ -50,7 +50,8 @@ pub enum CloseError<G: Game> {
 /// The claimed rows among so many, in order.
 fn keep_rows(words: &ClosedWords<(), Global>, rows: u32, kept: &mut Vec<Kept>)
     requires words { IsFull words.now.words × (slots_len words.now.words ≡ 3 * rows + 1) × (rows ≤ 1048576) }
-    requires bounds { (side : Side) (i : ℕ) → i < rows → bound_at (slots_items words.now.words) side i ≤ 8000000000 }
+    requires bounds { (side : Side) (i : ℕ) → i < rows
+        → bound_in_row (slots_items words.now.words) side i ≤ 8000000000 }
     requires kept { (kept.old.items ≡ []) × (rows ≤ vec_capacity kept.old) }
     ensures { kept.new.items ≡ kept_rows (slots_items words.now.words) rows }
 {
@@ -72,20 +73,20 @@ fn keep_rows(words: &ClosedWords<(), Global>, rows: u32, kept: &mut Vec<Kept>)
 }
 
 impl<G: Game> Board<G> {
-    /// The claimed rows, and the book of a pass that holds each number drawn: `MissingPass` exactly where one is
+    /// The claimed rows, and the book of a pass that holds each ticket issued: `MissingPass` exactly where one is
     /// missing.
     pub fn close(self, pass: Pass<G>) -> Result<Closed, CloseError<G>>
         requires ours { IsPassOf self pass }
         requires lead { pass.view.lead ≡ true }
-        ensures whole { OnOk result (length pass.view.numbers ≡ pass.view.drawn) }
+        ensures whole { OnOk result (length pass.view.tickets ≡ pass.view.issued) }
         ensures total { IfOk result (λ c. c.book.total ≡ pass.total) }
         ensures entries { IfOk result (λ c. c.book.entries ≡ pass.entries) }
         ensures closed { OnOk result (IsClosed (G.model self.game) pass.total pass.entries) }
-        ensures kept { IfOk result (λ c. IsKept (G.model self.game) self.rows pass.view pass.entries c.kept) }
+        ensures kept { IfOk result (λ c. AreKeptRows (G.model self.game) self.rows pass.view pass.entries c.kept) }
         ensures err { IfErr result (IsRefusal self pass) }
     {
-        if pass.bare.held < pass.bare.drawn {
-            let drawn = pass.bare.drawn;
+        if pass.bare.held < pass.bare.issued {
+            let drawn = pass.bare.issued;
             let held = pass.bare.held;
             return Err(CloseError::MissingPass {
                 drawn,
@@ -109,7 +110,7 @@ impl<G: Game> Board<G> {
                 seat,
                 book,
                 lead: _,
-                drawn: _,
+                issued: _,
                 held: _,
             },
         } = pass;

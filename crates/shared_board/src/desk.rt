@@ -1,14 +1,14 @@
 //! A pass at its board.
-ghost use Rattle.std.specs.Prelude.{◌≡◌, ◌≢◌, ◌++◌, ◌∷◌, [], ℕ, ◌<◌, ◌≤◌, Some, IsSome, List, length, IfOk, IfErr, OnOk, OnErr};
+ghost use Rattle.std.specs.Prelude.{◌≡◌, ◌≢◌, ◌++◌, ◌∷◌, [], ℕ, ◌<◌, ◌≤◌, Some, IsSome, List, length, IfOk, OnOk, OnErr};
 ghost use Rattle.sim_game.specs.declared.Side.{Side};
 ghost use Rattle.sim_game.specs.declared.Side.TheVariants.{One, Two};
 ghost use Rattle.sim_game.specs.Model.{Reachable};
 ghost use Rattle.sim_game.specs.Sides.{IsNoTighter, opening_bound};
 ghost use Rattle.bounds_board.specs.Views.{IsInnerKey, IsFull, IsPostable, IsLater, IsRead, IsEnclosure};
-ghost use Rattle.shared_board.specs.Words.{word_of, bound_of, IsLooser};
+ghost use Rattle.shared_board.specs.Words.{word_of, as_bound, IsLooser};
 ghost use Rattle.shared_board.specs.Rule.{Has, seen, seen_at};
 ghost use Rattle.shared_board.specs.Plays.{more_keys, reading, posting, IsApart, AllNamed};
-ghost use Rattle.shared_board.specs.Passes.{IsUnseen, IsAnswer};
+ghost use Rattle.shared_board.specs.Passes.{IsUnseen, IsBoundAnswer};
 ghost use Rattle.shared_board.specs.Values.{IsPassOf, viewing, entering, desk_view, DeskName};
 
 use crate::board::Board;
@@ -70,10 +70,12 @@ impl<'a, G: Game> Desk<'a, G> {
     /// The row of a key, claimed for it if need be.
     fn claim_key(&mut self, key: u64) -> Result<Row, Full>
         requires { IsInnerKey (G.model self.old.board.game) key }
-        ensures view { (ks : List (ℕ × ℕ)) × (self.new ≡ viewing self.old (more_keys ks self.old.pass.view)) }
+        ensures view { (ks : List (ℕ × ℕ)) × (self.new ≡ viewing self.old (more_keys ks self.old.pass.view))
+            × (length ks ≤ self.old.board.rows) }
         ensures ok { IfOk result (λ row. Has (row, key) self.new.pass.view.keys) }
         ensures apart { IsApart self.new.pass.view.keys }
-        ensures err { OnErr result (((i : ℕ) → i < self.old.board.rows → (k : ℕ) × Has (i, k) self.new.pass.view.keys × (k ≢ key))
+        ensures err { OnErr result (((i : ℕ) → i < self.old.board.rows
+            → (k : ℕ) × Has (i, k) self.new.pass.view.keys × (k ≢ key))
             × AllNamed (G.model self.old.board.game) self.new.pass.view.keys
             × ((side : Side) (i : ℕ) → IsUnseen (G.model self.old.board.game) self.old.pass.view side i)) }
     {
@@ -94,10 +96,13 @@ impl<'a, G: Game> Desk<'a, G> {
     /// The bounds of a row, by a load of each.
     fn read_row(&mut self, row: Row) -> Enclosure
         requires { (k : ℕ) × Has (row, k) self.old.pass.view.keys }
-        ensures view { (a b : ℕ) × (self.new ≡ viewing self.old (reading Two (reading One self.old.pass.view row a) row b)) × (result.lower ≡ bound_of a) × (result.upper ≡ bound_of b) }
-        ensures lower { IsAnswer (G.model self.old.board.game) One self.old.pass.view row result.lower }
-        ensures upper { IsAnswer (G.model self.old.board.game) Two self.old.pass.view row result.upper }
-        ensures shaped { (side : Side) → (row < self.old.board.rows) × (length (seen side self.old.pass.view) ≡ self.old.board.rows) }
+        ensures view { (a b : ℕ) × (self.new ≡ viewing self.old
+            (reading Two (reading One self.old.pass.view row a) row b))
+            × (result.lower ≡ as_bound a) × (result.upper ≡ as_bound b) }
+        ensures lower { IsBoundAnswer (G.model self.old.board.game) One self.old.pass.view row result.lower }
+        ensures upper { IsBoundAnswer (G.model self.old.board.game) Two self.old.pass.view row result.upper }
+        ensures shaped { (side : Side) → (row < self.old.board.rows)
+            × (length (seen side self.old.pass.view) ≡ self.old.board.rows) }
         ensures apart { IsApart self.old.pass.view.keys }
     {
         let board = self.board;
@@ -116,7 +121,10 @@ impl<'a, G: Game> Desk<'a, G> {
     fn post_entry(&mut self, row: Row, e: Entry) -> Result<(), NoMemory>
         requires known { Has (row, e.key) self.old.pass.view.keys }
         requires lawful { IsPostable (G.model self.old.board.game) (desk_view G.model self.old) e }
-        ensures ok { OnOk result ((n : ℕ) × (self.new ≡ entering self.old (posting e.side self.old.pass.view row (word_of e.bound) n) e) × IsLooser e.side (seen_at (G.model self.old.board.game) e.side self.old.pass.view row) n × (row < self.old.board.rows) × (length (seen e.side self.old.pass.view) ≡ self.old.board.rows)) }
+        ensures ok { OnOk result ((n : ℕ) × (self.new ≡ entering self.old
+            (posting e.side self.old.pass.view row (word_of e.bound) n) e)
+            × IsLooser e.side (seen_at (G.model self.old.board.game) e.side self.old.pass.view row) n
+            × (row < self.old.board.rows) × (length (seen e.side self.old.pass.view) ≡ self.old.board.rows)) }
         ensures err { OnErr result (self.new ≡ self.old) }
     {
         let board = self.board;
@@ -159,17 +167,22 @@ impl<'a, G: Game> Bounds<G> for Desk<'a, G> {
         board.total
     }
 
-    /// The row that has the key, claimed if need be. It takes no memory, and the pass learns no more than keys of rows.
+    /// The row that has the key, claimed if need be, by at most one try a row. It takes no memory, and the pass
+    /// learns no more than keys of rows.
     fn claim(&mut self, key: u64) -> Result<Row, Full>
-        requires { IsInnerKey (G.model (desk_view G.model self.old).game) key }
+        requires { IsInnerKey (G.model self.old.board.game) key }
         ensures later { IsLater (desk_view G.model self.old) (desk_view G.model self.new) }
-        ensures entries { (desk_view G.model self.new).entries ≡ (desk_view G.model self.old).entries }
+        ensures entries { self.new.pass.entries ≡ self.old.pass.entries }
         ensures ok { IfOk result (λ row. (desk_view G.model self.new).key_at row ≡ Some key) }
-        ensures alone { IfOk result (λ row. (other : ℕ) → (desk_view G.model self.new).key_at other ≡ Some key → other ≡ row) }
-        ensures opened { OnOk result ((side : Side) → IsNoTighter side (opening_bound (G.model (desk_view G.model self.old).game) side) ((desk_view G.model self.new).seen side key)) }
-        ensures unseen { OnErr result ((side : Side) (other : ℕ) → (desk_view G.model self.new).seen side other ≡ (desk_view G.model self.old).seen side other) }
-        ensures full { OnErr result (IsFull (G.model (desk_view G.model self.old).game) (desk_view G.model self.new) key) }
-        ensures learns { (ks : List (ℕ × ℕ)) × (self.new ≡ viewing self.old (more_keys ks self.old.pass.view)) }
+        ensures alone { IfOk result (λ row. (other : ℕ)
+            → (desk_view G.model self.new).key_at other ≡ Some key → other ≡ row) }
+        ensures opened { OnOk result ((side : Side) → IsNoTighter side
+            (opening_bound (G.model self.old.board.game) side) ((desk_view G.model self.new).seen side key)) }
+        ensures unseen { OnErr result ((side : Side) (other : ℕ)
+            → (desk_view G.model self.new).seen side other ≡ (desk_view G.model self.old).seen side other) }
+        ensures full { OnErr result (IsFull (G.model self.old.board.game) (desk_view G.model self.new) key) }
+        ensures learns { (ks : List (ℕ × ℕ)) × (self.new ≡ viewing self.old (more_keys ks self.old.pass.view))
+            × (length ks ≤ self.old.board.rows) }
     {
         self.claim_key(key)
     }
@@ -178,25 +191,30 @@ impl<'a, G: Game> Bounds<G> for Desk<'a, G> {
     fn read(&mut self, row: Row) -> Enclosure
         requires { IsSome ((desk_view G.model self.old).key_at row) }
         ensures later { IsLater (desk_view G.model self.old) (desk_view G.model self.new) }
-        ensures entries { (desk_view G.model self.new).entries ≡ (desk_view G.model self.old).entries }
-        ensures seen { (key : ℕ) → (desk_view G.model self.old).key_at row ≡ Some key → IsRead (desk_view G.model self.new) result.lower result.upper key }
-        ensures backed { (s : G.State) → Reachable (G.model (desk_view G.model self.old).game) s → (desk_view G.model self.old).key_at row ≡ Some ((G.model (desk_view G.model self.old).game).key s)
-            → IsEnclosure (G.model (desk_view G.model self.old).game) result.lower result.upper s }
-        ensures loaded { (a b : ℕ) × (self.new ≡ viewing self.old (reading Two (reading One self.old.pass.view row a) row b)) × (result.lower ≡ bound_of a) × (result.upper ≡ bound_of b) }
+        ensures entries { self.new.pass.entries ≡ self.old.pass.entries }
+        ensures seen { (key : ℕ) → (desk_view G.model self.old).key_at row ≡ Some key
+            → IsRead (desk_view G.model self.new) result.lower result.upper key }
+        ensures backed { (s : G.State) → Reachable (G.model self.old.board.game) s
+            → (desk_view G.model self.old).key_at row ≡ Some ((G.model self.old.board.game).key s)
+            → IsEnclosure (G.model self.old.board.game) result.lower result.upper s }
+        ensures loaded { (a b : ℕ) × (self.new ≡ viewing self.old
+            (reading Two (reading One self.old.pass.view row a) row b))
+            × (result.lower ≡ as_bound a) × (result.upper ≡ as_bound b) }
     {
         self.read_row(row)
     }
 
-    /// Raises the lower or cuts the upper bound of the row by one atomic step, and keeps the entry. Without memory it makes
-    /// no step.
+    /// Raises the lower or cuts the upper bound of the row by one atomic step, and keeps the entry. Without memory
+    /// it makes no step.
     fn post(&mut self, row: Row, e: Entry) -> Result<(), NoMemory>
         requires row { (desk_view G.model self.old).key_at row ≡ Some e.key }
-        requires entry { IsPostable (G.model (desk_view G.model self.old).game) (desk_view G.model self.old) e }
+        requires entry { IsPostable (G.model self.old.board.game) (desk_view G.model self.old) e }
         ensures later { IsLater (desk_view G.model self.old) (desk_view G.model self.new) }
-        ensures ok { OnOk result ((desk_view G.model self.new).entries ≡ (desk_view G.model self.old).entries ++ e ∷ []) }
+        ensures ok { OnOk result (self.new.pass.entries ≡ self.old.pass.entries ++ e ∷ []) }
         ensures seen { OnOk result (IsNoTighter e.side e.bound ((desk_view G.model self.new).seen e.side e.key)) }
         ensures err { OnErr result (desk_view G.model self.new ≡ desk_view G.model self.old) }
-        ensures posted { OnOk result ((n : ℕ) × (self.new ≡ entering self.old (posting e.side self.old.pass.view row (word_of e.bound) n) e)) }
+        ensures posted { OnOk result ((n : ℕ)
+            × (self.new ≡ entering self.old (posting e.side self.old.pass.view row (word_of e.bound) n) e)) }
         ensures refused { OnErr result (self.new ≡ self.old) }
     {
         self.post_entry(row, e)

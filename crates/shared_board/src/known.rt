@@ -1,5 +1,5 @@
 //! Rows that a desk has met.
-ghost use Rattle.std.specs.Prelude.{◌≡◌, ◌⊎◌, ℕ, ◌<◌, None, Some, [], All, Contains, length, slice_set, IfSome, OnOk, OnErr};
+ghost use Rattle.std.specs.Prelude.{◌≡◌, ◌⊎◌, ℕ, ◌<◌, None, Some, [], All, Contains, slice_set, IfSome, OnOk, OnErr};
 
 use sim_game::NoMemory;
 use std::alloc::Global;
@@ -26,8 +26,8 @@ fn place_of(key: u64, places: usize) -> usize
     requires { 0 < places }
     ensures { result < places }
 {
-    // Multiplicative hashing: the high bits of the product depend on all fields of the key. A second product brings them
-    // into range without a division.
+    // Multiplicative hashing: the high bits of the product depend on all fields of the key. A second product brings
+    // them into range without a division.
     let hash = key.wrapping_mul(0x9e37_79b9_7f4a_7c15) >> 32;
     ((hash * places.min(MOST_PLACES) as u64) >> 32) as usize
 }
@@ -67,7 +67,8 @@ impl KnownRows {
     }
 
     pub(crate) fn keep(&mut self, key: u64, row: u32)
-        ensures { (self.new ≡ self.old) ⊎ ((place : ℕ) × (self.new.places.items ≡ slice_set self.old.places.items place (Some (record { key = key; row = row })))) }
+        ensures { (self.new ≡ self.old) ⊎ ((place : ℕ) × (self.new.places.items
+            ≡ slice_set self.old.places.items place (Some (record { key = key; row = row })))) }
     {
         if self.places.is_empty() {
             return;

@@ -1,6 +1,6 @@
 //! What a thread knows of a board, and what it has posted.
 ghost use Rattle.std.specs.Prelude.{◌≡◌};
-ghost use Rattle.shared_board.specs.Bare.{pass_of, IsSound};
+ghost use Rattle.shared_board.specs.Bare.{pass_of, IsSoundPass};
 
 use crate::view::View;
 use atomic_table::Seat;
@@ -15,14 +15,14 @@ pub struct Pass<G: Game> {
 }
 
 impl<G: Game> Model for Pass<G> {
-    ghost use Rattle.shared_board.specs.Bare.{pass_of, IsSound};
+    ghost use Rattle.shared_board.specs.Bare.{pass_of, IsSoundPass};
     ghost use Rattle.shared_board.specs.Values.{PassValue};
 
     ghost Value = { PassValue G };
 
     ghost view = { λ p. pass_of p.bare };
 
-    ghost invariant = { λ p. IsSound G.model p.bare };
+    ghost invariant = { λ p. IsSoundPass G.model p.bare };
 }
 
 /// A pass without what its type says of it, which its clauses say. A closure in generic code may take and return it.
@@ -31,8 +31,8 @@ pub struct BarePass<G> {
     pub seat: Seat<(), View<G>>,
     pub book: Book,
     pub lead: bool,
-    pub drawn: u32,
-    /// How many numbers it holds, and no more than the greatest number of the type.
+    pub issued: u32,
+    /// How many tickets it holds, and no more than the greatest number of the type.
     pub held: u32,
 }
 
@@ -47,7 +47,7 @@ impl<G: Game> Pass<G> {
     /// The pass as its fields alone.
     pub fn into_bare(self) -> BarePass<G>
         ensures same { pass_of result ≡ self }
-        ensures sound { IsSound G.model result }
+        ensures sound { IsSoundPass G.model result }
     {
         let Pass { bare } = self;
         bare
@@ -55,7 +55,7 @@ impl<G: Game> Pass<G> {
 
     /// The pass of these fields.
     pub fn from_bare(bare: BarePass<G>) -> Pass<G>
-        requires { IsSound G.model bare }
+        requires { IsSoundPass G.model bare }
         ensures { result ≡ pass_of bare }
     {
         Pass { bare }

@@ -14,7 +14,8 @@ impl<G: Game> TableRule<(), View<G>, (G, u32)> for Rules {
 
     ghost holds = { λ key. IsConsistent (G.model key.0) key.0 key.1 };
 
-    ghost first = { λ key. first_view key.0 key.1 (opening_word (G.model key.0) One) (opening_word (G.model key.0) Two) };
+    ghost first = { λ key. first_view key.0 key.1 (opening_word (G.model key.0) One)
+        (opening_word (G.model key.0) Two) };
 }
 
 pub struct Claim<G> {
@@ -81,15 +82,15 @@ impl<G: Game> Play<(), View<G>> for Cut<G> {
     ghost then = { met G.model Two };
 }
 
-/// The lead draws a number for a new seat.
-pub struct Draw;
+/// The lead issues a ticket for a new seat.
+pub struct Issue;
 
-impl<G> Split<View<G>> for Draw {
-    ghost use Rattle.shared_board.specs.Plays.{drawing, drawn_view};
+impl<G> Split<View<G>> for Issue {
+    ghost use Rattle.shared_board.specs.Plays.{issuing, issued_view};
 
-    ghost left = { drawing };
+    ghost left = { issuing };
 
-    ghost right = { drawn_view };
+    ghost right = { issued_view };
 }
 
 /// A seat takes in all that another has.

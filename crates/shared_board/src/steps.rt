@@ -1,5 +1,5 @@
 //! The steps of a seat at the words of a board.
-ghost use Rattle.std.specs.Prelude.{◌≡◌, ◌≢◌, ℕ, ◌+◌, ◌*◌, ◌<◌, ◌≤◌, List, [], Some, IfSome, IfNone};
+ghost use Rattle.std.specs.Prelude.{◌≡◌, ◌≢◌, ℕ, ◌+◌, ◌*◌, ◌<◌, ◌≤◌, List, length, Some, IfSome, IfNone};
 ghost use Rattle.bounds_board.specs.Views.{IsInnerKey};
 ghost use Rattle.shared_board.specs.Rule.{Has};
 ghost use Rattle.shared_board.specs.Plays.{more_keys, reading, posting, IsBound, IsLearnt, IsApart, AllNamed, IsAt, IsSized, MayClaim, MayPost};
@@ -51,9 +51,11 @@ pub(crate) fn claim_row<G: Game>(
     requires seat { IsAt words.now.table_id seat.old.table_id seat.old.me }
     requires key { IsInnerKey (G.model words.now.key.0) key }
     ensures seat { IsAt words.now.table_id seat.new.table_id seat.new.me × (seat.new.id ≡ seat.old.id) }
-    ensures keys { (ks : List (ℕ × ℕ)) × (seat.new.me.0 ≡ more_keys ks seat.old.me.0) }
-    ensures named { (g : G) → seat.old.me.0.game ≡ Some g → AllNamed (G.model g) seat.old.me.0.keys → AllNamed (G.model g) seat.new.me.0.keys }
-    ensures inside { ((i k : ℕ) → Has (i, k) seat.old.me.0.keys → i < rows) → (i k : ℕ) → Has (i, k) seat.new.me.0.keys → i < rows }
+    ensures keys { (ks : List (ℕ × ℕ)) × (seat.new.me.0 ≡ more_keys ks seat.old.me.0) × (length ks ≤ rows) }
+    ensures named { (g : G) → seat.old.me.0.game ≡ Some g → AllNamed (G.model g) seat.old.me.0.keys
+        → AllNamed (G.model g) seat.new.me.0.keys }
+    ensures inside { ((i k : ℕ) → Has (i, k) seat.old.me.0.keys → i < rows) → (i k : ℕ) → Has (i, k) seat.new.me.0.keys
+        → i < rows }
     ensures apart { IsApart seat.new.me.0.keys }
     ensures some { IfSome result (λ r. (r < rows) × Has (r, key) seat.new.me.0.keys) }
     ensures none { IfNone result ((i : ℕ) → i < rows → (k : ℕ) × Has (i, k) seat.new.me.0.keys × (k ≢ key)) }
@@ -104,7 +106,8 @@ pub(crate) fn post_word<G: Game>(
     requires seat { IsAt words.now.table_id seat.old.table_id seat.old.me }
     requires post { MayPost (G.model words.now.key.0) rows side seat.old.me.0 row bound }
     ensures seat { IsAt words.now.table_id seat.new.table_id seat.new.me × (seat.new.id ≡ seat.old.id) }
-    ensures view { (n : ℕ) × (seat.new.me.0 ≡ posting side seat.old.me.0 row bound n) × ((g : G) → seat.old.me.0.game ≡ Some g → IsBound G.model side seat.old.me.0 row n g) }
+    ensures view { (n : ℕ) × (seat.new.me.0 ≡ posting side seat.old.me.0 row bound n)
+        × ((g : G) → seat.old.me.0.game ≡ Some g → IsBound G.model side seat.old.me.0 row n g) }
 {
     match side {
         Side::One => words.fetch_max::<Raise<G>>(seat, 3 * row as usize + 2, bound),

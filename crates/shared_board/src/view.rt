@@ -6,11 +6,11 @@ use std::collections::LinkedList;
 pub struct View<G> {
     /// The game of the board.
     pub game: Option<G>,
-    /// Whether the seat is the lead's, and then how many numbers were drawn.
+    /// Whether the seat is the lead's, and then how many tickets it has issued.
     pub lead: bool,
-    pub drawn: u64,
-    /// The numbers that the seat holds.
-    pub numbers: LinkedList<u64>,
+    pub issued: u64,
+    /// The tickets that the seat holds: each is issued once, and all come back to the lead before the board is closed.
+    pub tickets: LinkedList<u64>,
     /// Rows, each with its key.
     pub keys: LinkedList<(u64, u64)>,
     /// For each row the tightest bounds that the seat has seen, as words.

@@ -1,6 +1,6 @@
 //! Bounds as words of a board.
 ghost use Rattle.std.specs.Prelude.{◌≡◌, ◌+◌, ◌*◌, ◌≤◌, pos, neg_ℤ, ◌≤ℤ◌, IfOk};
-ghost use Rattle.shared_board.specs.Words.{word_of, bound_of, IsBlank};
+ghost use Rattle.shared_board.specs.Words.{word_of, as_bound, IsBlank};
 
 use sim_game::NoMemory;
 use std::alloc::Global;
@@ -20,7 +20,7 @@ pub(crate) fn word_of_bound(bound: i64) -> u64
 /// The bound of a word.
 pub(crate) fn bound_of_word(word: u64) -> i64
     requires { word ≤ 8000000000 }
-    ensures { result ≡ bound_of word }
+    ensures { result ≡ as_bound word }
 {
     word as i64 - SHIFT
 }

@@ -119,7 +119,9 @@ pub worse_right : (side : Side) (x y : ℤ) → IsNoTighter side (better (other_
 worse_right side x y = flip_side side _ _ (better_right (other_side side) x y)
 
 pub below_worse : (side : Side) (x y z : ℤ) → IsTighter side x z → IsTighter side y z → IsTighter side (better (other_side side) x y) z
-below_worse side x y z p q = ⊎_elim (λ (e : better (other_side side) x y ≡ x). subst (λ (w : ℤ). IsTighter side w z) (sym e) p) (λ (e : better (other_side side) x y ≡ y). subst (λ (w : ℤ). IsTighter side w z) (sym e) q) (better_cases (other_side side) x y)
+below_worse side x y z p q =
+    ⊎_elim (λ (e : better (other_side side) x y ≡ x). subst (λ (w : ℤ). IsTighter side w z) (sym e) p)
+    (λ (e : better (other_side side) x y ≡ y). subst (λ (w : ℤ). IsTighter side w z) (sym e) q) (better_cases (other_side side) x y)
 
 -- the worse of two is the second where that is no tighter
 pub worse_is : (side : Side) (x y : ℤ) → IsNoTighter side y x → better (other_side side) x y ≡ y

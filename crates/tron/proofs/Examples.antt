@@ -5,7 +5,7 @@ use Rattle.tron.specs.declared.Direction.TheVariants.{North, East, South, West}
 use Rattle.tron.specs.declared.Setting.{Setting}
 use Rattle.tron.specs.declared.TronError.TheVariants.{GridRange, CellRange, HeadInWall, HeadsMeet}
 use Rattle.tron.specs.Position.{first_fault}
-use Rattle.tron.specs.Rules.{Arena, arena_of_trails, first_trails, after_moves, is_over, key_of, open_directions, payoff_of, rank_of, ways}
+use Rattle.tron.specs.Rules.{Arena, arena_of_trails, first_trails, after_moves, is_over, tron_key, open_directions, tron_payoff, tron_rank, ways_of}
 
 abbrev row_of_three : Setting
 row_of_three = record { height = 1; width = 3; taken = 5; one = 0; two = 2 }
@@ -13,28 +13,28 @@ row_of_three = record { height = 1; width = 3; taken = 5; one = 0; two = 2 }
 abbrev apart : Arena
 apart = arena_of_trails row_of_three (first_trails [] 0 2)
 
-key_apart : key_of apart ≡ 20482
+key_apart : tron_key apart ≡ 20482
 key_apart = refl
 
-rank_apart : rank_of apart ≡ 1
+rank_apart : tron_rank apart ≡ 1
 rank_apart = refl
 
-way_of_one : ways apart One ≡ East ∷ []
+way_of_one : ways_of apart One ≡ East ∷ []
 way_of_one = refl
 
-way_of_two : ways apart Two ≡ West ∷ []
+way_of_two : ways_of apart Two ≡ West ∷ []
 way_of_two = refl
 
 heads_in_the_middle : after_moves row_of_three (first_trails [] 0 2) 0 0 ≡ record { taken = 0 ∷ 2 ∷ 1 ∷ []; one = 1; two = 1 }
 heads_in_the_middle = refl
 
-tied_in_the_middle : payoff_of (arena_of_trails row_of_three (record { taken = 0 ∷ 2 ∷ 1 ∷ []; one = 1; two = 1 })) ≡ pos 0
+tied_in_the_middle : tron_payoff (arena_of_trails row_of_three (record { taken = 0 ∷ 2 ∷ 1 ∷ []; one = 1; two = 1 })) ≡ pos 0
 tied_in_the_middle = refl
 
 abbrev side_by_side : Arena
 side_by_side = arena_of_trails (record { height = 1; width = 4; taken = 3; one = 0; two = 1 }) (first_trails [] 0 1)
 
-one_is_shut : payoff_of side_by_side ≡ neg_ℤ (pos 1)
+one_is_shut : tron_payoff side_by_side ≡ neg_ℤ (pos 1)
 one_is_shut = refl
 
 shut_is_over : is_over side_by_side ≡ true

@@ -12,7 +12,8 @@ use Rattle.tron.specs.declared.Setting.{Setting}
 use Rattle.tron.specs.Cells.{is_listed, with_cell, IsSetOf}
 use Rattle.state_key.proofs.SetLemmas.{below_bits, bit_clear, same_set}
 use Rattle.tron.specs.CellLaws.{set_more}
-use Rattle.tron.specs.Position.{is_outside, named_cells, first_fault, IsGrid, IsSettingOf, IsPosition}
+use Rattle.text.specs.Faults.{is_outside}
+use Rattle.tron.specs.Position.{named_cells, first_fault, IsGrid, IsSettingOf, IsPosition}
 
 pub none_past : (bound : ℕ) (cells : List ℕ) → position (λ cell. leb bound cell) cells ≡ None → All (λ cell. cell < bound) cells
 none_past bound cells none =

@@ -11,7 +11,7 @@ use Rattle.tron.specs.Cells.{with_cell, is_listed, add_cell, AreDistinct, IsSetO
 use Rattle.state_key.proofs.SetLemmas.{in_with, or_last}
 use Rattle.tron.specs.CellLaws.{listed_push}
 use Rattle.tron.specs.Position.{named_cells, IsSettingOf}
-use Rattle.tron.specs.Rules.{Arena, Trails, arena_of, arena_of_trails, entered, first_state, first_trails, with_heads, after_moves, moved, StandsFor}
+use Rattle.tron.specs.Rules.{Arena, Trails, arena_of, arena_of_trails, entered, tron_root, first_trails, with_heads, after_moves, moved, StandsFor}
 
 -- ---- one cell more, where it is new
 listed_add : (cells : List ℕ) (cell other : ℕ) → is_listed (add_cell cells cell) other ≡ (is_listed cells other || eqb cell other)
@@ -26,7 +26,8 @@ listed_add cells cell other = elim (cases_Bool (is_listed cells cell)) [
 distinct_add : (cells : List ℕ) (cell : ℕ) → AreDistinct cells → AreDistinct (add_cell cells cell)
 distinct_add cells cell d = elim (cases_Bool (is_listed cells cell)) [
   | inl there ↦ rw there d
-  | inr new ↦ rw new (all_pairs_push (λ one other. one ≢ other) cells cell d (λ k e l same. both_ways (is_listed cells cell) new (list_any_at (λ other. eqb other cell) cells k e l (eq-eqb _ cell same))))
+  | inr new ↦ rw new (all_pairs_push (λ one other. one ≢ other) cells cell d
+      (λ k e l same. both_ways (is_listed cells cell) new (list_any_at (λ other. eqb other cell) cells k e l (eq-eqb _ cell same))))
 ]
 
 set_add : (cells : List ℕ) (taken cell : ℕ) → IsSetOf cells taken → IsSetOf (add_cell cells cell) (with_cell taken cell)
@@ -43,7 +44,7 @@ distinct_each : (start cells : List ℕ) → AreDistinct start → AreDistinct (
 distinct_each start [] d = d
 distinct_each start (cell ∷ cells) d = distinct_each (add_cell start cell) cells (distinct_add start cell d)
 
-pub stands_first : (g : Setting) (walls : List ℕ) (one two : ℕ) → IsSettingOf g.height g.width walls one two g → StandsFor (first_state g) (first_trails walls one two)
+pub stands_first : (g : Setting) (walls : List ℕ) (one two : ℕ) → IsSettingOf g.height g.width walls one two g → StandsFor (tron_root g) (first_trails walls one two)
 stands_first g walls one two is = record {
   taken = record { same = λ cell. is.taken_is.same cell ∙ sym (listed_each [] (named_cells walls one two) cell) };
   distinct = distinct_each [] (named_cells walls one two) (λ i j d less below. absurd (let none : j < 0 = below in omega arith));

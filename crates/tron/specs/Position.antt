@@ -1,15 +1,12 @@
 -- Which grids, walls and heads make a position, and the first fault of the others.
-use Rattle.std.specs.Prelude.{◌≡◌, ℕ, ◌*◌, ◌<◌, ◌≤◌, ◌^◌, Bool, ◌||◌, ◌==◌, nat_lt, nat_le, if◌then◌else◌, List, [], ◌∷◌, ◌++◌, position, Option, Some, None, option_map}
-use Rattle.std.specs.Option.{option_or}
+use Rattle.std.specs.Prelude.{◌≡◌, ℕ, ◌*◌, ◌<◌, ◌≤◌, ◌^◌, ◌||◌, ◌==◌, nat_le, if◌then◌else◌, List, [], ◌∷◌, ◌++◌, position, Option, Some, None, option_map}
+use Rattle.text.specs.Faults.{is_outside, first_some}
 use Rattle.tron.specs.declared.Setting.{Setting}
 use Rattle.tron.specs.declared.TronError.{TronError}
 use Rattle.tron.specs.declared.TronError.TheVariants.{GridRange, CellRange, HeadInWall, HeadsMeet}
 use Rattle.tron.specs.Cells.{is_listed, IsSetOf}
 
 -- ---- the rules, each with what is said where it is broken
-abbrev pub is_outside : ℕ → ℕ → ℕ → Bool
-is_outside low high number = nat_lt number low || nat_lt high number
-
 -- the height or the width is not 1 to 6
 abbrev pub grid_range : ℕ → ℕ → Option TronError
 grid_range height width = if is_outside 1 6 height || is_outside 1 6 width then Some GridRange else None
@@ -29,11 +26,6 @@ head_in_wall walls one two = if is_listed walls one || is_listed walls two then 
 -- both heads are on one cell
 abbrev pub heads_meet : ℕ → ℕ → Option TronError
 heads_meet one two = if one == two then Some HeadsMeet else None
-
--- the first that there is
-abbrev pub first_some : {T : Type 0} → List (Option T) → Option T
-first_some [] = None
-first_some (option ∷ options) = option_or option (first_some options)
 
 -- the first rule that is broken
 abbrev pub first_fault : ℕ → ℕ → List ℕ → ℕ → ℕ → Option TronError

@@ -58,16 +58,16 @@ abbrev pub is_over : Arena → Bool
 is_over r = (r.one == r.two) || (is_shut r One || is_shut r Two)
 
 -- where a side may go; nowhere at an end
-abbrev pub ways : Arena → Side → List Direction
-ways r side = if is_over r then [] else directions_of r side
+abbrev pub ways_of : Arena → Side → List Direction
+ways_of r side = if is_over r then [] else directions_of r side
 
 -- the cell that a side enters by its move of this number
 abbrev pub entered : Arena → Side → ℕ → ℕ
-entered r side move = neighbour r.width (head_of side r) (slice_index_or (ways r side) move North)
+entered r side move = neighbour r.width (head_of side r) (slice_index_or (ways_of r side) move North)
 
 -- the cases of an end, in their order
-abbrev pub payoff_of : Arena → ℤ
-payoff_of r =
+abbrev pub tron_payoff : Arena → ℤ
+tron_payoff r =
     if r.one == r.two then pos 0 else
     if is_shut r One && is_shut r Two then pos 0 else
     if is_shut r One then neg_ℤ (pos 1) else
@@ -76,12 +76,12 @@ payoff_of r =
 abbrev pub free_cells : Arena → ℕ
 free_cells r = count_below (r.height * r.width) (λ cell. if r.taken cell then 0 else 1)
 
-abbrev pub rank_of : Arena → ℕ
-rank_of r = if is_over r then 0 else (free_cells r + 1) / 2
+abbrev pub tron_rank : Arena → ℕ
+tron_rank r = if is_over r then 0 else (free_cells r + 1) / 2
 
 -- the sum of 2 ^ cell over the taken cells, and the heads, in 36, 6 and 6 bits
-abbrev pub key_of : Arena → ℕ
-key_of r = (count_below 36 (λ cell. if r.taken cell then 2 ^ cell else 0) * 2 ^ 6 + r.one) * 2 ^ 6 + r.two
+abbrev pub tron_key : Arena → ℕ
+tron_key r = (count_below 36 (λ cell. if r.taken cell then 2 ^ cell else 0) * 2 ^ 6 + r.one) * 2 ^ 6 + r.two
 
 abbrev pub number_of : Direction → ℕ
 number_of North = 0
@@ -113,8 +113,8 @@ after_moves g t one two = with_heads t (entered (arena_of_trails g t) One one) (
 abbrev pub arena_of : Setting → State → Arena
 arena_of g s = record { height = g.height; width = g.width; taken = is_taken s.taken; one = s.one; two = s.two }
 
-abbrev pub first_state : Setting → State
-first_state g = record { taken = g.taken; one = g.one; two = g.two }
+abbrev pub tron_root : Setting → State
+tron_root g = record { taken = g.taken; one = g.one; two = g.two }
 
 -- both heads move, and their bits are set too
 abbrev pub moved : State → ℕ → ℕ → State
@@ -122,15 +122,15 @@ moved s one two = record { taken = with_cell (with_cell s.taken one) two; one = 
 
 abbrev pub tron_game : Setting → GameModel State
 tron_game g = record {
-  root = first_state g;
-  moves = λ side s. length (ways (arena_of g s) side);
+  root = tron_root g;
+  moves = λ side s. length (ways_of (arena_of g s) side);
   draws = λ s one two. 1;
   chance = λ s one two draw. whole_chance;
   drawn = λ s one two draw. moved s (entered (arena_of g s) One one) (entered (arena_of g s) Two two);
-  payoff = λ s. payoff_of (arena_of g s);
-  rank = λ s. rank_of (arena_of g s);
-  key = λ s. key_of (arena_of g s);
-  label = λ side s i. number_of (slice_index_or (ways (arena_of g s) side) i North);
+  payoff = λ s. tron_payoff (arena_of g s);
+  rank = λ s. tron_rank (arena_of g s);
+  key = λ s. tron_key (arena_of g s);
+  label = λ side s i. number_of (slice_index_or (ways_of (arena_of g s) side) i North);
   low = neg_ℤ (pos 1);
   high = pos 1;
   width = 4;
@@ -149,14 +149,19 @@ pub record KeepsRules (g : Setting) : Type 0 where
   pub root : (walls : List ℕ) (one two : ℕ) → IsSettingOf g.height g.width walls one two g → StandsFor (tron_game g).root (first_trails walls one two)
   pub follows : (s : State) (turn : Turn) (t : Trails) → StandsFor s t
       → StandsFor (after_turn (tron_game g) s turn) (after_moves g t turn.one turn.two)
-  pub moves : (side : Side) (s : State) (t : Trails) → StandsFor s t → (tron_game g).moves side s ≡ length (ways (arena_of_trails g t) side)
-  pub label : (side : Side) (s : State) (t : Trails) (i : ℕ) → StandsFor s t → (tron_game g).label side s i ≡ number_of (slice_index_or (ways (arena_of_trails g t) side) i North)
+  -- each pair of moves has one draw, of the whole weight
+  pub draws : (s : State) (one two : ℕ) → (tron_game g).draws s one two ≡ 1
+  pub chance : (s : State) (one two draw : ℕ) → (tron_game g).chance s one two draw ≡ whole_chance
+  pub moves : (side : Side) (s : State) (t : Trails) → StandsFor s t → (tron_game g).moves side s ≡ length (ways_of (arena_of_trails g t) side)
+  pub label : (side : Side) (s : State) (t : Trails) (i : ℕ) → StandsFor s t → (tron_game g).label side s i ≡ number_of (slice_index_or (ways_of (arena_of_trails g t) side) i North)
   pub ends : (s : State) (t : Trails) → Reachable (tron_game g) s → StandsFor s t → IsEnd (tron_game g) s ↔ (is_over (arena_of_trails g t) ≡ true)
-  pub payoff : (s : State) (t : Trails) → StandsFor s t → (tron_game g).payoff s ≡ payoff_of (arena_of_trails g t)
-  pub rank : (s : State) (t : Trails) → StandsFor s t → (tron_game g).rank s ≡ rank_of (arena_of_trails g t)
+  pub payoff : (s : State) (t : Trails) → StandsFor s t → (tron_game g).payoff s ≡ tron_payoff (arena_of_trails g t)
+  pub rank : (s : State) (t : Trails) → StandsFor s t → (tron_game g).rank s ≡ tron_rank (arena_of_trails g t)
+  pub key : (s : State) (t : Trails) → StandsFor s t → (tron_game g).key s ≡ tron_key (arena_of_trails g t)
   pub low : (tron_game g).low ≡ neg_ℤ (pos 1)
   pub high : (tron_game g).high ≡ pos 1
   pub width : (tron_game g).width ≡ 4
+  pub chance_free : (tron_game g).chance_free ≡ true
   -- each reachable state stands for some trails
   pub stands : (walls : List ℕ) (one two : ℕ) → IsSettingOf g.height g.width walls one two g → (s : State) → Reachable (tron_game g) s → (t : Trails) × StandsFor s t
   -- states with equal keys stand for the same trails

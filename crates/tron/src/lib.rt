@@ -6,7 +6,7 @@ ghost use Rattle.tron.specs.declared.Direction.TheVariants.{North};
 ghost use Rattle.sim_game.specs.Model.{Reachable};
 ghost use Rattle.tron.specs.Laws.{tron_is_game};
 ghost use Rattle.tron.specs.Position.{first_fault, IsPosition, IsSettingOf};
-ghost use Rattle.tron.specs.Rules.{arena_of, directions_of, entered, goes_on, head_of, is_open, is_over, neighbour, number_of, tron_game, ways, KeepsRules};
+ghost use Rattle.tron.specs.Rules.{arena_of, directions_of, entered, goes_on, head_of, is_open, is_over, neighbour, number_of, tron_game, ways_of, KeepsRules};
 
 mod position;
 mod refusals;
@@ -214,9 +214,9 @@ impl Tron {
 
     /// The cell that a side enters by its move of this number.
     #[inline]
-    fn entered(&self, side: Side, s: State, i: u32) -> u8
+    fn target_cell(&self, side: Side, s: State, i: u32) -> u8
         requires sound { Reachable (tron_game self.now.setting) s }
-        requires place { i < length (ways (arena_of self.now.setting s) side) }
+        requires place { i < length (ways_of (arena_of self.now.setting s) side) }
         ensures is { result ≡ entered (arena_of self.now.setting s) side i }
         ensures small { result < 36 }
     {
@@ -248,8 +248,8 @@ impl Game for Tron {
 
     #[inline]
     fn next(&self, s: State, a: u32, b: u32) -> State {
-        let one = self.entered(Side::One, s, a);
-        let two = self.entered(Side::Two, s, b);
+        let one = self.target_cell(Side::One, s, a);
+        let two = self.target_cell(Side::Two, s, b);
         State {
             taken: with_cell(with_cell(s.taken, one), two),
             one,

@@ -24,8 +24,8 @@ number First = 1
 number Second = 2
 number Third = 3
 
-abbrev pub after_draw : ℕ → Place
-after_draw draw = if nat_eq draw 0 then First else if nat_eq draw 1 then Second else Third
+abbrev pub place_after : ℕ → Place
+place_after draw = if nat_eq draw 0 then First else if nat_eq draw 1 then Second else Third
 
 abbrev pub one_in_three : GameModel Place
 one_in_three = record {
@@ -33,7 +33,7 @@ one_in_three = record {
   moves = λ side s. left s;
   draws = λ s one two. 3;
   chance = λ s one two draw. 120120;
-  drawn = λ s one two draw. after_draw draw;
+  drawn = λ s one two draw. place_after draw;
   payoff = pays;
   rank = left;
   key = number;
@@ -51,7 +51,7 @@ few_left First = omega arith
 few_left Second = omega arith
 few_left Third = omega arith
 
-none_left : (draw : ℕ) → left (after_draw draw) ≡ 0
+none_left : (draw : ℕ) → left (place_after draw) ≡ 0
 none_left draw = elim (nat_eq draw 0) as (λ b. left (if b then First else if nat_eq draw 1 then Second else Third) ≡ 0) [
   | true ↦ refl
   | false ↦ elim (nat_eq draw 1) as (λ b. left (if b then Second else Third) ≡ 0) [

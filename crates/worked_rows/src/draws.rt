@@ -1,7 +1,7 @@
 use crate::chance::OneInThree;
 use crate::steps::{bound_state, search_root, step_root};
 use bounds_board::PlainBoard;
-use matrix_game::{StageMemory, Turns};
+use matrix_game::{SolverKind, StageSolver, Turns};
 use oracle_search::SearchEnd;
 use restricted_game::{ChildRows, Restricted, StepEnd};
 use serial_ab::SerialEnd;
@@ -31,7 +31,7 @@ fn a_step_rounds_for_each_side(rt: HostRuntime) -> Result<(), Fail> {
         &mut children,
         &mut board,
         &mut Turns::new(1),
-        &mut StageMemory::new(1),
+        &mut StageSolver::new(SolverKind::Regret { kept: 1 }),
     );
     let want = StepEnd::Done {
         lower: 333333,

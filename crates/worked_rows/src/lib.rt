@@ -12,6 +12,8 @@ mod draws;
 #[cfg(test)]
 mod games;
 #[cfg(test)]
+mod matrices;
+#[cfg(test)]
 mod passes;
 #[cfg(test)]
 mod played;

@@ -7,9 +7,9 @@ ghost use Rattle.restricted_game.specs.Children.{AreChildRows};
 
 use crate::games::{four_cards, two_cards};
 use bounds_board::{BoardFault, Bounds, PlainBoard};
-use matrix_game::{StageMemory, Turns};
+use matrix_game::{SolverKind, StageSolver, Turns};
 use oracle_search::{MemoryLimits, OpenGate, SearchEnd, Setup, Worker, search};
-use restricted_game::{ChildRows, Restricted, StepEnd, StepFault};
+use restricted_game::{ChildRows, Node, Restricted, StepEnd, StepFault};
 use serial_ab::{SerialEnd, Visits, serial};
 use sim_game::{Game, NoMemory, Side, opening_bound};
 use std::alloc::Global;
@@ -81,7 +81,7 @@ pub(crate) fn step_root<G: Game, B: Bounds<G>>(
     children: &mut ChildRows,
     board: &mut B,
     turns: &mut Turns,
-    memory: &mut StageMemory,
+    solver: &mut StageSolver,
 ) -> Result<StepEnd, StepFault>
     requires game { (B.view board.old).game ≡ g }
     requires children { AreChildRows (G.model g) (B.view board.old) (G.model g).root children.old }
@@ -95,7 +95,10 @@ pub(crate) fn step_root<G: Game, B: Bounds<G>>(
 {
     let root = g.root();
     match board.claim(g.key(root)) {
-        Ok(row) => held.step(g, root, row, children, board, turns, memory),
+        Ok(row) => {
+            let node = Node { state: root, row };
+            held.step(g, node, children, board, turns, solver)
+        }
         Err(_) => Err(StepFault::Full),
     }
 }
@@ -119,7 +122,7 @@ pub(crate) fn search_root<G: Game, B: Bounds<G>>(
     };
     let limits = MemoryLimits {
         searches: 1000,
-        stages: 1000,
+        stages: SolverKind::Regret { kept: 1000 },
     };
     let mut worker = Worker::new(alloc, Turns::new(turns), Visits::new(visits), limits);
     match search(&setup, g.root(), 0, &mut worker, board) {
@@ -165,14 +168,14 @@ fn third_step(
     let mut turns = Turns::new(limit);
     let mut held = Restricted::new(alloc, 2, 2, (0, 0))?;
     let mut children = ChildRows::new(alloc, g, root)?;
-    let mut memory = StageMemory::new(10);
+    let mut solver = StageSolver::new(SolverKind::Regret { kept: 10 });
     let first = step_root(
         g,
         &mut held,
         &mut children,
         &mut board,
         &mut turns,
-        &mut memory,
+        &mut solver,
     );
     let a_row = StepEnd::Grown {
         row: Some(1),
@@ -185,7 +188,7 @@ fn third_step(
         &mut children,
         &mut board,
         &mut turns,
-        &mut memory,
+        &mut solver,
     );
     let a_column = StepEnd::Grown {
         row: None,
@@ -198,7 +201,7 @@ fn third_step(
         &mut children,
         &mut board,
         &mut turns,
-        &mut memory,
+        &mut solver,
     );
     let found = root_bounds(rt, g, &mut board);
     Ok((third, found, held))

@@ -1,5 +1,5 @@
 //! Serial searches with a table of what was searched before.
-ghost use Rattle.std.specs.Prelude.{◌≡◌, ◌≤◌, ◌<ℤ◌};
+ghost use Rattle.std.specs.Prelude.{◌≡◌, ◌≤◌, ◌<ℤ◌, [], min};
 ghost use Rattle.sim_game.specs.declared.Side.{Side};
 ghost use Rattle.sim_game.specs.Sides.{opening_bound};
 ghost use Rattle.bounds_board.specs.Views.{IsLater};
@@ -7,38 +7,44 @@ ghost use Rattle.serial_ab.specs.Transpositions.{AreRemembered};
 
 use crate::games::cards_to_four;
 use bounds_board::{BoardFault, Bounds, PlainBoard};
-use serial_ab::{SerialEnd, TranspositionTable, Visits, serial_with};
+use serial_ab::{SerialEnd, SerialWorker, TranspositionTable, Visits, serial_with};
 use sim_game::{Game, Side, opening_bound};
 use std::alloc::Global;
 use std::test::Fail;
 
 // Searches the root for a side over the whole range, with so many visits: how that ended, and the visits that it took.
 fn search_root<G: Game, B: Bounds<G>>(
-    alloc: Global,
     g: G,
     side: Side,
     limit: u64,
-    table: &mut TranspositionTable,
+    worker: &mut SerialWorker,
     board: &mut B,
 ) -> Result<(SerialEnd, u64), BoardFault>
     requires game { (B.view board.old).game ≡ g }
     requires goes_on { 1 ≤ (G.model g).rank (G.model g).root }
     requires wide { opening_bound (G.model g) Side.One <ℤ opening_bound (G.model g) Side.Two }
-    requires remembered { AreRemembered (G.model g) (B.view board.old) table.old }
+    requires remembered { AreRemembered (G.model g) (B.view board.old) worker.old.table }
     ensures later { IsLater (B.view board.old) (B.view board.new) }
-    ensures remembered { AreRemembered (G.model g) (B.view board.new) table.new }
+    ensures remembered { AreRemembered (G.model g) (B.view board.new) worker.new.table }
 {
     let root = g.root();
     let window = (opening_bound(g, Side::One), opening_bound(g, Side::Two));
-    let mut visits = Visits::new(limit);
+    worker.visits = Visits::new(limit);
     let row = match board.claim(g.key(root)) {
         Ok(row) => row,
         Err(_) => return Err(BoardFault::Full),
     };
-    match serial_with(alloc, g, root, row, side, window, &mut visits, table, board) {
-        Ok(end) => Ok((end, visits.spent(side))),
+    match serial_with(g, root, row, side, window, worker, board) {
+        Ok(end) => Ok((end, worker.visits.spent(side))),
         Err(fault) => Err(fault),
     }
+}
+
+// A worker whose table may hold so many searches.
+fn worker_with(alloc: Global, limit: usize) -> SerialWorker
+    ensures { result.table ≡ record { limit = min limit 262144; stored = [] } }
+{
+    SerialWorker::new(alloc, Visits::new(0), TranspositionTable::new(alloc, limit))
 }
 
 #[test]
@@ -48,19 +54,19 @@ fn a_table_tells_what_was_searched(rt: HostRuntime) -> Result<(), Fail> {
     assert!(rt; g.rank(g.root()) >= 1);
     assert!(rt; opening_bound(g, Side::One) < opening_bound(g, Side::Two));
     let mut board = PlainBoard::new(alloc, g, 1024, 8192)?;
-    let mut table = TranspositionTable::new(alloc, 1000);
-    let (first, spent) = search_root(alloc, g, Side::One, 100000, &mut table, &mut board)?;
-    let kept = table.len();
+    let mut worker = worker_with(alloc, 1000);
+    let (first, spent) = search_root(g, Side::One, 100000, &mut worker, &mut board)?;
+    let kept = worker.table.len();
     assert!(rt;
         kept >= 2,
         "{kept} searches of states of three turns and more"
     );
-    let again = search_root(alloc, g, Side::One, spent, &mut table, &mut board)?;
+    let again = search_root(g, Side::One, spent, &mut worker, &mut board)?;
     assert_eq!(rt; again, (first, spent));
     let few = spent.saturating_sub(1);
-    let cut = search_root(alloc, g, Side::One, few, &mut table, &mut board)?;
+    let cut = search_root(g, Side::One, few, &mut worker, &mut board)?;
     assert_eq!(rt; cut, (SerialEnd::Cut, few));
-    assert_eq!(rt; table.len(), kept);
+    assert_eq!(rt; worker.table.len(), kept);
     Ok(())
 }
 
@@ -71,14 +77,14 @@ fn a_small_table_changes_no_answer(rt: HostRuntime) -> Result<(), Fail> {
     assert!(rt; g.rank(g.root()) >= 1);
     assert!(rt; opening_bound(g, Side::One) < opening_bound(g, Side::Two));
     let mut board = PlainBoard::new(alloc, g, 1024, 8192)?;
-    let mut table = TranspositionTable::new(alloc, 1000);
-    let want = search_root(alloc, g, Side::Two, 100000, &mut table, &mut board)?;
+    let mut worker = worker_with(alloc, 1000);
+    let want = search_root(g, Side::Two, 100000, &mut worker, &mut board)?;
     for limit in 0..2 {
         let mut board = PlainBoard::new(alloc, g, 1024, 8192)?;
-        let mut table = TranspositionTable::new(alloc, limit);
-        let found = search_root(alloc, g, Side::Two, 100000, &mut table, &mut board)?;
+        let mut worker = worker_with(alloc, limit);
+        let found = search_root(g, Side::Two, 100000, &mut worker, &mut board)?;
         assert_eq!(rt; found, want);
-        assert_eq!(rt; table.len(), limit);
+        assert_eq!(rt; worker.table.len(), limit);
     }
     Ok(())
 }

@@ -8,10 +8,10 @@ use std::thread::Threads;
 
 // One has the cards 1 and 3, Two 2 and 3, and both prizes count one.
 const POSITION: &str =
-    "{\"game\":\"goofspiel\",\"one\":[1,3],\"two\":[2,3],\"prizes\":[1,1],\"score\":0,\"pay\":\"margin\",\"gap\":1000,\"weight\":65536,\"turns\":1000,\"visits\":10000,\"rows\":1024,\"workers\":1}\n";
+    "{\"game\":\"goofspiel\",\"one\":[1,3],\"two\":[2,3],\"prizes\":[1,1],\"score\":0,\"pay\":\"margin\",\"gap\":0,\"weight\":65536,\"turns\":1000,\"visits\":1000,\"rows\":1024,\"workers\":1}\n";
 
 const REPORT: &str =
-    "dosolve report 1\ngame goofspiel 1,3 2,3 1,1 0 margin\nweight 65536\nturns 1000\nasked 1000\nresolution 62502\noutcome closed\nlower -500000\nupper -500000\nspent 3\none 5\n67127548 -1000000 65536\n67143933 0 65536\n268454139 0 65536\n268470523 -1000000 65536\n335595772 -500000 32768 32768\ntwo 5\n67127548 -1000000 65536\n67143933 0 65536\n268454139 0 65536\n268470523 -1000000 65536\n335595772 -500000 32768 32768\nend\n";
+    "dosolve report 1\ngame goofspiel 1,3 2,3 1,1 0 margin\nweight 65536\nturns 1000\nasked 0\nresolution 62502\noutcome closed\nlower -500000\nupper -500000\nspent 3\none 5\n67127548 -1000000 65536\n67143933 0 65536\n268454139 0 65536\n268470523 -1000000 65536\n335595772 -500000 32768 32768\ntwo 5\n67127548 -1000000 65536\n67143933 0 65536\n268454139 0 65536\n268470523 -1000000 65536\n335595772 -500000 32768 32768\nend\n";
 
 const VERDICT: &str = "accepted -500000 -500000 closed\n";
 
@@ -45,7 +45,7 @@ fn compare<'a, R: Threads + Abort + Sync>(
     }
     let input = case.input.as_bytes().to_vec(alloc)?;
     let mut source = MemorySource::new(input, failing.0.to_vec(alloc)?);
-    let room = Vec::with_capacity(alloc, 400)?;
+    let room = Vec::with_capacity(alloc, 397)?;
     let mut sink = MemorySink::new(room, CHUNK, failing.1.to_vec(alloc)?);
     let status = run(rt, alloc, &words, &mut source, &mut sink, &OpenGate);
     assert_eq!(rt; status, want.0, "{}", case.text);

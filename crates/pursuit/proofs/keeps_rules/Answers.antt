@@ -1,7 +1,7 @@
 use Rattle.std.proofs.Common.{◌≡◌, ◌⊎◌, ◌↔◌, ℕ, Bool, true, false, cond, length, get_or, refl, ap, inl, inr, ◌∙◌}
 use Rattle.sim_game.specs.declared.Side.TheVariants.{One, Two}
 use Rattle.pursuit.specs.Laws.{pursuit_is_game}
-use Rattle.pursuit.specs.Rules.{Graph, after_moves, first_of, width_of, ways}
+use Rattle.pursuit.specs.Rules.{Graph, after_round, first_of, width_of, ways}
 use Rattle.pursuit.proofs.PositionLemmas.{same_graph}
 use Rattle.pursuit.proofs.keeps_rules.Goals as goal
 
@@ -23,13 +23,17 @@ returns c =
         root = ap (λ (node : ℕ). first_of node g.two g.rounds) is.one_is ∙ ap (λ (node : ℕ). first_of one node g.rounds) is.two_is ∙ ap (first_of one two) is.rounds_is;
         moves = λ side s. ap (λ (r : Graph). length (ways r side s)) e;
         label = λ side s i. ap (λ (r : Graph). get_or (ways r side s) i 0) e;
-        follows = λ s t. ap (λ (r : Graph). after_moves s (get_or (ways r One s) t.one 0) (get_or (ways r Two s) t.two 0)) e;
+        follows = λ s t. ap (λ (r : Graph). after_round s (get_or (ways r One s) t.one 0) (get_or (ways r Two s) t.two 0)) e;
         width = ap width_of e;
       };
+      draws = λ s one two. refl;
+      chance = λ s one two draw. refl;
       ends = λ s. rank_ends s.caught s.rounds;
       payoff = λ s. refl;
       rank = λ s. refl;
+      key = λ s. refl;
       low = refl;
       high = refl;
+      chance_free = refl;
       same_state = (pursuit_is_game g c.args._game.now.valid).same_key;
     }

@@ -7,10 +7,25 @@ pub returns-then-not-is_ascii_digit : goal.returns-then-not-is_ascii_digit
 returns-then-not-is_ascii_digit c = λ h. omega (arith, c.if-not-is_ascii_digit.ensures.cases, digit_at c.args.text.now c.loop-b.b-index h.0 c.loop-b-test.true)
 
 pub returns-in_err-checked_mul : goal.returns-in_err-checked_mul
-returns-in_err-checked_mul c = rw c.from_residual.ensures (λ h. omega (arith, c.in_err-checked_mul.ensures, digits_value-ge c.args.text.now c.loop-b.b-index c.loop-b.n c.loop-b-test.true c.loop-b.invariant.1 c.if-not-is_ascii_digit.ensures.cases))
+returns-in_err-checked_mul c =
+    rw c.from_residual.ensures
+    (λ h. omega (
+      arith,
+      c.in_err-checked_mul.ensures,
+      digits_value-ge c.args.text.now c.loop-b.b-index c.loop-b.n c.loop-b-test.true
+          c.loop-b.invariant.1 c.if-not-is_ascii_digit.ensures.cases,
+    ))
 
 pub returns-in_err-n : goal.returns-in_err-n
-returns-in_err-n c = rw c.from_residual-in_err-n.ensures (λ h. omega (arith, c.in_err-n.ensures, c.from.ensures, digits_value-ge c.args.text.now c.loop-b.b-index c.loop-b.n c.loop-b-test.true c.loop-b.invariant.1 c.if-not-is_ascii_digit.ensures.cases))
+returns-in_err-n c =
+    rw c.from_residual-in_err-n.ensures
+    (λ h. omega (
+      arith,
+      c.in_err-n.ensures,
+      c.from.ensures,
+      digits_value-ge c.args.text.now c.loop-b.b-index c.loop-b.n c.loop-b-test.true
+          c.loop-b.invariant.1 c.if-not-is_ascii_digit.ensures.cases,
+    ))
 
 pub loop-b-preserved : goal.loop-b-preserved
 loop-b-preserved c = (

@@ -1,10 +1,12 @@
-use Rattle.std.proofs.Common.{◌∷◌, codes, OnOk, sym, subst}
-use Rattle.text.specs.Texts.{Adds, line_text}
-use Rattle.certificate.specs.declared.report.PositionText.{PositionText}
-use Rattle.certificate.specs.Positions.{position_fields}
+use Rattle.std.proofs.lemmas.Result.{on_ok_weaker}
+use Rattle.text.proofs.TextLemmas.{then, as_text}
+use Rattle.certificate.specs.Positions.{game_word, kind_of}
+use Rattle.certificate.proofs.PositionLaws.{line_written}
 use Rattle.certificate.proofs.positions.add_position.Goals as goal
 
-pub returns-in-GoofspielDrawn : goal.returns-in-GoofspielDrawn
-returns-in-GoofspielDrawn c =
-    subst (λ (p : PositionText). OnOk c.add_cards-in-GoofspielDrawn.result (Adds c.args.text.now c.add_cards-in-GoofspielDrawn.new.text (line_text (codes "game" ∷ position_fields p)))) (sym c.in-GoofspielDrawn.is)
-    (rw (← c.as_slice-in-GoofspielDrawn.ensures, ← c.as_slice-in-GoofspielDrawn-2.ensures, ← c.as_slice-in-GoofspielDrawn-3.ensures) c.add_cards-in-GoofspielDrawn.ensures)
+pub returns : goal.returns
+returns c =
+    let position = c.args.position.now in
+    let word = rw (c.word-2.ensures, c.game.ensures) at c.in_ok-word-2.ensures in
+    let line = line_written (game_word (kind_of position)) c.values.result position c.values.ensures in
+    on_ok_weaker c.word-4.result (λ added. as_text line (then c.in_ok-word.ensures (then word (then c.in_ok-add_values.ensures added)))) c.word-4.ensures

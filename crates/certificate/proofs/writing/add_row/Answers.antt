@@ -8,4 +8,5 @@ pub returns : goal.returns
 returns c =
     let rest = line_text-numbers decimal (signed_decimal c.args.row.now.bound) c.args.row.now.weights in
     let each = rw c.as_slice.ensures at c.in_ok-each.ensures in
-    on_ok_weaker c.word.result (λ added. as_text (ap (λ (t : List ℕ). decimal c.args.row.now.key ++ (32 ∷ t)) rest) (then c.in_ok-number.ensures (then c.in_ok-next.ensures (then each added)))) c.word.ensures
+    on_ok_weaker c.word.result
+    (λ added. as_text (ap (λ (t : List ℕ). decimal c.args.row.now.key ++ (32 ∷ t)) rest) (then c.in_ok-number.ensures (then c.in_ok-next.ensures (then each added)))) c.word.ensures

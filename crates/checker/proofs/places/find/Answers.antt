@@ -11,10 +11,12 @@ pub loop-low-preserved : goal.loop-low-preserved
 loop-low-preserved c = elim c.if-here-key.branch [
   | then-here-key w ↦
       rw (w.low-is, w.high-is)
-      (narrow_up c.args.rows.now c.requires.rising c.args.key c.loop-low.low c.loop-low.high _ c.index-rows-middle.result c.loop-low.invariant c.loop-low-test.true c.between-middle.ensures.high w.if-here-key.true)
+      (narrow_up c.args.rows.now c.requires.rising c.args.key c.loop-low.low c.loop-low.high _ c.index-rows-middle.result c.loop-low.invariant
+      c.loop-low-test.true c.between-middle.ensures.high w.if-here-key.true)
   | else-here-key+then-key-here w ↦
       rw (w.low-is, w.high-is)
-      (narrow_down c.args.rows.now c.requires.rising c.args.key c.loop-low.low c.loop-low.high _ c.index-rows-middle.result c.loop-low.invariant c.between-middle.ensures.low c.between-middle.ensures.high w.if-key-here.true)
+      (narrow_down c.args.rows.now c.requires.rising c.args.key c.loop-low.low c.loop-low.high _ c.index-rows-middle.result c.loop-low.invariant
+      c.between-middle.ensures.low c.between-middle.ensures.high w.if-key-here.true)
 ]
 
 pub returns-clause-found : goal.returns-clause-found

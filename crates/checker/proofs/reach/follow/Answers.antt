@@ -18,7 +18,8 @@ rank-requires g c =
 pub returns-then-rank-clause-followed : goal.returns-then-rank-clause-followed
 returns-then-rank-clause-followed g c =
     let at = state_read c.args.found.now.items c.args.place c.index.result.now (rw c.requires.states.one_each c.requires.within) c.index.ensures in
-    followed_one (g.G.Game.model c.args.g) c.args.sheet.now c.args.found.now.items c.args.found.now.items c.args.rank c.args.place c.in-Some.s (at ∙ c.in-Some.is) (λ same. absurd (c.if-rank.true (c.rank.ensures ∙ same)))
+    followed_one (g.G.Game.model c.args.g) c.args.sheet.now c.args.found.now.items c.args.found.now.items c.args.rank c.args.place c.in-Some.s
+    (at ∙ c.in-Some.is) (λ same. absurd (c.if-rank.true (c.rank.ensures ∙ same)))
 
 pub children-requires : goal.children-requires
 children-requires g c =
@@ -32,10 +33,12 @@ mark-requires-clause-reached g c =
     let s = c.in-Some.s in
     let row = c.index-as_slice-place.result in
     let at = state_read c.args.found.now.items c.args.place c.index.result.now (rw c.requires.states.one_each c.requires.within) c.index.ensures ∙ c.in-Some.is in
-    let is = row_here sheet.rows c.requires.rising (m.key s) c.args.place row c.requires.within (rw c.as_slice.ensures at c.index-as_slice-place.is) (sym (c.requires.states.is_key c.args.place s at)) in
+    let is = row_here sheet.rows c.requires.rising (m.key s) c.args.place row c.requires.within (rw c.as_slice.ensures at c.index-as_slice-place.is)
+    (sym (c.requires.states.is_key c.args.place s at)) in
     let weights = weights_of c.as_slice.result.now c.args.place row c.as_slice-weights.result.now c.index-as_slice-place.is c.as_slice-weights.ensures in
     let items : c.as_slice-below.result.now ≡ children_of m sheet.side row.weights s = c.as_slice-below.ensures.value ∙ rw weights at c.in_ok-children.ensures in
-    child_reached m sheet (g.met.G.Game.lawful c.args.g) s row (c.requires.states.reached c.args.place s at) is c.as_slice-below.result.now items c.loop-number.number c.index-below-number.result c.loop-number-test.true c.index-below-number.is
+    child_reached m sheet (g.met.G.Game.lawful c.args.g) s row
+    (c.requires.states.reached c.args.place s at) is c.as_slice-below.result.now items c.loop-number.number c.index-below-number.result c.loop-number-test.true c.index-below-number.is
 
 pub loop-number-preserved : goal.loop-number-preserved
 loop-number-preserved g c =
@@ -46,7 +49,8 @@ loop-number-preserved g c =
     let inv = c.loop-number.invariant in
     record {
       later = later_then m sheet c.args.found.now.items now after inv.later c.mark.ensures.later;
-      done = done_more m sheet now after c.mark.ensures.later c.as_slice-below.result.now c.loop-number.number c.index-below-number.result c.loop-number-test.true c.index-below-number.is inv.done c.mark.ensures.marked;
+      done = done_more m sheet now after c.mark.ensures.later c.as_slice-below.result.now c.loop-number.number c.index-below-number.result
+          c.loop-number-test.true c.index-below-number.is inv.done c.mark.ensures.marked;
     }
 
 pub returns-clause-followed : goal.returns-clause-followed
@@ -56,7 +60,8 @@ returns-clause-followed g c =
     let s = c.in-Some.s in
     let row = c.index-as_slice-place.result in
     let at = state_read c.args.found.now.items c.args.place c.index.result.now (rw c.requires.states.one_each c.requires.within) c.index.ensures ∙ c.in-Some.is in
-    let is = row_here sheet.rows c.requires.rising (m.key s) c.args.place row c.requires.within (rw c.as_slice.ensures at c.index-as_slice-place.is) (sym (c.requires.states.is_key c.args.place s at)) in
+    let is = row_here sheet.rows c.requires.rising (m.key s) c.args.place row c.requires.within (rw c.as_slice.ensures at c.index-as_slice-place.is)
+    (sym (c.requires.states.is_key c.args.place s at)) in
     let weights = weights_of c.as_slice.result.now c.args.place row c.as_slice-weights.result.now c.index-as_slice-place.is c.as_slice-weights.ensures in
     let items : c.as_slice-below.result.now ≡ children_of m sheet.side row.weights s = c.as_slice-below.ensures.value ∙ rw weights at c.in_ok-children.ensures in
     let followed = all_followed m sheet (g.met.G.Game.lawful c.args.g) s row (c.requires.states.reached c.args.place s at) is c.as_slice-below.result.now items c.loop-number.found.items

@@ -15,5 +15,6 @@ loop-place-preserved g c =
 
 pub returns : goal.returns
 returns g c =
-    rank_walked (g.G.Game.model c.args.g) c.args.sheet.now (g.met.G.Game.lawful c.args.g) c.args.rank c.loop-place.place c.args.found.now.items c.loop-place.found.items c.requires.walked c.loop-place.invariant.later
+    rank_walked (g.G.Game.model c.args.g) c.args.sheet.now
+    (g.met.G.Game.lawful c.args.g) c.args.rank c.loop-place.place c.args.found.now.items c.loop-place.found.items c.requires.walked c.loop-place.invariant.later
     (rw c.len-place-end.ensures at c.loop-place-test.false) c.loop-place.invariant.here

@@ -9,12 +9,14 @@ row_fault-requires-clause-reached g c =
 
 pub returns-in-Some : goal.returns-in-Some
 returns-in-Some g c =
-    first_here (g.G.Game.model c.args.g) c.args.sheet.now c.loop-place.place c.index-rows-place.result c.in-Some.why (rw c.as_slice-rows.ensures at c.loop-place-test.true) (rw c.as_slice-rows.ensures at c.index-rows-place.is)
+    first_here (g.G.Game.model c.args.g) c.args.sheet.now c.loop-place.place c.index-rows-place.result c.in-Some.why
+    (rw c.as_slice-rows.ensures at c.loop-place-test.true) (rw c.as_slice-rows.ensures at c.index-rows-place.is)
     c.loop-place.invariant c.in-Some.ensures
 
 pub loop-place-preserved : goal.loop-place-preserved
 loop-place-preserved g c =
-    rows_more (g.G.Game.model c.args.g) c.args.sheet.now c.loop-place.place c.index-rows-place.result (rw c.as_slice-rows.ensures at c.loop-place-test.true) (rw c.as_slice-rows.ensures at c.index-rows-place.is) c.loop-place.invariant
+    rows_more (g.G.Game.model c.args.g) c.args.sheet.now c.loop-place.place c.index-rows-place.result
+    (rw c.as_slice-rows.ensures at c.loop-place-test.true) (rw c.as_slice-rows.ensures at c.index-rows-place.is) c.loop-place.invariant
     c.in_default.ensures
 
 pub returns : goal.returns

@@ -10,7 +10,8 @@ loop-own-preserved g c =
     let fits : SFits w64 c.cell.result = omega (arith, ints) in
     let part = rw (to_z-of_z w64 c.cell.result fits, c.cell.ensures.value) at c.weighted-sum.ensures.value in
     record {
-      so_far = one_more c.loop-own.own (λ own. pos (slice_index c.args.weights.now own) *ℤ cell_of m c.args.sheet.now c.args.s own c.args.reply) _ _ _ c.loop-own.invariant.so_far part (omega (arith, ints));
+      so_far = one_more c.loop-own.own
+          (λ own. pos (slice_index c.args.weights.now own) *ℤ cell_of m c.args.sheet.now c.args.s own c.args.reply) _ _ _ c.loop-own.invariant.so_far part (omega (arith, ints));
       small = omega (arith, ints);
       few = c.loop-own.invariant.few;
     }

@@ -10,4 +10,6 @@ returns-in-Ok-accept c =
     (IsBounded.searched (record { text = task.text; ask = task.ask }) end c.in-Ok.ensures.exact (task.game, c.in-Ok.ensures.game, c.in-Ok-accept.ensures)) c.told.ensures
 
 pub returns : goal.returns
-returns c = answers_where (IsBounded c.args.bytes.now) _ 2 (input_text c.in-Err.error) c.refused.result (λ memory. IsBounded.refused c.in-Err.error (fails_unless _ c.in-Err.error c.in-Err.ensures.exact memory)) c.refused.ensures
+returns c =
+    answers_where (IsBounded c.args.bytes.now) _ 2 (input_text c.in-Err.error) c.refused.result
+    (λ memory. IsBounded.refused c.in-Err.error (fails_unless _ c.in-Err.error c.in-Err.ensures.exact memory)) c.refused.ensures

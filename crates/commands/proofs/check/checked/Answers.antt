@@ -20,4 +20,6 @@ returns-in-Ok-Refused c =
     (λ _. IsChecked.refused r w c.in-Ok.ensures.0 (game, c.in-Ok.ensures.2, subst (IsVerdict (model_of game) r) c.in-Ok-Refused.field-0-is c.in-Ok-Refused.ensures)) c.faulty.ensures
 
 pub returns : goal.returns
-returns c = answers_where (IsChecked c.args.bytes.now) _ 9 (fault_text c.in-Err.fault) c.faulty-in-Err.result (λ memory. IsChecked.unread c.in-Err.fault (c.in-Err.ensures memory)) c.faulty-in-Err.ensures
+returns c =
+    answers_where (IsChecked c.args.bytes.now) _ 9 (fault_text c.in-Err.fault) c.faulty-in-Err.result
+    (λ memory. IsChecked.unread c.in-Err.fault (c.in-Err.ensures memory)) c.faulty-in-Err.ensures

@@ -5,7 +5,10 @@ use Rattle.commands.proofs.play.played.Goals as goal
 
 pub returns-in-Ok-accept : goal.returns-in-Ok-accept
 returns-in-Ok-accept c =
-    rw (c.written.ensures.status, c.written.ensures.text) (IsPlayedMatch.played c.in-Ok.field-0.report c.in-Ok-accept.text c.in-Ok.ensures.0 (c.in-Ok.field-0.game, c.in-Ok.ensures.2, c.in-Ok-accept.ensures))
+    rw (c.written.ensures.status, c.written.ensures.text)
+    (IsPlayedMatch.played c.in-Ok.field-0.report c.in-Ok-accept.text c.in-Ok.ensures.0 (c.in-Ok.field-0.game, c.in-Ok.ensures.2, c.in-Ok-accept.ensures))
 
 pub returns : goal.returns
-returns c = answers_where (IsPlayedMatch c.args.games c.args.seed c.args.bytes.now) _ 9 (fault_text c.in-Err.fault) c.faulty.result (λ memory. IsPlayedMatch.unread c.in-Err.fault (c.in-Err.ensures memory)) c.faulty.ensures
+returns c =
+    answers_where (IsPlayedMatch c.args.games c.args.seed c.args.bytes.now) _ 9 (fault_text c.in-Err.fault) c.faulty.result
+    (λ memory. IsPlayedMatch.unread c.in-Err.fault (c.in-Err.ensures memory)) c.faulty.ensures

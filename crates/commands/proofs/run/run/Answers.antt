@@ -12,15 +12,18 @@ pub returns-in-Some-Sample : goal.returns-in-Some-Sample
 returns-in-Some-Sample g c =
     let number = c.in-Some-Sample.number in
     rw (sym c.command_of.ensures.is ∙ c.in-Some-Sample.is ∙ ap Some c.in-Some-Sample.field-0-is)
-    (run_of (Some (Sample number)) _ _ _ _ [] c.sampled.result c.respond-in-Some-Sample.result refl refl (λ a e. subst (λ f. IfOk f (λ a. IsAnswer (Some (Sample number)) [] a.status a.text)) e c.sampled.ensures) c.respond-in-Some-Sample.ensures)
+    (run_of (Some (Sample number)) _ _ _ _ [] c.sampled.result c.respond-in-Some-Sample.result refl refl
+    (λ a e. subst (λ f. IfOk f (λ a. IsAnswer (Some (Sample number)) [] a.status a.text)) e c.sampled.ensures) c.respond-in-Some-Sample.ensures)
 
 pub returns-in-Ok : goal.returns-in-Ok
 returns-in-Ok g c =
     let command = c.in-Some-Reading.command in
     let bytes = c.in-Ok.bytes.items in
     let within = rw c.limit_of.ensures at c.in-Ok.ensures.within in
+    let calm = c.in-Ok.ensures.calm (λ e. absurd (cc)) in
     rw (sym c.command_of.ensures.is ∙ c.in-Some-Reading.is ∙ ap Some c.in-Some-Reading.field-0-is)
-    (run_of (Some (Reading command)) _ _ _ _ bytes c.answer_to.result c.respond-in-Ok.result (record { taken = c.in-Ok.ensures.ok.0; whole = inl (within, c.in-Ok.ensures.ok.1) }) (bytes, c.in-Ok.ensures.ok.0, omega (arith, within))
+    (run_of (Some (Reading command)) _ _ _ _ bytes c.answer_to.result c.respond-in-Ok.result
+    (record { taken = c.in-Ok.ensures.ok.0; whole = inl (within, c.in-Ok.ensures.ok.1); calm = calm }) ((bytes, c.in-Ok.ensures.ok.0, omega (arith, within)), calm)
     (λ a e. subst (λ f. IfOk f (λ a. IsAnswer (Some (Reading command)) bytes a.status a.text)) e (rw c.deref.ensures.value at c.answer_to.ensures)) c.respond-in-Ok.ensures)
 
 pub returns-in-Err-TooLong : goal.returns-in-Err-TooLong
@@ -28,15 +31,20 @@ returns-in-Err-TooLong g c =
     let command = c.in-Some-Reading.command in
     let long = rw c.limit_of.ensures at (c.in-Err-TooLong.ensures.too_long (ap Err c.in-Err-TooLong.field-0-is)) in
     let bytes = long.0 in
+    let calm = c.in-Err-TooLong.ensures.calm (λ e. cc (e, c.in-Err-TooLong.field-0-is)) in
     rw (sym c.command_of.ensures.is ∙ c.in-Some-Reading.is ∙ ap Some c.in-Some-Reading.field-0-is)
-    (run_of (Some (Reading command)) _ _ _ _ bytes c.too_long.result c.respond-in-Err-TooLong.result (record { taken = long.1; whole = inr long.2 }) (bytes, long.1, omega (arith, long.2))
-    (λ a e. subst (λ f. IfOk f (λ a. (bytes : List ℕ) → length bytes ≡ limit_of command + 1 → IsAnswer (Some (Reading command)) bytes a.status a.text)) e c.too_long.ensures bytes long.2) c.respond-in-Err-TooLong.ensures)
+    (run_of (Some (Reading command)) _ _ _ _ bytes c.too_long.result c.respond-in-Err-TooLong.result
+    (record { taken = long.1; whole = inr long.2; calm = calm }) ((bytes, long.1, omega (arith, long.2)), calm)
+    (λ a e. subst (λ f. IfOk f (λ a. (bytes : List ℕ) → length bytes ≡ limit_of command + 1 → IsAnswer (Some (Reading command)) bytes a.status a.text)) e c.too_long.ensures bytes long.2)
+    c.respond-in-Err-TooLong.ensures)
 
 pub returns-in-Err-Failed : goal.returns-in-Err-Failed
 returns-in-Err-Failed g c =
-    IsRun.unread c.in-Some-Reading.command (sym c.command_of.ensures.is ∙ c.in-Some-Reading.is ∙ ap Some c.in-Some-Reading.field-0-is) (rw c.limit_of.ensures at (c.in-Err-Failed.ensures.others (λ e. cc (e, c.in-Err-Failed.field-0-is)))) (c.in-Err-Failed.ensures.failed (ap Err c.in-Err-Failed.field-0-is)) refl
+    IsRun.unread c.in-Some-Reading.command (sym c.command_of.ensures.is ∙ c.in-Some-Reading.is ∙ ap Some c.in-Some-Reading.field-0-is)
+    (rw c.limit_of.ensures at (c.in-Err-Failed.ensures.others (λ e. cc (e, c.in-Err-Failed.field-0-is)))) (c.in-Err-Failed.ensures.failed (ap Err c.in-Err-Failed.field-0-is)) refl
 
 pub returns-in-Err-NoMemory : goal.returns-in-Err-NoMemory
 returns-in-Err-NoMemory g c =
     let part = rw c.limit_of.ensures at (c.in-Err-NoMemory.ensures.others (λ e. cc (e, c.in-Err-NoMemory.field-0-is))) in
-    rw (sym c.command_of.ensures.is ∙ c.in-Some-Reading.is ∙ ap Some c.in-Some-Reading.field-0-is) (IsRun.no_memory (part.0, part.1, omega (arith, part.2)) refl)
+    rw (sym c.command_of.ensures.is ∙ c.in-Some-Reading.is ∙ ap Some c.in-Some-Reading.field-0-is)
+    (IsRun.no_memory ((part.0, part.1, omega (arith, part.2)), c.in-Err-NoMemory.ensures.calm (λ e. cc (e, c.in-Err-NoMemory.field-0-is))) refl)

@@ -20,5 +20,6 @@ returns g c =
     let game = c.sample_game.result.setting in
     let of_sample = c.sample_game.ensures in
     let solution = subst (λ text. IsSolution (goofspiel_game game) text sample_ask r) c.in_ok-position.ensures c.in_ok-solved.ensures.solution in
-    let whole = is_sample_solution (goofspiel_game game) n r (few_states n game c.sample_game.result.valid of_sample) (rank_is n game c.sample_game.result.valid of_sample) (size_is n game c.sample_game.result.valid of_sample) solution in
+    let whole = is_sample_solution (goofspiel_game game) n r (few_states n game c.sample_game.result.valid of_sample)
+    (rank_is n game c.sample_game.result.valid of_sample) (size_is n game c.sample_game.result.valid of_sample) solution in
     answers (IsSampled n) (status_of r.outcome) (sample_line n r) c.told.result (IsSampled.reported r (Goofspiel c.sample_game.result, (c.sample_game.result, refl, of_sample), whole)) c.told.ensures

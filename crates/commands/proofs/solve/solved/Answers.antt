@@ -11,4 +11,6 @@ returns-in-Ok-solve_any g c =
     (λ again. IsSolved.reported (record { text = task.text; ask = task.ask }) r c.in-Ok.ensures.exact (task.game, c.in-Ok.ensures.game, c.in-Ok-solve_any.ensures.solution) again) c.reported.ensures
 
 pub returns-in-Err : goal.returns-in-Err
-returns-in-Err g c = answers_where (IsSolved c.args.bytes.now) _ 2 (input_text c.in-Err.error) c.refused.result (λ memory. IsSolved.refused c.in-Err.error (fails_unless _ c.in-Err.error c.in-Err.ensures.exact memory)) c.refused.ensures
+returns-in-Err g c =
+    answers_where (IsSolved c.args.bytes.now) _ 2 (input_text c.in-Err.error) c.refused.result
+    (λ memory. IsSolved.refused c.in-Err.error (fails_unless _ c.in-Err.error c.in-Err.ensures.exact memory)) c.refused.ensures

@@ -1,7 +1,7 @@
 use Rattle.std.proofs.Common.{arith, ◌≡◌, ◌+◌, ◌*◌, ◌^◌, pos, ◌+ℤ◌, sym, ◌∙◌}
 use Rattle.std.proofs.lemmas.Int.{ints}
 use Rattle.std.specs.Int.RustNames.{unsigned_abs}
-use Rattle.goofspiel.specs.DealLaws.{key_is}
+use Rattle.goofspiel.specs.DealLaws.{hands_key_is}
 use Rattle.goofspiel.proofs.hands.hands_key.Goals as goal
 
 pub put-requires-clause-value_high : goal.put-requires-clause-value_high
@@ -23,4 +23,4 @@ pub returns-clause-is : goal.returns-clause-is
 returns-clause-is c =
     let e : c.put-2.result.0 ≡ (c.args.s.one * 2 ^ 13 + c.args.s.two) * 2 ^ 13 + unsigned_abs (c.args.s.score +ℤ pos 2300) =
     omega (arith, ints, c.put.ensures.value, c.put-hands.ensures.value, c.put-2.ensures.value, c.requires.score) in
-    e ∙ sym (key_is c.args.s c.requires)
+    e ∙ sym (hands_key_is c.args.s c.requires)

@@ -10,7 +10,8 @@ has-requires c = number_inside 1 13 c.args.hand.now c.loop-card.card-index c.req
 pub returns-then-has : goal.returns-then-has
 returns-then-has c =
     let inside = number_inside 1 13 c.args.hand.now c.loop-card.card-index c.requires (omega arith) in
-    ap (option_map (CardTwice c.args.side)) (gathered_repeat c.args.hand.now c.loop-card.card-index c.loop-card.packed (omega arith) inside.0 inside.1 (sym c.has.ensures ∙ c.if-has.true) c.loop-card.invariant)
+    ap (option_map (CardTwice c.args.side))
+    (gathered_repeat c.args.hand.now c.loop-card.card-index c.loop-card.packed (omega arith) inside.0 inside.1 (sym c.has.ensures ∙ c.if-has.true) c.loop-card.invariant)
 
 pub with_card-packed-requires : goal.with_card-packed-requires
 with_card-packed-requires c = number_inside 1 13 c.args.hand.now c.loop-card.card-index c.requires (omega arith)

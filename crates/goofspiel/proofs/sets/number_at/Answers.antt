@@ -13,4 +13,8 @@ pub returns : goal.returns
 returns c =
     let xs = members 13 c.args.low c.args.set in
     let there : c.loop.counter ≡ c.args.place = omega arith in
-    omega (arith, (next_number 16 13 c.args.low xs c.args.place c.loop.rest (omega arith) c.requires.place (subst (λ (count : ℕ). IsDropped 13 c.args.low xs count c.loop.rest) there c.loop.invariant)).1)
+    omega (
+      arith,
+      (next_number 16 13 c.args.low xs c.args.place c.loop.rest (omega arith) c.requires.place
+          (subst (λ (count : ℕ). IsDropped 13 c.args.low xs count c.loop.rest) there c.loop.invariant)).1,
+    )

@@ -2,7 +2,7 @@ use Rattle.std.proofs.Common.{rules, ap, ◌∙◌}
 use Rattle.std.proofs.lemmas.List.Elements.{All-push}
 use Rattle.shared_board.specs.Values.{PassValue}
 use Rattle.lazy_workers.specs.Workers.{IsJob}
-use Rattle.lazy_workers.proofs.JoinLemmas.{lead_drawn, ours_drawn, pass_drawn}
+use Rattle.lazy_workers.proofs.JoinLemmas.{lead_drawn, ours_drawn, job_drawn, pass_drawn}
 use Rattle.lazy_workers.proofs.jobs.split_all.Goals as goal
 
 pub loop-behind-preserved : goal.loop-behind-preserved
@@ -11,7 +11,8 @@ loop-behind-preserved g c =
     let did = c.in-Ok.ensures in
     let model = g.G.Game.model in
     let b = c.args.board.now in
-    let made = pass_drawn model b c.into_bare.result c.in-Ok.pass c.loop-behind.lead.view c.into_bare.ensures.same c.into_bare.ensures.sound did.ours did.view in (
+    let made = job_drawn model b c.into_bare.result c.in-Ok.pass c.into_bare.ensures.same did.entries
+    (pass_drawn model b c.into_bare.result c.in-Ok.pass c.loop-behind.lead.view c.into_bare.ensures.same c.into_bare.ensures.sound did.ours did.view) in (
       (ours_drawn b c.loop-behind.lead c.split.new.pass did.pass inv.0.0, lead_drawn c.loop-behind.lead c.split.new.pass c.loop-behind.behind did.pass inv.0.1),
       ap (λ (p : PassValue g.row.G.Denot). p.entries) did.pass ∙ inv.1,
       search rules,

@@ -4,4 +4,6 @@ use Rattle.lazy_workers.specs.Workers.{IsLead, IsJob}
 use Rattle.lazy_workers.proofs.jobs.split_all.Given as goal
 
 abbrev pub invariant-loop-behind : goal.invariant-loop-behind
-invariant-loop-behind g l = (IsPassOf l.board l.lead × IsLead l.lead.view (1 + l.behind) 1) × (l.lead.entries ≡ l.initial.lead.entries) × (length l.jobs.items ≡ l.behind) × All (IsJob g.G.Game.model l.board) l.jobs.items
+invariant-loop-behind g l =
+    (IsPassOf l.board l.lead × IsLead l.lead.view (1 + l.behind) 1) × (l.lead.entries ≡ l.initial.lead.entries) × (length l.jobs.items ≡ l.behind)
+    × All (IsJob g.G.Game.model l.board) l.jobs.items

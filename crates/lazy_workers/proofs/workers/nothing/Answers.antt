@@ -8,4 +8,5 @@ returns-clause-searched g c =
     let game = g.met.G.Game.lawful c.args.g in
     let inv = c.loop-worker.invariant in
     let count : length c.loop-worker.turns.items ≡ c.args.ask.now.workers = search rules in
-    rw (c.new-2.ensures.entries, c.from_vec.ensures, c.new-3.ensures.items, c.from_vec-2.ensures) (nothing_searched m game c.args.ask.now c.requires.end c.requires.ask.gap.0 c.loop-worker.turns.items count inv.1)
+    rw (c.new-2.ensures.entries, c.from_vec.ensures, c.new-3.ensures.items, c.from_vec-2.ensures)
+    (nothing_searched m game c.args.ask.now c.requires.end c.requires.ask.gap.0 c.loop-worker.turns.items count inv.1)

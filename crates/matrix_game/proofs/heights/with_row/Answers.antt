@@ -12,5 +12,6 @@ returns-clause-added c = λ k l.
 
 pub returns-clause-small : goal.returns-clause-small
 returns-clause-small c = λ k l.
-    let lane = lane-sums_of c.args.sums c.args.cells.now c.args.first c.from.result k c.requires.eight c.requires.first_in l (omega arith) (c.type_inv.cells (c.args.first + k)) (c.requires.room k l) in
+    let lane = lane-sums_of c.args.sums c.args.cells.now c.args.first c.from.result k c.requires.eight c.requires.first_in l (omega arith)
+    (c.type_inv.cells (c.args.first + k)) (c.requires.room k l) in
     omega (arith, lane.0, lane.1, c.from.ensures)

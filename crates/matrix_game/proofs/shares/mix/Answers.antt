@@ -15,7 +15,8 @@ loop-row-preserved g c =
     let q : List ℕ = map g.R.Regret.number c.args.regrets.now in
     let each : length q ≡ length c.args.regrets.now = length-map c.args.regrets.now g.R.Regret.number in
     let all : c.max-divisor.result ≡ max (sum q) 1 = omega arith in
-    shared_more c.args.weight c.max-divisor.result c.loop-row.row q c.loop-row.p c.loop-row.left c.share-share.result all (omega arith) (omega arith) (omega arith) c.share-share.ensures c.loop-row.invariant
+    shared_more c.args.weight c.max-divisor.result c.loop-row.row q c.loop-row.p c.loop-row.left c.share-share.result all (omega arith) (omega arith)
+    (omega arith) c.share-share.ensures c.loop-row.invariant
 
 pub returns : goal.returns
 returns g c =
@@ -23,4 +24,5 @@ returns g c =
     let each : length q ≡ length c.args.regrets.now = length-map c.args.regrets.now g.R.Regret.number in
     let all : c.max-divisor.result ≡ max (sum q) 1 = omega arith in
     let end : c.loop-row.row ≡ length q = omega arith in
-    shared_all c.args.weight c.max-divisor.result q c.loop-row.p c.loop-row.left all (omega arith) (omega arith) (subst (λ (n : ℕ). IsShared c.args.weight c.max-divisor.result n q c.loop-row.p c.loop-row.left) end c.loop-row.invariant)
+    shared_all c.args.weight c.max-divisor.result q c.loop-row.p c.loop-row.left all (omega arith) (omega arith)
+    (subst (λ (n : ℕ). IsShared c.args.weight c.max-divisor.result n q c.loop-row.p c.loop-row.left) end c.loop-row.invariant)

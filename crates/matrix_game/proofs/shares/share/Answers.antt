@@ -57,4 +57,8 @@ pub wide_quotient-requires-clause-fits : goal.wide_quotient-requires-clause-fits
 wide_quotient-requires-clause-fits g c =
     let part = number-le g.R.Regret.number c.args.regrets.now c.args.row c.index-regrets-row.result c.requires.row_in c.index-regrets-row.is in
     let within : g.R.Regret.number c.index-regrets-row.result ≤ c.args.all = omega (arith, part) in
-    omega (arith, share-le c.from-else-from-all.result c.wide-else-from-all.result c.args.weight (g.R.Regret.number c.index-regrets-row.result) c.args.all c.from-else-from-all.ensures c.wide-else-from-all.ensures within)
+    omega (
+      arith,
+      share-le c.from-else-from-all.result c.wide-else-from-all.result c.args.weight
+          (g.R.Regret.number c.index-regrets-row.result) c.args.all c.from-else-from-all.ensures c.wide-else-from-all.ensures within,
+    )

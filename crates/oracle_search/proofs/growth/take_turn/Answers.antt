@@ -1,22 +1,66 @@
-use Rattle.std.proofs.Common.{inl, refl, sym, subst}
+use Rattle.std.proofs.Common.{◌≡◌, ◌↔◌, Bool, inl, refl, sym, ap, subst}
 use Rattle.sim_game.specs.Model.{LeadsTo}
+use Rattle.matrix_game.specs.declared.solver.StageSolver.{StageSolver}
+use Rattle.matrix_game.specs.declared.solver.StageSolver.TheVariants as solvers
+use Rattle.matrix_game.specs.Solvers.{UsesRegret}
 use Rattle.bounds_board.proofs.FullLemmas.{full_weaker}
 use Rattle.restricted_game.proofs.ReadLemmas.{read_child_leads}
-use Rattle.oracle_search.specs.Workers.{WorkerView, at_work}
+use Rattle.oracle_search.specs.Workers.{WorkerView, is_linear, at_work}
 use Rattle.oracle_search.specs.Searches.{HasKept, IsWorked}
 use Rattle.oracle_search.proofs.GrowLemmas.{worked_turn}
 use Rattle.oracle_search.proofs.growth.take_turn.Goals as goal
+
+same_kind : (a b : StageSolver) → UsesRegret a ↔ UsesRegret b → is_linear a ≡ is_linear b
+same_kind (solvers.Regret x) (solvers.Regret y) same = refl
+same_kind (solvers.Regret x) solvers.Linear same = absurd (same.0 tt)
+same_kind solvers.Linear (solvers.Regret y) same = absurd (same.1 tt)
+same_kind solvers.Linear solvers.Linear same = refl
 
 pub returns-clause-worked : goal.returns-clause-worked
 returns-clause-worked g c =
     let m = g.G.Game.model c.args.setup.now.game in
     let v = g.B.Bounds.view c.args.board.now in
     let b = g.B.Bounds.view c.step.new.board in
-    let from : WorkerView = record { turns = c.worker.inside.turns; visits = c.worker.inside.visits; settled = c.worker.inside.settled; searches = c.worker.inside.searches } in
-    let to : WorkerView = record { turns = c.step.new.turns; visits = c.worker.inside.visits; settled = c.worker.inside.settled; searches = c.worker.inside.searches } in
+    let from : WorkerView = record {
+      turns = c.worker.inside.turns;
+      visits = c.worker.inside.serial.visits;
+      settled = c.worker.inside.settled;
+      searches = c.worker.inside.serial.table;
+      linear = is_linear c.worker.inside.stages;
+      passed = c.worker.inside.passed.keys;
+    } in
+    let to : WorkerView = record {
+      turns = c.step.new.turns;
+      visits = c.worker.inside.serial.visits;
+      settled = c.worker.inside.settled;
+      searches = c.worker.inside.serial.table;
+      linear = is_linear c.worker.inside.stages;
+      passed = c.worker.inside.passed.keys;
+    } in
     let kept : HasKept m (at_work v from) = subst (λ w. HasKept m (at_work v w)) (sym c.worker.view_is) c.requires.kept in
     subst (λ (w : WorkerView). IsWorked m c.args.s (at_work v w) (at_work b to)) c.worker.view_is
-    (worked_turn m c.args.s (m.rank c.args.s) v from kept b to c.step.ensures.later c.step.ensures.posted (λ none. c.step.ensures.no_turn (inl (c.step.ensures.spent.1 none))) c.step.ensures.one_turn refl)
+    (worked_turn m c.args.s (m.rank c.args.s) v from kept b to c.step.ensures.later c.step.ensures.posted
+    (λ none. c.step.ensures.turn.none (inl (c.step.ensures.turn.spent.1 none))) c.step.ensures.turn.at_most_one c.step.ensures.unposted refl)
+
+pub returns-clause-same : goal.returns-clause-same
+returns-clause-same g c =
+    let is : is_linear c.step.new.solver ≡ is_linear c.worker.inside.stages = same_kind c.step.new.solver c.worker.inside.stages c.step.ensures.kind in
+    subst (λ (w : WorkerView). record {
+      turns = c.step.new.turns;
+      visits = c.worker.inside.serial.visits;
+      settled = c.worker.inside.settled;
+      searches = c.worker.inside.serial.table;
+      linear = is_linear c.step.new.solver;
+      passed = c.worker.inside.passed.keys;
+    } ≡ record w { turns = c.step.new.turns }) c.worker.view_is
+    (ap (λ (b : Bool). record {
+      turns = c.step.new.turns;
+      visits = c.worker.inside.serial.visits;
+      settled = c.worker.inside.settled;
+      searches = c.worker.inside.serial.table;
+      linear = b;
+      passed = c.worker.inside.passed.keys;
+    }) is)
 
 pub returns-clause-full : goal.returns-clause-full
 returns-clause-full g c is =

@@ -1,6 +1,12 @@
-use Rattle.std.proofs.Common.{Err, refl, sym, ap, subst, ◌∙◌}
-use Rattle.oracle_search.specs.Workers.{WorkerView, at_work}
+use Rattle.std.proofs.Common.{rules, ◌≡◌, Err, IfSome, IfOk, w64, SFits, refl, sym, ap, subst, ◌∙◌}
+use Rattle.std.proofs.lemmas.Int.{to_z-of_z}
+use Rattle.sim_game.specs.declared.Side.TheVariants.{One, Two}
+use Rattle.sim_game.specs.Sides.{opening_bound}
+use Rattle.plan_book.specs.Serial.{serial_bound}
+use Rattle.serial_ab.specs.Ends.{IsValue}
+use Rattle.oracle_search.specs.Workers.{WorkerView, is_linear, at_work}
 use Rattle.oracle_search.specs.Searches.{HasKept, IsWorked}
+use Rattle.oracle_search.proofs.BetterLemmas.{found_number}
 use Rattle.oracle_search.proofs.GrowLemmas.{worked_serial}
 use Rattle.oracle_search.proofs.serial_bounds.bound_side.Goals as goal
 use Rattle.oracle_search.proofs.serial_bounds.bound_side.Goals.{in-Ok, in-Err-Full, in-Err-NoMemory}
@@ -10,15 +16,44 @@ returns-clause-worked g c =
     let m = g.G.Game.model c.args.setup.now.game in
     let v = g.B.Bounds.view c.args.board.now in
     let b = g.B.Bounds.view c.serial_with.new.board in
-    let from : WorkerView = record { turns = c.worker.inside.turns; visits = c.worker.inside.visits; settled = c.worker.inside.settled; searches = c.worker.inside.searches } in
-    let to : WorkerView = record { turns = c.worker.inside.turns; visits = c.serial_with.new.visits; settled = c.worker.inside.settled; searches = c.serial_with.new.table } in
-    let kept : HasKept m (at_work v from) = subst (λ w. HasKept m (at_work v w)) (sym c.worker.view_is) c.requires.kept in
+    let from : WorkerView = record {
+      turns = c.worker.inside.turns;
+      visits = c.worker.inside.serial.visits;
+      settled = c.worker.inside.settled;
+      searches = c.worker.inside.serial.table;
+      linear = is_linear c.worker.inside.stages;
+      passed = c.worker.inside.passed.keys;
+    } in
+    let to : WorkerView = record {
+      turns = c.worker.inside.turns;
+      visits = c.serial_with.new.worker.visits;
+      settled = c.worker.inside.settled;
+      searches = c.serial_with.new.worker.table;
+      linear = is_linear c.worker.inside.stages;
+      passed = c.worker.inside.passed.keys;
+    } in
+    let kept : HasKept m (at_work v from) = subst (λ w. HasKept m (at_work v w)) (sym c.worker.view_is) c.requires.here.kept in
     subst (λ (w : WorkerView). IsWorked m c.args.s (at_work v w) (at_work b to)) c.worker.view_is
-    (worked_serial m c.args.s (m.rank c.args.s) v from kept b to c.args.side _ c.serial_with.ensures.kept c.serial_with.ensures.remembered refl)
+    (worked_serial m c.args.s (m.rank c.args.s) v from kept b to c.args.side _ c.serial_with.ensures.ends.kept c.serial_with.ensures.remembered refl)
 
 pub returns-clause-full : goal.returns-clause-full
 returns-clause-full g c is = elim c.match-serial_with.branch [
   | in-Ok w ↦ let ok = w.result-is in absurd (cc)
-  | in-Err-Full w ↦ c.serial_with.ensures.full (w.in-Err-Full.is ∙ ap Err w.in-Err-Full.field-0-is)
+  | in-Err-Full w ↦ c.serial_with.ensures.ends.full (w.in-Err-Full.is ∙ ap Err w.in-Err-Full.field-0-is)
   | in-Err-NoMemory w ↦ let other = w.result-is in absurd (cc)
+]
+
+pub returns-clause-found : goal.returns-clause-found
+returns-clause-found g c = elim c.match-serial_with.branch [
+  | in-Ok w ↦
+      let m = g.G.Game.model c.args.setup.now.game in
+      let low : SFits w64 c.opening_bound.result = search rules in
+      let high : SFits w64 c.opening_bound-2.result = search rules in
+      let value : IsValue (opening_bound m One) (opening_bound m Two) (serial_bound m c.args.side c.args.s) w.in-Ok.end =
+      rw (to_z-of_z w64 c.opening_bound.result low, to_z-of_z w64 c.opening_bound-2.result high, c.opening_bound.ensures, c.opening_bound-2.ensures) at w.in-Ok.ensures.ends.value in
+      let found = found_number m (g.met.G.Game.lawful c.args.setup.now.game) c.args.side c.args.s c.requires.here.reachable w.in-Ok.end value in
+      subst (λ r. IfOk r (λ n. IfSome n (λ x. x ≡ serial_bound m c.args.side c.args.s))) (sym w.result-is)
+      (subst (λ n. IfSome n (λ x. x ≡ serial_bound m c.args.side c.args.s)) (sym w.number_in.ensures) found)
+  | in-Err-Full w ↦ subst (λ r. IfOk r (λ n. IfSome n (λ x. x ≡ serial_bound (g.G.Game.model c.args.setup.now.game) c.args.side c.args.s))) (sym w.result-is) tt
+  | in-Err-NoMemory w ↦ subst (λ r. IfOk r (λ n. IfSome n (λ x. x ≡ serial_bound (g.G.Game.model c.args.setup.now.game) c.args.side c.args.s))) (sym w.result-is) tt
 ]

@@ -21,7 +21,8 @@ loop-child-init g t c =
     let place : get nat_cmp c.args.best.now (m.key c.args.s) ≡ Some c.in-Some.field-0.now = ap (λ (k : ℕ). get nat_cmp c.args.best.now k) (sym c.key-key.ensures) ∙ sym c.in-Some.ensures.value in
     let entry = entry_here c.args.side entries (get nat_cmp c.args.best.now) (m.key c.args.s) c.in-Some.field-0.now e c.requires.places place c.index-entries-place.is in
     let row = row_here c.args.side entries (m.key c.args.s) e entry in
-    walk_start m c.args.side (best_row c.args.side entries) c.args.s c.deref-child-items.result.now c.in-Some.field-0.now (get nat_cmp c.args.found.now) (get nat_cmp c.insert.new.self) c.requires.reached (some_is _ _ row)
+    walk_start m c.args.side (best_row c.args.side entries) c.args.s c.deref-child-items.result.now c.in-Some.field-0.now
+    (get nat_cmp c.args.found.now) (get nat_cmp c.insert.new.self) c.requires.reached (some_is _ _ row)
     (λ q. rw (← c.key-key.ensures) (c.in_ok-insert.ensures.updates.0 q))
 
 pub gather-requires : goal.gather-requires
@@ -56,5 +57,6 @@ returns g t c =
     let row = row_here c.args.side entries (m.key c.args.s) e entry in
     let weights : e.weights ≡ c.as_slice.result.now = ap (λ (x : Entry). x.weights) c.index-entries-place.is ∙ sym c.as_slice.ensures in
     let items : c.deref-child-items.result.now ≡ children_of m c.args.side c.as_slice.result.now c.args.s = c.deref-child-items.ensures.value ∙ c.in_ok-below.ensures in
-    walk_done m c.args.side (best_row c.args.side entries) c.args.s c.as_slice.result.now (row_of e) c.deref-child-items.result.now c.loop-child.child-index (get nat_cmp c.args.found.now) (get nat_cmp c.loop-child.found)
+    walk_done m c.args.side (best_row c.args.side entries) c.args.s c.as_slice.result.now
+    (row_of e) c.deref-child-items.result.now c.loop-child.child-index (get nat_cmp c.args.found.now) (get nat_cmp c.loop-child.found)
     (g.met.G.Game.lawful c.args.g) c.requires.reached row weights items (omega arith) c.loop-child.invariant

@@ -16,7 +16,8 @@ loop-i-preserved c =
     rw (← at_key) c.is_better.ensures in
     elim c.if-is_better.branch [
       | then-is_better+in_ok-insert w ↦
-          let new : (q : ℕ) → get nat_cmp c.if-is_better.best q ≡ cond (is_eq (nat_cmp e.key q)) (Some c.loop-i.i) (get nat_cmp c.loop-i.best q) = λ q. rw w.best-is (w.in_ok-insert.ensures.updates.0 q) in
+          let new : (q : ℕ) → get nat_cmp c.if-is_better.best q ≡ cond (is_eq (nat_cmp e.key q)) (Some c.loop-i.i) (get nat_cmp c.loop-i.best q) =
+          λ q. rw w.best-is (w.in_ok-insert.ensures.updates.0 q) in
           record {
             within = λ q. within_more c.loop-i.i q (is_eq (nat_cmp e.key q)) (get nat_cmp c.loop-i.best q) (get nat_cmp c.if-is_better.best q) (c.loop-i.invariant.within q) (new q);
             best = λ q. best_more c.args.side xs c.loop-i.i e q true (get nat_cmp c.loop-i.best) (get nat_cmp c.if-is_better.best q) c.loop-i-test.true item c.loop-i.invariant.best

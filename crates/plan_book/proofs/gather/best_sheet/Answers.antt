@@ -11,7 +11,8 @@ returns-clause-best g c =
     let m = g.G.Game.model c.args.g in
     let entries = c.args.entries.now in
     let walk : IsGathered m c.args.side (best_row c.args.side entries) m.root (get nat_cmp c.new-found.result) (get nat_cmp c.gather.new.found) =
-    subst (λ (s : g.row.G-State.Denot). IsGathered m c.args.side (best_row c.args.side entries) s (get nat_cmp c.new-found.result) (get nat_cmp c.gather.new.found)) c.root.ensures c.in_ok-gather.ensures in
+    subst (λ (s : g.row.G-State.Denot). IsGathered m c.args.side (best_row c.args.side entries) s (get nat_cmp c.new-found.result) (get nat_cmp c.gather.new.found))
+    c.root.ensures c.in_ok-gather.ensures in
     found_sheet m c.args.side entries (keys c.gather.new.found) (get nat_cmp c.new-found.result) (get nat_cmp c.gather.new.found) c.from_vec.result
     (key_listed c.gather.new.found.entries) (IsStrictlyIncreasing-from_sorted _ c.in_ok-rows.ensures.ordered)
     (λ key. nothing_in c.new-found.result.entries key c.new-found.ensures.empty) walk (c.from_vec.ensures ∙ c.in_ok-rows.ensures.rows)

@@ -16,4 +16,5 @@ loop-key-preserved-in_ok-push c =
     let row : best_row c.args.side entries key ≡ Some (row_of e) =
     row_here c.args.side entries key e (entry_here c.args.side entries (get nat_cmp c.args.best.now) key c.in-Some-get.field-0.now e c.requires place c.index-entries-place.is) in
     let rest = row_taken (best_row c.args.side entries) c.loop-key.rows.items c.loop-key.key-iterator c.next.new.self key (row_of e) _ c.in-Some.ensures.steps row c.loop-key.invariant in
-    ap (λ (xs : List SheetRow). xs ++ filter_map (best_row c.args.side entries) c.next.new.self) (c.in_ok-push.ensures.items ∙ ap (λ (r : SheetRow). c.loop-key.rows.items ++ r ∷ []) c.in_ok-row_of.ensures) ∙ rest
+    ap (λ (xs : List SheetRow). xs ++ filter_map (best_row c.args.side entries) c.next.new.self)
+    (c.in_ok-push.ensures.items ∙ ap (λ (r : SheetRow). c.loop-key.rows.items ++ r ∷ []) c.in_ok-row_of.ensures) ∙ rest

@@ -7,7 +7,8 @@ pub returns-then-is_whole-clause-plays : goal.returns-then-is_whole-clause-plays
 returns-then-is_whole-clause-plays g c = λ history.
     let m = g.G.Game.model c.args.g in
     let sheet = c.args.sheet.now in
-    let row = row_found_at sheet.rows c.as_slice-rows.result.now (m.key c.args.s) c.key.result c.in-Some.place c.index-rows-place.result c.as_slice-rows.ensures c.key.ensures c.in-Some.ensures.found c.in-Some.ensures.within
+    let row = row_found_at sheet.rows c.as_slice-rows.result.now
+    (m.key c.args.s) c.key.result c.in-Some.place c.index-rows-place.result c.as_slice-rows.ensures c.key.ensures c.in-Some.ensures.found c.in-Some.ensures.within
     c.index-rows-place.is in
     let same : c.as_slice-weights.result.now ≡ c.index-rows-place.result.weights = c.as_slice-weights.ensures ∙ ap (λ (r : SheetRow). r.weights) (sym c.index-rows-place.is) in
     plays_row m sheet.side sheet c.args.s history c.requires.rising c.index-rows-place.result row (rw (← same, ← c.moves.ensures) c.if-is_whole.ensures) ∙ sym same
@@ -16,7 +17,8 @@ pub returns-else-is_whole-clause-plays : goal.returns-else-is_whole-clause-plays
 returns-else-is_whole-clause-plays g c = λ history.
     let m = g.G.Game.model c.args.g in
     let sheet = c.args.sheet.now in
-    let row = row_found_at sheet.rows c.as_slice-rows.result.now (m.key c.args.s) c.key.result c.in-Some.place c.index-rows-place.result c.as_slice-rows.ensures c.key.ensures c.in-Some.ensures.found c.in-Some.ensures.within
+    let row = row_found_at sheet.rows c.as_slice-rows.result.now
+    (m.key c.args.s) c.key.result c.in-Some.place c.index-rows-place.result c.as_slice-rows.ensures c.key.ensures c.in-Some.ensures.found c.in-Some.ensures.within
     c.index-rows-place.is in
     let same : c.as_slice-weights.result.now ≡ c.index-rows-place.result.weights = c.as_slice-weights.ensures ∙ ap (λ (r : SheetRow). r.weights) (sym c.index-rows-place.is) in
     plays_no_row m sheet.side sheet c.args.s history c.requires.rising c.index-rows-place.result row (rw (← same, ← c.moves.ensures) c.if-is_whole.ensures)

@@ -1,4 +1,4 @@
-use Rattle.std.proofs.Common.{◌≡◌, ◌-◌, length, arith, take, drop, ap}
+use Rattle.std.proofs.Common.{◌≡◌, ◌-◌, length, arith, take, drop, ap, ◌∙◌}
 use Rattle.std.proofs.Math.Seq.{take-add}
 use Rattle.std.proofs.lemmas.List.{take_all, length-drop}
 use Rattle.std.proofs.KnownBytes.{Appends-trans}
@@ -11,5 +11,5 @@ loop-at-preserved g c =
     record {
       within = omega (arith, c.in_ok-at.ensures.bound, ap length whole, length-drop c.loop-at.at c.args.bytes.now);
       front = rw take-add (Appends-trans _ _ _ (take c.loop-at.at c.args.bytes.now) (take c.in_ok-at.field-0 rest) c.loop-at.invariant.front (rw whole at c.in_ok-at.ensures.bytes));
-      later = omega (arith, c.in_ok-at.ensures.cause.later);
+      calm = c.in_ok-at.ensures.calm ∙ c.loop-at.invariant.calm;
     }

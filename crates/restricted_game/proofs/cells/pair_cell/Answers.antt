@@ -10,14 +10,25 @@ use Rattle.restricted_game.proofs.cells.pair_cell.Goals as goal
 pub weighted-sum-requires-clause-light : goal.weighted-sum-requires-clause-light
 weighted-sum-requires-clause-light g c =
     let below : c.loop-draw.draw < (g.G.Game.model c.args.g).draws c.args.s c.args.one c.args.two = search rules in
-    rw c.chance-chance.ensures (chance_light (g.G.Game.model c.args.g) c.args.s c.args.one c.args.two c.loop-draw.draw (g.met.G.Game.lawful c.args.g) c.requires.reachable c.requires.one c.requires.two below)
+    rw c.chance-chance.ensures
+    (chance_light (g.G.Game.model c.args.g) c.args.s c.args.one c.args.two c.loop-draw.draw (g.met.G.Game.lawful c.args.g) c.requires.reachable c.requires.one c.requires.two below)
 
 pub loop-draw-preserved : goal.loop-draw-preserved
 loop-draw-preserved g c =
     let m = g.G.Game.model c.args.g in
-    let few : c.loop-draw.draw < 13 = omega (arith, c.requires.shape.stride.draws c.args.s c.args.one c.args.two c.requires.reachable c.requires.one c.requires.two, c.requires.shape.stride.few, c.draws-draw-end.ensures, c.loop-draw-test.true) in
+    let few : c.loop-draw.draw < 13 =
+    omega (
+      arith,
+      c.requires.shape.stride.draws c.args.s c.args.one c.args.two c.requires.reachable c.requires.one
+          c.requires.two,
+      c.requires.shape.stride.few,
+      c.draws-draw-end.ensures,
+      c.loop-draw-test.true,
+    ) in
     let number : to_z w64 (of_z w64 c.number.result) ≡ bound_in c.args.side (enclosure_in c.args.table.now c.args.one c.args.two c.loop-draw.draw) = search rules in
-    let step = sum_step c.loop-draw.draw (λ draw. pos (m.chance c.args.s c.args.one c.args.two draw) *ℤ bound_in c.args.side (enclosure_in c.args.table.now c.args.one c.args.two draw)) (to_z w64 c.loop-draw.sum-bits) c.weighted-sum.result
+    let step = sum_step c.loop-draw.draw
+    (λ draw. pos (m.chance c.args.s c.args.one c.args.two draw) *ℤ bound_in c.args.side (enclosure_in c.args.table.now c.args.one c.args.two draw))
+    (to_z w64 c.loop-draw.sum-bits) c.weighted-sum.result
     few c.loop-draw.invariant.sum_so_far c.loop-draw.invariant.small (c.weighted-sum.ensures.value ∙ rw (c.chance-chance.ensures, number) refl) c.weighted-sum.ensures.small in
     record { sum_so_far = step.0; small = step.1 }
 
@@ -27,7 +38,9 @@ returns-clause-value g c =
     let f : SFits w64 c.quotient.result = search rules in
     let all : c.loop-draw.draw ≡ (g.G.Game.model c.args.g).draws c.args.s c.args.one c.args.two = search rules in
     to_z-of_z w64 c.quotient.result f ∙ c.quotient.ensures
-    ∙ ap (rounded c.args.side) (c.loop-draw.invariant.sum_so_far ∙ ap (λ (n : ℕ). sum_below n (λ draw. pos (m.chance c.args.s c.args.one c.args.two draw) *ℤ bound_in c.args.side (enclosure_in c.args.table.now c.args.one c.args.two draw))) all)
+    ∙ ap (rounded c.args.side)
+    (c.loop-draw.invariant.sum_so_far ∙ ap
+    (λ (n : ℕ). sum_below n (λ draw. pos (m.chance c.args.s c.args.one c.args.two draw) *ℤ bound_in c.args.side (enclosure_in c.args.table.now c.args.one c.args.two draw))) all)
 
 pub returns-clause-small : goal.returns-clause-small
 returns-clause-small g c =

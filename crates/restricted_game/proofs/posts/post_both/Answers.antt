@@ -11,13 +11,17 @@ pub returns-in_err-post_plan-2-clause-later : goal.returns-in_err-post_plan-2-cl
 returns-in_err-post_plan-2-clause-later g c = later_trans _ _ _ c.post_plan.ensures.later c.post_plan-2.ensures.later
 
 pub returns-in_err-post_plan-2-clause-lawful : goal.returns-in_err-post_plan-2-clause-lawful
-returns-in_err-post_plan-2-clause-lawful g c = lawful_after (g.G.Game.model c.args.g) (g.B.Bounds.view c.args.board.now) (g.B.Bounds.view c.post_plan.new.board) (g.B.Bounds.view c.post_plan-2.new.board) c.post_plan.ensures.later c.post_plan.ensures.lawful c.post_plan-2.ensures.lawful
+returns-in_err-post_plan-2-clause-lawful g c =
+    lawful_after (g.G.Game.model c.args.g) (g.B.Bounds.view c.args.board.now) (g.B.Bounds.view c.post_plan.new.board)
+    (g.B.Bounds.view c.post_plan-2.new.board) c.post_plan.ensures.later c.post_plan.ensures.lawful c.post_plan-2.ensures.lawful
 
 pub returns-clause-later : goal.returns-clause-later
 returns-clause-later g c = later_trans _ _ _ c.post_plan.ensures.later c.post_plan-2.ensures.later
 
 pub returns-clause-lawful : goal.returns-clause-lawful
-returns-clause-lawful g c = lawful_after (g.G.Game.model c.args.g) (g.B.Bounds.view c.args.board.now) (g.B.Bounds.view c.post_plan.new.board) (g.B.Bounds.view c.post_plan-2.new.board) c.post_plan.ensures.later c.post_plan.ensures.lawful c.post_plan-2.ensures.lawful
+returns-clause-lawful g c =
+    lawful_after (g.G.Game.model c.args.g) (g.B.Bounds.view c.args.board.now) (g.B.Bounds.view c.post_plan.new.board)
+    (g.B.Bounds.view c.post_plan-2.new.board) c.post_plan.ensures.later c.post_plan.ensures.lawful c.post_plan-2.ensures.lawful
 
 pub returns-clause-posted : goal.returns-clause-posted
 returns-clause-posted g c =
@@ -26,6 +30,6 @@ returns-clause-posted g c =
       between = (g.B.Bounds.view c.post_plan.new.board).entries;
       one_posted = c.in_ok-post_plan.ensures.posted;
       two_posted = posted_earlier _ _ _ _ _ c.post_plan.ensures.later c.in_ok-post_plan-2.ensures.posted;
-      one_seen = looser_trans One _ _ _ c.in_ok-post_plan.ensures.seen (c.post_plan-2.ensures.later.seen One (m.key c.args.s));
+      one_seen = looser_trans One _ _ _ c.in_ok-post_plan.ensures.seen (c.post_plan-2.ensures.later.seen One (m.key c.args.node.state));
       two_seen = c.in_ok-post_plan-2.ensures.seen;
     }

@@ -18,7 +18,7 @@ returns-then-not-is_tighter-clause-seen g c =
     looser_right c.args.side _ _ _ known (rw (to_z-of_z w64 c.args.plan.bound b, to_z-of_z w64 c.of-known.result k) at c.if-not-is_tighter.ensures)
 
 pub post-requires-clause-row : goal.post-requires-clause-row
-post-requires-clause-row g c = rw c.in_ok-e.ensures (c.read.ensures.later.keys c.args.row _ c.requires.row)
+post-requires-clause-row g c = rw c.in_ok-e.ensures (c.read.ensures.later.keys c.args.node.row _ c.requires.row)
 
 pub post-requires-clause-entry : goal.post-requires-clause-entry
 post-requires-clause-entry g c =

@@ -19,7 +19,8 @@ loop-place-preserved g c =
       later = later_trans _ _ _ c.loop-place.invariant.later found.later;
       entries = found.entries ∙ c.loop-place.invariant.entries;
       children = found.children;
-      filled = filled_more (g.G.Game.model c.args.g) c.args.s c.requires.reachable _ _ _ c.loop-place.invariant.later found.later c.args.rows.now c.args.cols.now c.moves-width.result c.stride_of-stride.result c.moves-width.ensures some
+      filled = filled_more (g.G.Game.model c.args.g) c.args.s c.requires.reachable _ _ _ c.loop-place.invariant.later found.later c.args.rows.now
+          c.args.cols.now c.moves-width.result c.stride_of-stride.result c.moves-width.ensures some
           c.stride_of-stride.ensures c.loop-place.place c.in-Ok-read_child.found found.read c.loop-place.enclosures.items inside c.loop-place.invariant.filled;
       small = All-set IsSmallEnclosure c.loop-place.enclosures.items _ _ found.small c.loop-place.invariant.small;
     }
@@ -29,6 +30,7 @@ returns-clause-filled g c =
     let all : c.loop-place.place ≡ c.moves-height.result * c.moves-width.result * c.stride_of-stride.result = search rules in
     record {
       read = λ one two draw p q w r.
-          let inside = place_within c.moves-height.result c.moves-width.result c.stride_of-stride.result one two draw (rw c.moves-height.ensures p) (rw c.moves-width.ensures q) (omega (arith, c.stride_of-stride.ensures.draws c.args.s one two c.requires.reachable p q)) in
+          let inside = place_within c.moves-height.result c.moves-width.result c.stride_of-stride.result one two draw (rw c.moves-height.ensures p)
+          (rw c.moves-width.ensures q) (omega (arith, c.stride_of-stride.ensures.draws c.args.s one two c.requires.reachable p q)) in
           c.loop-place.invariant.filled.read one two draw p q (omega (arith, inside, all)) w r;
     }

@@ -5,7 +5,7 @@ use Rattle.plan_book.specs.Serial.{serial_bound, tree_size}
 use Rattle.plan_book.specs.Entries.{concat_below}
 use Rattle.serial_ab.specs.Counts.{spent_on}
 use Rattle.serial_ab.specs.Values.{pair_nodes, move_nodes}
-use Rattle.serial_ab.specs.Searches.{IsKept, IsGoodNumber}
+use Rattle.serial_ab.specs.Searches.{IsSerialKept, IsGoodNumber}
 use Rattle.serial_ab.specs.Transpositions.{AreRemembered}
 use Rattle.serial_ab.proofs.SearchLemmas.{MovesSoFar, RepliesSoFar}
 use Rattle.serial_ab.proofs.search.+serial.Given as goal
@@ -30,27 +30,38 @@ decreases-search_state g l = 6 * (g.G.Game.model l.task.now.game).rank l.s + 5
 
 abbrev pub invariant-search_draws-loop-d : goal.invariant-search_draws-loop-d
 invariant-search_draws-loop-d g l = record {
-  kept : IsKept (g.G.Game.model l.task.game) l.task.side (count_below l.d (λ d. tree_size (g.G.Game.model l.task.game) (child_of (g.G.Game.model l.task.game) l.task.side l.s l.own l.reply d))) (g.B.Bounds.view l.initial.board) (g.B.Bounds.view l.board) l.initial.visits l.visits;
-  remembered : AreRemembered (g.G.Game.model l.task.game) (g.B.Bounds.view l.board) l.table;
-  summed : l.sum ≡ sum_below l.d (λ d. pos (chance_of (g.G.Game.model l.task.game) l.task.side l.s l.own l.reply d) *ℤ serial_bound (g.G.Game.model l.task.game) l.task.side (child_of (g.G.Game.model l.task.game) l.task.side l.s l.own l.reply d));
-  listed : l.reads.items ≡ l.initial.reads.items ++ concat_below l.d (λ d. serial_bound (g.G.Game.model l.task.game) l.task.side (child_of (g.G.Game.model l.task.game) l.task.side l.s l.own l.reply d) ∷ []);
-  good : (d : ℕ) → d < l.d → IsGoodNumber (g.G.Game.model l.task.game) l.task.side (g.B.Bounds.view l.board) (child_of (g.G.Game.model l.task.game) l.task.side l.s l.own l.reply d) (serial_bound (g.G.Game.model l.task.game) l.task.side (child_of (g.G.Game.model l.task.game) l.task.side l.s l.own l.reply d));
-  below : 1 ≤ l.d → spent_on l.task.side l.initial.visits + 1 ≤ spent_on l.task.side l.visits;
+  kept : IsSerialKept (g.G.Game.model l.task.game) l.task.side
+      (count_below l.d (λ d. tree_size (g.G.Game.model l.task.game) (child_of (g.G.Game.model l.task.game) l.task.side l.s l.own l.reply d))) (g.B.Bounds.view l.initial.board)
+      (g.B.Bounds.view l.board) l.initial.worker.visits l.worker.visits;
+  remembered : AreRemembered (g.G.Game.model l.task.game) (g.B.Bounds.view l.board) l.worker.table;
+  same_limit : l.worker.table.limit ≡ l.initial.worker.table.limit;
+  summed : l.sum ≡ sum_below l.d (λ d. pos (chance_of (g.G.Game.model l.task.game) l.task.side l.s l.own l.reply d) *ℤ serial_bound (g.G.Game.model l.task.game) l.task.side
+      (child_of (g.G.Game.model l.task.game) l.task.side l.s l.own l.reply d));
+  listed : l.worker.reads.items ≡ l.initial.worker.reads.items ++ concat_below l.d
+      (λ d. serial_bound (g.G.Game.model l.task.game) l.task.side (child_of (g.G.Game.model l.task.game) l.task.side l.s l.own l.reply d) ∷ []);
+  good : (d : ℕ) → d < l.d → IsGoodNumber (g.G.Game.model l.task.game) l.task.side (g.B.Bounds.view l.board) (child_of (g.G.Game.model l.task.game) l.task.side l.s l.own l.reply d)
+      (serial_bound (g.G.Game.model l.task.game) l.task.side (child_of (g.G.Game.model l.task.game) l.task.side l.s l.own l.reply d));
+  below : 1 ≤ l.d → spent_on l.task.side l.initial.worker.visits + 1 ≤ spent_on l.task.side l.worker.visits;
 }
 
 abbrev pub invariant-search_move-loop-reply : goal.invariant-search_move-loop-reply
 invariant-search_move-loop-reply g l = record {
-  kept : IsKept (g.G.Game.model l.task.game) l.task.side (count_below l.reply (pair_nodes (g.G.Game.model l.task.game) l.task.side l.s l.own)) (g.B.Bounds.view l.initial.board) (g.B.Bounds.view l.board) l.initial.visits l.visits;
-  remembered : AreRemembered (g.G.Game.model l.task.game) (g.B.Bounds.view l.board) l.table;
-  so_far : RepliesSoFar (g.G.Game.model l.task.game) l.task.side l.s l.own l.floor l.better l.reply l.least (g.B.Bounds.view l.board) l.initial.reads.items l.reads.items;
-  below : 1 ≤ l.reply → spent_on l.task.side l.initial.visits + 1 ≤ spent_on l.task.side l.visits;
+  kept : IsSerialKept (g.G.Game.model l.task.game) l.task.side (count_below l.reply (pair_nodes (g.G.Game.model l.task.game) l.task.side l.s l.own))
+      (g.B.Bounds.view l.initial.board) (g.B.Bounds.view l.board) l.initial.worker.visits l.worker.visits;
+  remembered : AreRemembered (g.G.Game.model l.task.game) (g.B.Bounds.view l.board) l.worker.table;
+  same_limit : l.worker.table.limit ≡ l.initial.worker.table.limit;
+  so_far : RepliesSoFar (g.G.Game.model l.task.game) l.task.side l.s l.own l.window.worse l.window.better l.reply l.least (g.B.Bounds.view l.board) l.initial.worker.reads.items
+      l.worker.reads.items;
+  below : 1 ≤ l.reply → spent_on l.task.side l.initial.worker.visits + 1 ≤ spent_on l.task.side l.worker.visits;
 }
 
 abbrev pub invariant-search_moves-loop-own : goal.invariant-search_moves-loop-own
 invariant-search_moves-loop-own g l = record {
-  kept : IsKept (g.G.Game.model l.task.game) l.task.side (count_below l.own (move_nodes (g.G.Game.model l.task.game) l.task.side l.s)) (g.B.Bounds.view l.initial.board) (g.B.Bounds.view l.board) l.initial.visits l.visits;
-  remembered : AreRemembered (g.G.Game.model l.task.game) (g.B.Bounds.view l.board) l.table;
-  so_far : MovesSoFar (g.G.Game.model l.task.game) l.task.side l.s l.worse l.better l.own l.value (g.B.Bounds.view l.board);
-  same_reads : l.reads.items ≡ l.initial.reads.items;
-  below : 1 ≤ l.own → spent_on l.task.side l.initial.visits + 1 ≤ spent_on l.task.side l.visits;
+  kept : IsSerialKept (g.G.Game.model l.task.game) l.task.side (count_below l.own (move_nodes (g.G.Game.model l.task.game) l.task.side l.s)) (g.B.Bounds.view l.initial.board)
+      (g.B.Bounds.view l.board) l.initial.worker.visits l.worker.visits;
+  remembered : AreRemembered (g.G.Game.model l.task.game) (g.B.Bounds.view l.board) l.worker.table;
+  same_limit : l.worker.table.limit ≡ l.initial.worker.table.limit;
+  so_far : MovesSoFar (g.G.Game.model l.task.game) l.task.side l.s l.window.worse l.window.better l.own l.value (g.B.Bounds.view l.board);
+  same_reads : l.worker.reads.items ≡ l.initial.worker.reads.items;
+  below : 1 ≤ l.own → spent_on l.task.side l.initial.worker.visits + 1 ≤ spent_on l.task.side l.worker.visits;
 }

@@ -5,4 +5,5 @@ use Rattle.shared_board.proofs.ClaimLemmas.{SoFar}
 use Rattle.shared_board.proofs.steps.claim_row.Given as goal
 
 abbrev pub invariant-loop-tried : goal.invariant-loop-tried
-invariant-loop-tried g l = IsAt l.words.table_id l.seat.table_id l.seat.me × (l.seat.id ≡ l.initial.seat.id) × SoFar g.G.Game.model l.rows l.key l.tried l.initial.seat.me.0 l.seat.me.0 × (l.row ≡ row_after l.rows l.key l.tried)
+invariant-loop-tried g l = IsAt l.words.table_id l.seat.table_id l.seat.me × (l.seat.id ≡ l.initial.seat.id)
+    × SoFar g.G.Game.model l.rows l.key l.tried l.initial.seat.me.0 l.seat.me.0 × (l.row ≡ row_after l.rows l.key l.tried)

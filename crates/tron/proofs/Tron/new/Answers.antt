@@ -7,7 +7,8 @@ use Rattle.tron.proofs.Tron.new.Goals as goal
 pub invariant_of-result : goal.invariant_of-result
 invariant_of-result c =
     let grid : IsGrid c.args.height c.args.width = record { height_low = omega arith; height_high = omega arith; width_low = omega arith; width_high = omega arith } in
-    let is : c.with_cell-taken.result ≡ with_cell (with_cell c.set_of-walled.result c.args.one) c.args.two = c.with_cell-taken.ensures ∙ ap (λ (taken : ℕ). with_cell taken c.args.two) c.with_cell.ensures in
+    let is : c.with_cell-taken.result ≡ with_cell (with_cell c.set_of-walled.result c.args.one) c.args.two =
+    c.with_cell-taken.ensures ∙ ap (λ (taken : ℕ). with_cell taken c.args.two) c.with_cell.ensures in
     let below = rw c.cell_count.ensures.is at c.in_ok-check_cells.ensures in
     record {
       valid = position_of _ c.args.walls.now grid below.1 below.2 below.3
@@ -17,10 +18,12 @@ invariant_of-result c =
 pub returns : goal.returns
 returns c =
     let grid : IsGrid c.args.height c.args.width = record { height_low = omega arith; height_high = omega arith; width_low = omega arith; width_high = omega arith } in
-    let is : c.with_cell-taken.result ≡ with_cell (with_cell c.set_of-walled.result c.args.one) c.args.two = c.with_cell-taken.ensures ∙ ap (λ (taken : ℕ). with_cell taken c.args.two) c.with_cell.ensures in
+    let is : c.with_cell-taken.result ≡ with_cell (with_cell c.set_of-walled.result c.args.one) c.args.two =
+    c.with_cell-taken.ensures ∙ ap (λ (taken : ℕ). with_cell taken c.args.two) c.with_cell.ensures in
     let walls = c.args.walls.now in (
       no_fault c.args.height c.args.width walls c.args.one c.args.two grid (rw c.cell_count.ensures.is at c.in_ok-check_cells.ensures).0
-          (sym (c.set_of-walled.ensures.same c.args.one) ∙ sym c.is_taken.ensures ∙ c.if-is_taken.false) (sym (c.set_of-walled.ensures.same c.args.two) ∙ sym c.is_taken-else-is_taken.ensures ∙ c.if-is_taken-2.false) c.if-one-two.false,
+          (sym (c.set_of-walled.ensures.same c.args.one) ∙ sym c.is_taken.ensures ∙ c.if-is_taken.false)
+          (sym (c.set_of-walled.ensures.same c.args.two) ∙ sym c.is_taken-else-is_taken.ensures ∙ c.if-is_taken-2.false) c.if-one-two.false,
       record {
         height_is = refl;
         width_is = refl;

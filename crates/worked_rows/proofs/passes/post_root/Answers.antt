@@ -20,7 +20,21 @@ post-requires-clause-entry g c =
     let reads = rw c.expect-reads.ensures at c.vec-2.ensures.items in
     let bound = to_z-of_z w64 c.args.bound c.ranges.bound in
     let number = to_z-of_z w64 c.end_bound-payoff.result (record { sfits = c.end_bound-payoff.type_inv }) in
-    rw (c.claim.ensures.later.game, ← c.game-g.ensures, c.claim.ensures.later.total, ← c.total.ensures.total, c.key-key.ensures, bound, c.from_vec.ensures, weights, c.from_vec-2.ensures, reads, number, payoff) entry
+    rw (
+      c.claim.ensures.later.game,
+      ← c.game-g.ensures,
+      c.claim.ensures.later.total,
+      ←
+          c.total.ensures.total,
+      c.key-key.ensures,
+      bound,
+      c.from_vec.ensures,
+      weights,
+      c.from_vec-2.ensures,
+      reads,
+      number,
+      payoff,
+    ) entry
 
 pub returns : goal.returns
 returns g c = later_trans _ _ _ c.claim.ensures.later c.post.ensures.later

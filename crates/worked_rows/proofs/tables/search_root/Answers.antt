@@ -6,10 +6,10 @@ pub serial_with-requires-clause-remembered : goal.serial_with-requires-clause-re
 serial_with-requires-clause-remembered g c = remembered_later c.claim.ensures.later c.requires.remembered
 
 pub returns-in-Ok-serial_with-clause-later : goal.returns-in-Ok-serial_with-clause-later
-returns-in-Ok-serial_with-clause-later g c = later_trans _ _ _ c.claim.ensures.later c.serial_with.ensures.kept.later
+returns-in-Ok-serial_with-clause-later g c = later_trans _ _ _ c.claim.ensures.later c.serial_with.ensures.ends.kept.later
 
 pub returns-in-Err-serial_with-clause-later : goal.returns-in-Err-serial_with-clause-later
-returns-in-Err-serial_with-clause-later g c = later_trans _ _ _ c.claim.ensures.later c.serial_with.ensures.kept.later
+returns-in-Err-serial_with-clause-later g c = later_trans _ _ _ c.claim.ensures.later c.serial_with.ensures.ends.kept.later
 
 pub returns-in-Err-clause-remembered : goal.returns-in-Err-clause-remembered
 returns-in-Err-clause-remembered g c = remembered_later c.claim.ensures.later c.requires.remembered

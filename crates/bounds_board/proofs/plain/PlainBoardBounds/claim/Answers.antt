@@ -25,7 +25,8 @@ invariant_of-self g c =
     let free = rw (c.as_slice.ensures.value, c.as_slice-2.ensures.value) at c.in-Free.ensures in
     let game : IsGame (g.G.Game.model c.self.inside.game) = g.met.G.Game.lawful c.self.inside.game in
     let inner = subst (λ (v : PlainValue _). IsInnerKey (g.G.Game.model v.game) c.args.key) (sym c.self.view_is) c.requires in
-    let kept = claim_keeps _ _ _ _ _ c.self.invariant.0 _ _ free _ _ (opening_returned _ One _ game c.opening_bound-lower.ensures) (opening_returned _ Two _ game c.opening_bound-upper.ensures) inner in
+    let kept = claim_keeps _ _ _ _ _ c.self.invariant.0 _ _ free _ _ (opening_returned _ One _ game c.opening_bound-lower.ensures)
+    (opening_returned _ Two _ game c.opening_bound-upper.ensures) inner in
     (rw (c.push_reserved.ensures.items, c.len-row.ensures, c.self.inside.slots.ok.0) kept, rw (length-set, c.push_reserved.ensures.capacity) c.self.invariant.1)
 
 pub returns-in-Row-clause-opened : goal.returns-in-Row-clause-opened

@@ -13,8 +13,8 @@ use Rattle.goofspiel.proofs.drawn.GoofspielDrawnGame.drawn.Goals as goal
 pub bounds-self-s : goal.bounds-self-s
 bounds-self-s c = place_small c.args.self.now.setting c.args.self.now.valid c.args.s (drawn_sound c.args.self.now.setting c.args.self.now.valid c.args.s c.requires.reachable)
 
-pub played-hands-requires-clause-small : goal.played-hands-requires-clause-small
-played-hands-requires-clause-small c = hands_small c.args.self.now.setting c.args.self.now.valid c.args.s (drawn_sound c.args.self.now.setting c.args.self.now.valid c.args.s c.requires.reachable)
+pub play-hands-requires-clause-small : goal.play-hands-requires-clause-small
+play-hands-requires-clause-small c = hands_small c.args.self.now.setting c.args.self.now.valid c.args.s (drawn_sound c.args.self.now.setting c.args.self.now.valid c.args.s c.requires.reachable)
 
 -- the prize of the array is that of the list
 hands_are : (g : Setting) (p : IsPosition g) (s : DrawnState) (a b : ℕ) (hands : State) → IsDrawnSound g s → a < length (cards s.hands.one)
@@ -26,7 +26,7 @@ returns-then-s-eq0 c =
     let s = c.args.s in
     let here = drawn_sound c.args.self.now.setting c.args.self.now.valid s c.requires.reachable in
     let none : length (places s.undrawn) ≡ 0 = ap (λ (set : ℕ). length (places set)) c.if-s-eq0.true ∙ ap length (members_empty 13 0) in
-    same_drawn_state _ _ (hands_are c.args.self.now.setting c.args.self.now.valid s c.args.a c.args.b c.played-hands.result here c.requires.one c.played-hands.ensures)
+    same_drawn_state _ _ (hands_are c.args.self.now.setting c.args.self.now.valid s c.args.a c.args.b c.play-hands.result here c.requires.one c.play-hands.ensures)
     (sym (ap (packed_from 0) (nothing_left s.undrawn c.args.d none (omega (arith, c.requires.draw))))) (sym (get_or_past (places s.undrawn) c.args.d 0 (omega arith)))
 
 pub take_out-place-requires-clause-small : goal.take_out-place-requires-clause-small
@@ -39,5 +39,5 @@ take_out-place-requires-clause-place c =
 pub returns : goal.returns
 returns c =
     let here = drawn_sound c.args.self.now.setting c.args.self.now.valid c.args.s c.requires.reachable in
-    same_drawn_state _ _ (hands_are c.args.self.now.setting c.args.self.now.valid c.args.s c.args.a c.args.b c.played-hands.result here c.requires.one c.played-hands.ensures)
+    same_drawn_state _ _ (hands_are c.args.self.now.setting c.args.self.now.valid c.args.s c.args.a c.args.b c.play-hands.result here c.requires.one c.play-hands.ensures)
     c.take_out-place.ensures.rest c.take_out-place.ensures.number

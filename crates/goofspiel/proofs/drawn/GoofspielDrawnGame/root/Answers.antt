@@ -2,7 +2,7 @@ use Rattle.std.proofs.Common.{arith, ◌≡◌, ◌≤◌, ℕ, ℤ, ◌-◌, �
 use Rattle.std.proofs.lemmas.Int.{ints}
 use Rattle.std.proofs.lemmas.Nat.{one_shl}
 use Rattle.std.specs.Int.RustNames.{unsigned_abs}
-use Rattle.goofspiel.specs.DealLaws.{few_prizes, same_state}
+use Rattle.goofspiel.specs.DealLaws.{few_prizes, same_goofspiel_state}
 use Rattle.goofspiel.specs.DrawnLaws.{later_small, later_packed, same_drawn_state}
 use Rattle.goofspiel.proofs.drawn.GoofspielDrawnGame.root.Goals as goal
 
@@ -25,5 +25,5 @@ pub returns : goal.returns
 returns c =
     let g = c.args.self.now.setting in
     let few = few_prizes g c.args.self.now.valid in
-    same_drawn_state _ _ (same_state _ _ refl refl (same_score g.score c.args.self.now.valid.score_small))
+    same_drawn_state _ _ (same_goofspiel_state _ _ refl refl (same_score g.score c.args.self.now.valid.score_small))
     (bit_is c.saturating_sub-later.result g.count c.saturating_sub-later.ensures few ∙ sym (later_packed (g.count - 1) (omega arith))) refl

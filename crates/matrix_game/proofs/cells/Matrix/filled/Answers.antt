@@ -12,7 +12,8 @@ loop-place-preserved c =
     let hs = c.loop-place.heights.items in
     rw c.in_ok-push.ensures.items (record {
       as_many = omega (arith, length-append hs (c.height.result ∷ []), c.loop-place.invariant.as_many);
-      cells = one_more_height m (to_z w64 (of_z w64 c.args.least)) c.args.width c.loop-place.place c.height.result hs c.requires.all c.loop-place.invariant.as_many c.loop-place.invariant.cells c.height.ensures;
+      cells = one_more_height m
+          (to_z w64 (of_z w64 c.args.least)) c.args.width c.loop-place.place c.height.result hs c.requires.all c.loop-place.invariant.as_many c.loop-place.invariant.cells c.height.ensures;
     })
 
 pub returns : goal.returns

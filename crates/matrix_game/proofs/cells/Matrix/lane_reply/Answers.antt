@@ -12,25 +12,41 @@ sum_rows-requires-clause-few_rows c =
 pub overflow_cast-paid : goal.overflow_cast-paid
 overflow_cast-paid c =
     let matrix : IsMatrix c.args.self.now = subst IsMatrix c.self.view_is c.self.invariant in
-    let f = found c.args.self.now c.args.heights.now.least (8 * c.args.heights.now.blocks) c.args.weight c.args.heights.now.rows c.self.inside.cols c.place_of_least-col.result c.args.heights.now.cells.items c.args.p.now c.sum_rows.new.sums matrix c.requires.cells c.requires.small c.requires.rows (ap (λ (m : Grid). m.cols) c.self.view_is) (record { each = c.requires.weights; all = c.requires.weight }) c.requires.light_weight c.sum_rows.ensures c.place_of_least-col.ensures.place in
+    let f = found c.args.self.now c.args.heights.now.least
+    (8 * c.args.heights.now.blocks) c.args.weight c.args.heights.now.rows c.self.inside.cols c.place_of_least-col.result
+    c.args.heights.now.cells.items c.args.p.now c.sum_rows.new.sums matrix c.requires.cells c.requires.small c.requires.rows
+    (ap (λ (m : Grid). m.cols) c.self.view_is)
+    (record { each = c.requires.weights; all = c.requires.weight }) c.requires.light_weight c.sum_rows.ensures c.place_of_least-col.ensures.place in
     omega (arith, ints, f.small_sum)
 
 pub overflow_add-paid : goal.overflow_add-paid
 overflow_add-paid c =
     let matrix : IsMatrix c.args.self.now = subst IsMatrix c.self.view_is c.self.invariant in
-    let f = found c.args.self.now c.args.heights.now.least (8 * c.args.heights.now.blocks) c.args.weight c.args.heights.now.rows c.self.inside.cols c.place_of_least-col.result c.args.heights.now.cells.items c.args.p.now c.sum_rows.new.sums matrix c.requires.cells c.requires.small c.requires.rows (ap (λ (m : Grid). m.cols) c.self.view_is) (record { each = c.requires.weights; all = c.requires.weight }) c.requires.light_weight c.sum_rows.ensures c.place_of_least-col.ensures.place in
+    let f = found c.args.self.now c.args.heights.now.least
+    (8 * c.args.heights.now.blocks) c.args.weight c.args.heights.now.rows c.self.inside.cols c.place_of_least-col.result
+    c.args.heights.now.cells.items c.args.p.now c.sum_rows.new.sums matrix c.requires.cells c.requires.small c.requires.rows
+    (ap (λ (m : Grid). m.cols) c.self.view_is)
+    (record { each = c.requires.weights; all = c.requires.weight }) c.requires.light_weight c.sum_rows.ensures c.place_of_least-col.ensures.place in
     omega (arith, ints, f.small_sum, c.weighted.ensures.small)
 
 pub returns-clause-col : goal.returns-clause-col
 returns-clause-col c =
     let matrix : IsMatrix c.args.self.now = subst IsMatrix c.self.view_is c.self.invariant in
-    let f = found c.args.self.now c.args.heights.now.least (8 * c.args.heights.now.blocks) c.args.weight c.args.heights.now.rows c.self.inside.cols c.place_of_least-col.result c.args.heights.now.cells.items c.args.p.now c.sum_rows.new.sums matrix c.requires.cells c.requires.small c.requires.rows (ap (λ (m : Grid). m.cols) c.self.view_is) (record { each = c.requires.weights; all = c.requires.weight }) c.requires.light_weight c.sum_rows.ensures c.place_of_least-col.ensures.place in
+    let f = found c.args.self.now c.args.heights.now.least
+    (8 * c.args.heights.now.blocks) c.args.weight c.args.heights.now.rows c.self.inside.cols c.place_of_least-col.result
+    c.args.heights.now.cells.items c.args.p.now c.sum_rows.new.sums matrix c.requires.cells c.requires.small c.requires.rows
+    (ap (λ (m : Grid). m.cols) c.self.view_is)
+    (record { each = c.requires.weights; all = c.requires.weight }) c.requires.light_weight c.sum_rows.ensures c.place_of_least-col.ensures.place in
     f.is_reply
 
 pub returns-clause-paid : goal.returns-clause-paid
 returns-clause-paid c =
     let matrix : IsMatrix c.args.self.now = subst IsMatrix c.self.view_is c.self.invariant in
-    let f = found c.args.self.now c.args.heights.now.least (8 * c.args.heights.now.blocks) c.args.weight c.args.heights.now.rows c.self.inside.cols c.place_of_least-col.result c.args.heights.now.cells.items c.args.p.now c.sum_rows.new.sums matrix c.requires.cells c.requires.small c.requires.rows (ap (λ (m : Grid). m.cols) c.self.view_is) (record { each = c.requires.weights; all = c.requires.weight }) c.requires.light_weight c.sum_rows.ensures c.place_of_least-col.ensures.place in
+    let f = found c.args.self.now c.args.heights.now.least
+    (8 * c.args.heights.now.blocks) c.args.weight c.args.heights.now.rows c.self.inside.cols c.place_of_least-col.result
+    c.args.heights.now.cells.items c.args.p.now c.sum_rows.new.sums matrix c.requires.cells c.requires.small c.requires.rows
+    (ap (λ (m : Grid). m.cols) c.self.view_is)
+    (record { each = c.requires.weights; all = c.requires.weight }) c.requires.light_weight c.sum_rows.ensures c.place_of_least-col.ensures.place in
     let fits : FitsSigned w64 c.args.heights.now.least = omega (arith, ints) in
     let added : c.weighted.result ≡ pos c.args.weight *ℤ c.args.heights.now.least = c.weighted.ensures.value ∙ ap (λ z. pos c.args.weight *ℤ z) (to_z-of_z w64 c.args.heights.now.least fits) in
     omega (arith, ints, f.small_sum, f.floor, added, c.weighted.ensures.small)
@@ -38,5 +54,9 @@ returns-clause-paid c =
 pub returns-clause-bounded : goal.returns-clause-bounded
 returns-clause-bounded c =
     let matrix : IsMatrix c.args.self.now = subst IsMatrix c.self.view_is c.self.invariant in
-    let f = found c.args.self.now c.args.heights.now.least (8 * c.args.heights.now.blocks) c.args.weight c.args.heights.now.rows c.self.inside.cols c.place_of_least-col.result c.args.heights.now.cells.items c.args.p.now c.sum_rows.new.sums matrix c.requires.cells c.requires.small c.requires.rows (ap (λ (m : Grid). m.cols) c.self.view_is) (record { each = c.requires.weights; all = c.requires.weight }) c.requires.light_weight c.sum_rows.ensures c.place_of_least-col.ensures.place in
+    let f = found c.args.self.now c.args.heights.now.least
+    (8 * c.args.heights.now.blocks) c.args.weight c.args.heights.now.rows c.self.inside.cols c.place_of_least-col.result
+    c.args.heights.now.cells.items c.args.p.now c.sum_rows.new.sums matrix c.requires.cells c.requires.small c.requires.rows
+    (ap (λ (m : Grid). m.cols) c.self.view_is)
+    (record { each = c.requires.weights; all = c.requires.weight }) c.requires.light_weight c.sum_rows.ensures c.place_of_least-col.ensures.place in
     omega (arith, ints, f.small_sum, c.weighted.ensures.small)

@@ -11,7 +11,8 @@ use Rattle.matrix_game.proofs.cells.Matrix.play.Goals.{then-round-eq0, then-roun
 
 pub loop-round-init : goal.loop-round-init
 loop-round-init g c =
-    before_first c.args.self.now c.args.weight (map g.R.Regret.number c.args.regrets.now) (g.R.Regret.number c.none-all.result) c.args.counts.now c.args.best.now (pos 0) c.requires.regrets c.none-all.ensures c.requires.counts c.requires.best
+    before_first c.args.self.now c.args.weight (map g.R.Regret.number c.args.regrets.now)
+    (g.R.Regret.number c.none-all.result) c.args.counts.now c.args.best.now (pos 0) c.requires.regrets c.none-all.ensures c.requires.counts c.requires.best
 
 pub mix-requires-clause-room : goal.mix-requires-clause-room
 mix-requires-clause-room g c =
@@ -37,7 +38,8 @@ reply-reply-requires-clause-weight g c =
 
 pub overflow_add-counts : goal.overflow_add-counts
 overflow_add-counts g c =
-    let room = counts-room c.args.self.now c.args.weight c.loop-round.round c.reply-reply.result.col (map g.R.Regret.number c.loop-round.regrets) (g.R.Regret.number c.loop-round.all) c.loop-round.counts c.loop-round.best (to_z w64 c.loop-round.low-bits) c.loop-round.invariant c.reply-reply.ensures.col_in in
+    let room = counts-room c.args.self.now c.args.weight c.loop-round.round c.reply-reply.result.col (map g.R.Regret.number c.loop-round.regrets)
+    (g.R.Regret.number c.loop-round.all) c.loop-round.counts c.loop-round.best (to_z w64 c.loop-round.low-bits) c.loop-round.invariant c.reply-reply.ensures.col_in in
     omega (arith, room)
 
 pub raise-all-requires-clause-held : goal.raise-all-requires-clause-held
@@ -88,7 +90,8 @@ loop-round-preserved g c =
       | else-round-eq0+else-low-reply v ↦
           let worse : paid ≤ℤ low = let h = v.if-low-reply.false in omega (arith, ints) in
           same_before m w (t + 1) next next_all counts c.loop-round.best c.if-round-eq0.best low (to_z w64 c.if-round-eq0.low-bits) v.best-is v.low-is
-          (round_keeps m w t q all c.loop-round.counts c.loop-round.best next next_all c.mix.new.p low paid reply matrix.shaped c.loop-round.invariant round c.raise-all.ensures.all (let h = v.if-round-eq0.false in omega arith) worse)
+          (round_keeps m w t q all c.loop-round.counts c.loop-round.best next next_all c.mix.new.p low paid reply matrix.shaped c.loop-round.invariant round c.raise-all.ensures.all
+          (let h = v.if-round-eq0.false in omega arith) worse)
     ]
 
 pub returns-clause-best : goal.returns-clause-best

@@ -34,14 +34,16 @@ loop-row-preserved c =
       added = λ k h. elim c.if-p-row-gt0.branch [
         | then-p-row-gt0 w ↦
             let at : get_or heights (row * width + first + k) 0 ≡ get_or heights (row * width + (first + k)) 0 = ap (λ n. get_or heights n 0) (omega arith) in
-            let lane : get_or c.if-p-row-gt0.sums k 0 ≡ get_or c.loop-row.sums k 0 + get_or p row 0 * get_or heights (row * width + first + k) 0 = ap (λ (xs : List ℕ). get_or xs k 0) w.sums-is ∙ w.with_row-sums.ensures.added k h
+            let lane : get_or c.if-p-row-gt0.sums k 0 ≡ get_or c.loop-row.sums k 0 + get_or p row 0 * get_or heights (row * width + first + k) 0 =
+            ap (λ (xs : List ℕ). get_or xs k 0) w.sums-is ∙ w.with_row-sums.ensures.added k h
             ∙ ap (λ (xs : List ℕ). get_or c.loop-row.sums k 0 + get_or p row 0 * get_or xs (row * width + first + k) 0) w.deref.ensures.value in
             one_more_row (paid k) row (get_or c.loop-row.sums k 0) (get_or c.if-p-row-gt0.sums k 0) (paid k row) (before.added k h)
             (lane ∙ ap (λ x. get_or c.loop-row.sums k 0 + get_or p row 0 * x) at) refl
         | else-p-row-gt0 w ↦
             let none : get_or p row 0 ≡ 0 = omega (arith, w.if-p-row-gt0.false) in
             let part = ap (λ x. x * get_or heights (row * width + (first + k)) 0) none in
-            one_more_row (paid k) row (get_or c.loop-row.sums k 0) (get_or c.if-p-row-gt0.sums k 0) 0 (before.added k h) (ap (λ (xs : List ℕ). get_or xs k 0) w.sums-is ∙ omega arith) (omega (arith, part))
+            one_more_row (paid k) row (get_or c.loop-row.sums k 0) (get_or c.if-p-row-gt0.sums k 0) 0 (before.added k h)
+            (ap (λ (xs : List ℕ). get_or xs k 0) w.sums-is ∙ omega arith) (omega (arith, part))
       ];
       small = λ k h. elim c.if-p-row-gt0.branch [
         | then-p-row-gt0 w ↦ omega (arith, ap (λ (xs : List ℕ). get_or xs k 0) w.sums-is, w.with_row-sums.ensures.small k h, before.small k h)

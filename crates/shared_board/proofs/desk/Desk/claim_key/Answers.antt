@@ -2,7 +2,7 @@ use Rattle.std.proofs.Common.{rules, ◌≡◌, ℕ, ◌+◌, ◌*◌, ◌<◌, 
 use Rattle.std.proofs.lemmas.List.Elements.{All-contains}
 use Rattle.shared_board.specs.Rule.{Has}
 use Rattle.shared_board.specs.Passes.{IsUnseen}
-use Rattle.shared_board.specs.Known.{IsRowOf, IsPlace, AreKnown}
+use Rattle.shared_board.specs.Known.{IsKnownRow, IsPlace, AreKnown}
 use Rattle.shared_board.specs.declared.known.KnownRow.{KnownRow}
 use Rattle.shared_board.specs.declared.view.View.{View}
 use Rattle.shared_board.proofs.PassLemmas.{pass_claimed}
@@ -13,13 +13,14 @@ pub returns-in-Some : goal.returns-in-Some
 returns-in-Some g c =
     let keys : c.self.inside.pass.view.keys ≡ c.args.self.now.pass.view.keys = ap (λ d. d.pass.view.keys) c.self.view_is in
     let x : KnownRow = record { key = c.args.key; row = c.in-Some.row } in
-    let row = subst (λ ks. IsRowOf ks x) keys (All-contains (IsPlace c.self.inside.pass.view.keys) c.self.inside.known.places.items (Some x) c.self.invariant.1 c.in-Some.ensures) in
-    record { view = ([], refl); ok = rw c.new.ensures row.has; apart = row.apart; err = tt }
+    let row = subst (λ ks. IsKnownRow ks x) keys (All-contains (IsPlace c.self.inside.pass.view.keys) c.self.inside.known.places.items (Some x) c.self.invariant.1
+    c.in-Some.ensures) in
+    record { view = ([], refl, omega arith); ok = rw c.new.ensures row.has; apart = row.apart; err = tt }
 
 pub invariant_of-self : goal.invariant_of-self
 invariant_of-self g c =
     let did = c.claim_row.ensures in let x : KnownRow = record { key = c.args.key; row = c.in-Some-claim_row.row } in
-    let here : IsRowOf c.claim_row.new.seat.me.0.keys x = record { has = c.in-Some-claim_row.ensures.some.1; apart = did.apart } in
+    let here : IsKnownRow c.claim_row.new.seat.me.0.keys x = record { has = c.in-Some-claim_row.ensures.some.1; apart = did.apart } in
     let before = subst (λ ks. AreKnown ks c.self.inside.known.places.items) (sym (ap (λ p. p.view.keys) c.pass.view_is)) c.self.invariant.1 in (
       search rules,
       known_kept c.claim_row.new.seat.me.0.keys c.self.inside.known c.keep.new.self x c.keep.ensures here
@@ -29,8 +30,11 @@ invariant_of-self g c =
 pub invariant_of-self-in-None : goal.invariant_of-self-in-None
 invariant_of-self-in-None g c =
     let did = c.claim_row.ensures in
-    let before = subst (λ ks. AreKnown ks c.self.inside.known.places.items) (sym (ap (λ p. p.view.keys) c.pass.view_is)) c.self.invariant.1 in
-    (search rules, known_more did.keys.0 c.pass.inside.bare.seat.me.0.keys c.claim_row.new.seat.me.0.keys c.self.inside.known.places.items (ap (λ v. v.keys) did.keys.1) did.apart before)
+    let before = subst (λ ks. AreKnown ks c.self.inside.known.places.items) (sym (ap (λ p. p.view.keys) c.pass.view_is)) c.self.invariant.1 in (
+      search rules,
+      known_more did.keys.0 c.pass.inside.bare.seat.me.0.keys c.claim_row.new.seat.me.0.keys c.self.inside.known.places.items (ap (λ v. v.keys) did.keys.1) did.apart
+          before,
+    )
 
 pub invariant_of-pass : goal.invariant_of-pass
 invariant_of-pass g c = let did = c.claim_row.ensures in let board = c.board.invariant in let p = c.pass.invariant in

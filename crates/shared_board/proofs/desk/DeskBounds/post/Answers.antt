@@ -15,4 +15,5 @@ returns-clause-later g c = let did = c.post_entry.ensures in
 
 pub returns-clause-seen : goal.returns-clause-seen
 returns-clause-seen g c = let did = c.post_entry.ensures in
-    on_ok_weaker c.post_entry.result (λ n. post_seen g.G.Game.model c.args.self.now c.post_entry.new.self c.args.row c.args.e n (g.met.G.Game.lawful c.args.self.now.board.game) _ _ c.requires.entry c.requires.row) did.ok
+    on_ok_weaker c.post_entry.result (λ n. post_seen g.G.Game.model c.args.self.now c.post_entry.new.self c.args.row c.args.e n (g.met.G.Game.lawful c.args.self.now.board.game) _ _
+    c.requires.entry c.requires.row) did.ok

@@ -1,6 +1,0 @@
-use Rattle.std.proofs.lemmas.Result.{on_ok_weaker}
-use Rattle.text.proofs.TextLemmas.{then}
-use Rattle.certificate.proofs.positions.add_cards.Goals as goal
-
-pub returns : goal.returns
-returns c = on_ok_weaker c.word-3.result (λ added. then c.in_ok-word.ensures (then c.in_ok-word-2.ensures (then c.in_ok-next_list.ensures (then c.in_ok-next_list-2.ensures (then c.in_ok-next_list-3.ensures (then c.in_ok-next.ensures (then c.in_ok-add_pay.ensures added))))))) c.word-3.ensures

@@ -1,0 +1,31 @@
+-- What is asked, as values of its fields.
+use Rattle.std.specs.Prelude.{List, map}
+use Rattle.certificate.specs.declared.fields.FieldKind.{FieldKind}
+use Rattle.certificate.specs.declared.fields.Value.{Value}
+use Rattle.certificate.specs.declared.fields.Word.{Word}
+use Rattle.certificate.specs.declared.fields.Word.TheVariants as words
+use Rattle.certificate.specs.declared.report.Ask.{Ask}
+use Rattle.certificate.specs.declared.report.StageMethod.{StageMethod}
+use Rattle.certificate.specs.declared.report.StageMethod.TheVariants.{Regret, Linear}
+use Rattle.certificate.specs.declared.report.TheConstants.{ASK}
+use Rattle.certificate.specs.Fields.{AskRow}
+use Rattle.certificate.specs.Positions.{number_at, count_at, word_value_at}
+
+abbrev pub asked_kinds : List FieldKind
+asked_kinds = map (λ (row : AskRow). row.1) ASK
+
+abbrev pub method_of : Word → StageMethod
+method_of words.Linear = Linear
+method_of word = Regret
+
+-- what the values of the fields ask
+abbrev pub ask_with : List Value → Ask
+ask_with vs = record {
+  gap = number_at 0 vs;
+  weight = count_at 1 vs;
+  turns = count_at 2 vs;
+  visits = count_at 3 vs;
+  rows = count_at 4 vs;
+  workers = count_at 5 vs;
+  stages = method_of (word_value_at 6 vs);
+}

@@ -1,0 +1,76 @@
+use Rattle.std.proofs.Common.{rules, ◌≡◌, Some, pos, ◌≤ℤ◌, sym, subst, ◌∙◌, arith}
+use Rattle.std.proofs.lemmas.Int.{ints}
+use Rattle.restricted_game.proofs.ChildLemmas.{row_later}
+use Rattle.oracle_search.specs.Workers.{WorkerView, at_work}
+use Rattle.oracle_search.specs.Searches.{IsWorked}
+use Rattle.oracle_search.proofs.BetterLemmas.{gap_within}
+use Rattle.oracle_search.proofs.WorkLemmas.{worked_after}
+use Rattle.oracle_search.proofs.GrowLemmas.{worked_quiet}
+use Rattle.oracle_search.proofs.sweeps.is_enough.Goals as goal
+
+pub returns-then-is_within-clause-worked : goal.returns-then-is_within-clause-worked
+returns-then-is_within-clause-worked g c =
+    let m = g.G.Game.model c.args.setup.now.game in
+    (worked_quiet m c.args.s (m.rank c.args.s) (g.B.Bounds.view c.args.board.now) c.args.worker.now c.requires.here.kept
+    (g.B.Bounds.view c.is_within.new.board) c.is_within.ensures.later c.is_within.ensures.entries)
+
+pub returns-then-not-wants_bounds-clause-worked : goal.returns-then-not-wants_bounds-clause-worked
+returns-then-not-wants_bounds-clause-worked g c =
+    let m = g.G.Game.model c.args.setup.now.game in
+    (worked_quiet m c.args.s (m.rank c.args.s) (g.B.Bounds.view c.args.board.now) c.args.worker.now c.requires.here.kept
+    (g.B.Bounds.view c.is_within.new.board) c.is_within.ensures.later c.is_within.ensures.entries)
+
+pub bound_state-requires-clause-here : goal.bound_state-requires-clause-here
+bound_state-requires-clause-here g c =
+    let m = g.G.Game.model c.args.setup.now.game in
+    record {
+      game = c.is_within.ensures.later.game ∙ c.requires.here.game;
+      reachable = c.requires.here.reachable;
+      has_row = row_later m _ (g.B.Bounds.view c.is_within.new.board) c.args.s c.args.row c.is_within.ensures.later c.requires.here.has_row;
+      kept = (worked_quiet m c.args.s (m.rank c.args.s) (g.B.Bounds.view c.args.board.now) c.args.worker.now c.requires.here.kept
+          (g.B.Bounds.view c.is_within.new.board) c.is_within.ensures.later c.is_within.ensures.entries).kept;
+    }
+
+pub returns-in-Err-clause-worked : goal.returns-in-Err-clause-worked
+returns-in-Err-clause-worked g c =
+    let m = g.G.Game.model c.args.setup.now.game in
+    (worked_after m c.args.s _ _ (m.rank c.args.s) _ _ _ (omega arith) (omega arith)
+    (worked_quiet m c.args.s (m.rank c.args.s) (g.B.Bounds.view c.args.board.now) c.args.worker.now c.requires.here.kept
+    (g.B.Bounds.view c.is_within.new.board) c.is_within.ensures.later c.is_within.ensures.entries) c.bound_state.ensures.worked)
+
+pub gap_at-gap-requires-clause-row : goal.gap_at-gap-requires-clause-row
+gap_at-gap-requires-clause-row g c =
+    let m = g.G.Game.model c.args.setup.now.game in
+    c.bound_state.ensures.worked.board.later.keys c.args.row (m.key c.args.s) (c.is_within.ensures.later.keys c.args.row (m.key c.args.s) c.requires.here.has_row.holds)
+
+pub returns-in-Ok-note_bounds-clause-worked : goal.returns-in-Ok-note_bounds-clause-worked
+returns-in-Ok-note_bounds-clause-worked g c =
+    let m = g.G.Game.model c.args.setup.now.game in
+    subst (λ (w : WorkerView). IsWorked m c.args.s (at_work (g.B.Bounds.view c.args.board.now) c.args.worker.now) (at_work (g.B.Bounds.view c.gap_at-gap.new.board) w))
+    (sym c.note_bounds.ensures)
+    (worked_after m c.args.s _ _ (m.rank c.args.s) _ _ _ (omega arith) (omega arith)
+    (worked_after m c.args.s _ _ (m.rank c.args.s) _ _ _ (omega arith) (omega arith)
+    (worked_quiet m c.args.s (m.rank c.args.s) (g.B.Bounds.view c.args.board.now) c.args.worker.now c.requires.here.kept
+    (g.B.Bounds.view c.is_within.new.board) c.is_within.ensures.later c.is_within.ensures.entries) c.bound_state.ensures.worked)
+    (worked_quiet m c.args.s (m.rank c.args.s)
+    (g.B.Bounds.view c.bound_state.new.board) c.bound_state.new.worker c.bound_state.ensures.worked.kept
+    (g.B.Bounds.view c.gap_at-gap.new.board) c.gap_at-gap.ensures.later c.gap_at-gap.ensures.entries))
+
+pub returns-in-Err-note_bounds-clause-worked : goal.returns-in-Err-note_bounds-clause-worked
+returns-in-Err-note_bounds-clause-worked g c =
+    let m = g.G.Game.model c.args.setup.now.game in
+    subst (λ (w : WorkerView). IsWorked m c.args.s (at_work (g.B.Bounds.view c.args.board.now) c.args.worker.now) (at_work (g.B.Bounds.view c.gap_at-gap.new.board) w))
+    (sym c.note_bounds.ensures)
+    (worked_after m c.args.s _ _ (m.rank c.args.s) _ _ _ (omega arith) (omega arith)
+    (worked_after m c.args.s _ _ (m.rank c.args.s) _ _ _ (omega arith) (omega arith)
+    (worked_quiet m c.args.s (m.rank c.args.s) (g.B.Bounds.view c.args.board.now) c.args.worker.now c.requires.here.kept
+    (g.B.Bounds.view c.is_within.new.board) c.is_within.ensures.later c.is_within.ensures.entries) c.bound_state.ensures.worked)
+    (worked_quiet m c.args.s (m.rank c.args.s)
+    (g.B.Bounds.view c.bound_state.new.board) c.bound_state.new.worker c.bound_state.ensures.worked.kept
+    (g.B.Bounds.view c.gap_at-gap.new.board) c.gap_at-gap.ensures.later c.gap_at-gap.ensures.entries))
+
+pub returns-in-Ok-note_bounds-clause-last : goal.returns-in-Ok-note_bounds-clause-last
+returns-in-Ok-note_bounds-clause-last g c last enough =
+    let m = g.G.Game.model c.args.setup.now.game in
+    gap_within m (g.met.G.Game.lawful c.args.setup.now.game) c.args.s (g.B.Bounds.view c.gap_at-gap.new.board) c.gap_at-gap.result c.goal_at-goal.result
+    c.gap_at-gap.ensures.enclosed c.gap_at-gap.ensures.gap (c.goal_at-goal.ensures.last last) enough

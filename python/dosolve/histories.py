@@ -1,0 +1,118 @@
+"""Players whose moves depend on what was played, and live matches of any players."""
+from __future__ import annotations
+
+import inspect
+import math
+import random
+from collections.abc import Callable, Sequence
+from dataclasses import dataclass
+from typing import Any
+
+from .errors import InvalidError
+from .game import SIDES, Game, Side, State, side_of
+from .limits import MOST_WEIGHT
+from .plans import Sheet, chosen
+from .program import Match, Turn
+from .values import as_field, require_range
+
+HistoryPlay = Callable[[Side, Any, Sequence[Turn]], Any]
+"""A function from a side, a state and the turns played so far to probabilities or weights."""
+
+NO_PLAN = ("a player of histories has no plan by states: what it guarantees cannot be measured, "
+           "only how it does in matches (live_match, tournament)")
+
+
+@dataclass(frozen=True)
+class HistoryPlayer:
+    """A player whose move may depend on the turns that were played, and on anything else, as
+    chance: `play(side, state, history)`. It can play matches; it has no plan."""
+
+    play: HistoryPlay
+
+    def __call__(self, side: Side, state: State, history: Sequence[Turn] = ()) -> Any:
+        return self.play(side, state, history)
+
+
+def takes_history(play: Callable[..., Any]) -> bool:
+    """Whether a function takes a history beside its side and state."""
+    if isinstance(play, HistoryPlayer):
+        return True
+    try:
+        signature = inspect.signature(play)
+    except (TypeError, ValueError):
+        return False
+    if _can_take(signature, 2):
+        return False
+    if _can_take(signature, 3):
+        return True
+    raise InvalidError(f"a player is a function play(side, state) or play(side, state, history), "
+                       f"not of {signature}")
+
+
+def _can_take(signature: inspect.Signature, count: int) -> bool:
+    """Whether a function can be called with so many arguments."""
+    try:
+        signature.bind(*range(count))
+    except TypeError:
+        return False
+    return True
+
+
+Contender = Sheet | Callable[..., Any]
+"""A plan, a player of states `play(side, state)`, or a player of histories."""
+
+
+def live_match(game: Game, one: Contender, two: Contender, games: int = 1000,
+               seed: int = 0) -> Match:
+    """Games between any two players, plans among them, in Python, with the standard error of
+    their mean. Draws are made from `seed`; a player that draws for itself is not bound by it."""
+    games = as_field(games)
+    require_range("games", games, 2, 1_000_000_000)
+    source = random.Random(f"dosolve live match {seed}")
+    asks = [_asking(player, side) for player, side in zip((one, two), SIDES)]
+    payoffs, first = [], None
+    for _ in range(games):
+        turns, payoff = _one_game(game, asks, source)
+        payoffs.append(payoff)
+        first = first or (turns, payoff)
+    assert first is not None
+    mean = sum(payoffs) / games
+    error = math.sqrt(sum((payoff - mean)**2 for payoff in payoffs) / (games - 1) / games)
+    return Match(*first, games, sum(payoffs), min(payoffs), max(payoffs), error)
+
+
+Ask = Callable[[State, Sequence[Turn]], Sequence[int]]
+
+
+def _asking(player: Contender, side: Side) -> Ask:
+    """A function from a state and the turns before to whole weights."""
+    if isinstance(player, Sheet):
+        sheet = player
+        if sheet.side != side_of(side):
+            raise InvalidError(f"a plan of player {sheet.side} cannot play for player {side}")
+        return lambda state, turns: sheet.weights(state)
+    if not callable(player):
+        raise InvalidError(f"a player is a plan or a function, not {player!r}")
+    play, by_history = player, takes_history(player)
+
+    def ask(state: State, turns: Sequence[Turn]) -> tuple[int, ...]:
+        def choose(at: State) -> Any:
+            return play(side, at, turns) if by_history else play(side, at)
+        return chosen(choose, state, side, MOST_WEIGHT)
+
+    return ask
+
+
+def _one_game(game: Game, asks: Sequence[Ask],
+              source: random.Random) -> tuple[tuple[Turn, ...], int]:
+    """The turns and the payoff of one game."""
+    state = game.root()
+    turns: list[Turn] = []
+    while not state.is_end:
+        one, two = (source.choices(state.moves(side), ask(state, tuple(turns)))[0]
+                    for ask, side in zip(asks, SIDES))
+        chances = state._chances()
+        draw = source.choices(range(len(chances)), chances)[0]
+        turns.append(Turn(one, two, draw))
+        state = state.play(one=one, two=two, draw=draw)
+    return tuple(turns), state.payoff

@@ -1,0 +1,100 @@
+"""How far a search is, as the program prints it while it works."""
+from __future__ import annotations
+
+import re
+import sys
+import time
+from collections.abc import Callable, Iterable
+from dataclasses import dataclass
+from typing import TextIO
+
+from .values import as_points
+
+_LINE = re.compile(r"worker (\d+) turns (\d+) seconds (\d+)"
+                   r"(?: lower (-?\d+) upper (-?\d+) gap (\d+))?")
+
+
+@dataclass(frozen=True)
+class Progress:
+    """How far a search is: the turns that all workers have spent, the seconds since it began, and
+    both bounds with their gap in millionths, each None where they are not known yet."""
+
+    turns: int
+    seconds: float
+    lower: int | None = None
+    upper: int | None = None
+
+    @property
+    def gap(self) -> int | None:
+        """The upper bound less the lower one, in millionths."""
+        if self.lower is None or self.upper is None:
+            return None
+        return self.upper - self.lower
+
+    def __str__(self) -> str:
+        found = f"{self.seconds:.0f} s, {self.turns} turns"
+        return found if self.gap is None else f"{found}, gap {as_points(self.gap)}"
+
+
+Listener = Callable[[Progress], object]
+"""What is called with each step of a search."""
+
+
+class Follower:
+    """Makes a step of each line that the workers of one search print."""
+
+    def __init__(self, listener: Listener, since: float | None = None,
+                 bounds: tuple[int | None, int | None] = (None, None)) -> None:
+        self.listener, self.bounds = listener, bounds
+        self.since = time.monotonic() if since is None else since
+        self.turns: dict[int, int] = {}
+
+    def hear(self, line: str) -> bool:
+        """Whether the line was one of progress; then the listener was called."""
+        found = _LINE.fullmatch(line.strip())
+        if found is None:
+            return False
+        self.turns[int(found[1])] = int(found[2])
+        if found[4] is not None:
+            self.bounds = int(found[4]), int(found[5])
+        seconds = time.monotonic() - self.since
+        self.listener(Progress(sum(self.turns.values()), seconds, *self.bounds))
+        return True
+
+
+def read_progress(lines: Iterable[str]) -> list[Progress]:
+    """The steps of a search whose lines of progress were kept in a file; other lines are left
+    out."""
+    found, turns = [], {}
+    for line in lines:
+        step = _LINE.fullmatch(line.strip())
+        if step is not None:
+            turns[int(step[1])] = int(step[2])
+            bounds = (int(step[4]), int(step[5])) if step[4] is not None else (None, None)
+            found.append(Progress(sum(turns.values()), float(step[3]), *bounds))
+    return found
+
+
+class Bar:
+    """Shows progress on one line of a terminal, and nothing where there is none."""
+
+    def __init__(self, stream: TextIO | None = None, most: int | None = None) -> None:
+        self.stream = stream or sys.stderr
+        self.most = most
+        self.shown = 0
+
+    def __call__(self, step: Progress) -> None:
+        if not self.stream.isatty():
+            return
+        share = f" ({100 * step.turns / self.most:.0f}% of the turns)" if self.most else ""
+        text = f"dosolve: {step}{share}"
+        self.stream.write("\r" + text.ljust(self.shown))
+        self.stream.flush()
+        self.shown = len(text)
+
+    def close(self) -> None:
+        """Clears the line."""
+        if self.shown:
+            self.stream.write("\r" + " " * self.shown + "\r")
+            self.stream.flush()
+            self.shown = 0

@@ -1,0 +1,222 @@
+"""Sweeps: many positions solved by any executor, in order, kept in a file that can be resumed."""
+from __future__ import annotations
+
+import json
+import os
+import signal
+import time
+from collections.abc import Generator, Iterable, Iterator
+from concurrent.futures import FIRST_COMPLETED, BrokenExecutor, Executor, Future
+from concurrent.futures import ProcessPoolExecutor, wait
+from contextlib import AbstractContextManager, closing, nullcontext
+from dataclasses import dataclass, field
+from pathlib import Path
+from typing import IO, Any
+
+from .errors import DosolveError, InvalidError
+from .positions import FilePath, Position, processors, require_position
+from .program import Solver
+from .reports import Report
+
+MOST_WAITING = 256
+"""How many positions an executor is handed at once."""
+
+_TRIES = 3
+
+
+@dataclass(frozen=True)
+class Swept:
+    """One position of a sweep: its number from 0 and its text, the report or the error, and the
+    seconds that the search took."""
+
+    number: int
+    text: str
+    report: Report | None
+    error: str | None
+    seconds: float
+
+    @property
+    def position(self) -> Position:
+        """The position; raises what is wrong with its text."""
+        return Position.read(self.text)
+
+    def record(self) -> dict[str, Any]:
+        """The line of the output file, without the position's number."""
+        found: dict[str, Any] = {"position": self.text.strip(), "seconds": round(self.seconds, 3)}
+        if self.report is None:
+            return found | {"error": self.error}
+        return found | self.report.record() | {"report": self.report.text()}
+
+
+def sweep(positions: Iterable[Position | str], executor: Executor | None = None,
+          output: FilePath | None = None, solver: Solver | None = None,
+          seconds: float | None = None) -> Iterator[Swept]:
+    """Solves positions, and gives the results in their order, each as soon as it is there.
+
+    The executor is any of `concurrent.futures`, as Dask's `Client.get_executor()` and
+    `mpi4py.futures.MPIPoolExecutor`; without one, processes of this machine, as many as there are
+    processors for the workers of a position. A position whose search fails gives a result with
+    `error`, and the sweep goes on. With `output`, each result is a line of JSON in that file, and
+    what is already there is not solved again, except failures; so a sweep that was stopped
+    goes on where it was when it is started once more. Positions can be texts too.
+    """
+    texts = [_text(position) for position in positions]
+    known = _read_output(output) if output is not None and Path(output).exists() else {}
+    todo = [number for number, text in enumerate(texts) if text.strip() not in known]
+    jobs = {number: (texts[number], solver or Solver(), seconds) for number in todo}
+    return _in_order(texts, known, _solved(jobs, executor), output)
+
+
+def _text(position: Position | str) -> str:
+    if isinstance(position, str):
+        return position.strip() + "\n"
+    return require_position(position, "sweep").text()
+
+
+def _in_order(texts: list[str], known: dict[str, Swept],
+              found: Generator[Swept, None, None], output: FilePath | None) -> Iterator[Swept]:
+    """The results in the order of the positions; each new one is written when it comes."""
+    ready: dict[int, Swept] = {}
+    with _opened(output) as file, closing(found):
+        for number, text in enumerate(texts):
+            old = known.get(text.strip())
+            if old is not None:
+                yield Swept(number, text, old.report, None, old.seconds)
+                continue
+            while number not in ready:
+                new = next(found)
+                ready[new.number] = new
+                if file is not None:
+                    file.write(json.dumps(new.record()) + "\n")
+                    file.flush()
+            yield ready.pop(number)
+
+
+def _opened(output: FilePath | None) -> AbstractContextManager[IO[str] | None]:
+    """The output file, to be appended to; a last line that was cut off is ended."""
+    if output is None:
+        return nullcontext()
+    path = Path(output)
+    cut = path.exists() and path.stat().st_size > 0 and not path.read_bytes().endswith(b"\n")
+    file = open(path, "a", encoding="utf-8")
+    if cut:
+        file.write("\n")
+    return file
+
+
+def _read_output(output: FilePath) -> dict[str, Swept]:
+    """The results of an output file by their positions; lines that were cut off, and failures, are
+    left out."""
+    found = {}
+    for line in Path(output).read_text(encoding="utf-8").splitlines():
+        try:
+            entry = json.loads(line)
+            report = Report.read(entry["report"])
+            found[entry["position"]] = Swept(0, entry["position"], report, None, entry["seconds"])
+        except (ValueError, KeyError, TypeError, DosolveError):
+            continue
+    return found
+
+
+@dataclass
+class _Jobs:
+    """The jobs of a sweep, those that wait for an executor and those that run."""
+
+    jobs: dict[int, tuple[str, Solver, float | None]]
+    waiting: list[int] = field(default_factory=list)
+    running: dict[Future[Swept], int] = field(default_factory=dict)
+    tries: dict[int, int] = field(default_factory=dict)
+    broken: bool = False
+
+    def submit(self, executor: Executor) -> None:
+        """Hands over as many jobs as the executor may have; those of a broken one by themselves,
+        so that the one that breaks it is found."""
+        while self.waiting and len(self.running) < MOST_WAITING:
+            if self.waiting[0] in self.tries and self.running:
+                break
+            number = self.waiting.pop(0)
+            self.running[executor.submit(_solve, number, *self.jobs[number])] = number
+            if number in self.tries:
+                break
+
+    def take(self) -> Iterator[Swept]:
+        """What has ended; jobs of an executor that broke wait again, until they broke three."""
+        done, _ = wait(self.running, return_when=FIRST_COMPLETED)
+        for future in done:
+            number = self.running.pop(future)
+            try:
+                yield future.result()
+            except BrokenExecutor as fault:
+                self.broken = True
+                self.tries[number] = self.tries.get(number, 0) + 1
+                if self.tries[number] >= _TRIES:
+                    yield self._failed(number, fault)
+                else:
+                    self.waiting.insert(0, number)
+            except Exception as fault:
+                yield self._failed(number, fault)
+
+    def _failed(self, number: int, fault: Exception) -> Swept:
+        error = f"{type(fault).__name__}: {fault}"
+        return Swept(number, self.jobs[number][0], None, error, 0.0)
+
+
+def _solved(jobs: dict[int, tuple[str, Solver, float | None]],
+            executor: Executor | None) -> Generator[Swept, None, None]:
+    """The results as they come."""
+    left = _Jobs(jobs, list(jobs))
+    own = None
+    try:
+        while left.waiting or left.running:
+            if executor is None and own is None:
+                own = ProcessPoolExecutor(_size(jobs), initializer=_leave_quietly)
+            pool = executor or own
+            assert pool is not None
+            try:
+                left.submit(pool)
+                yield from left.take()
+            except BrokenExecutor:
+                if executor is not None:
+                    raise
+            if own is not None and left.broken:
+                own.shutdown()
+                own, left.broken = None, False
+    finally:
+        for future in left.running:
+            future.cancel()
+        if own is not None:
+            own.shutdown(cancel_futures=True)
+
+
+def _leave_quietly() -> None:
+    """Ends a process of the pool at Ctrl-C without a word; the sweep itself reports it."""
+    signal.signal(signal.SIGINT, lambda *_: os._exit(130))
+
+
+def _size(jobs: dict[int, tuple[str, Solver, float | None]]) -> int:
+    """How many processes this machine has room for."""
+    most = 1
+    for text, _, _ in jobs.values():
+        try:
+            most = max(most, Position.read(text).workers)
+        except DosolveError:
+            continue
+    return max(1, min(len(jobs), processors() // most))
+
+
+def _solve(number: int, text: str, solver: Solver, seconds: float | None) -> Swept:
+    """Solves one position; what an executor runs."""
+    since = time.monotonic()
+    report, error = None, None
+    try:
+        report = solver.solve(Position.read(text), seconds)
+    except (DosolveError, OSError) as fault:
+        error = f"{type(fault).__name__}: {fault}"
+    return Swept(number, text, report, error, time.monotonic() - since)
+
+
+def read_positions(path: FilePath) -> list[str]:
+    """The lines of a file, each one a position as JSON; empty lines are left out."""
+    if os.fspath(path).endswith(".json"):
+        raise InvalidError(f"{path} has to be a file with one position on each line (.jsonl)")
+    return [line for line in Path(path).read_text(encoding="utf-8").splitlines() if line.strip()]

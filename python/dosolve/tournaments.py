@@ -1,0 +1,137 @@
+"""Tournaments: each player against each on each position, as one table."""
+from __future__ import annotations
+
+import csv
+import io
+import json
+from collections.abc import Iterable, Mapping
+from dataclasses import dataclass
+from fractions import Fraction
+from typing import Any
+
+from .errors import InvalidError
+from .exact import expected_of
+from .game import SIDES, Side
+from .histories import Contender, live_match, takes_history
+from .measuring import plan_of
+from .plans import Sheet
+from .positions import Position, require_position
+from .values import cut
+
+SOLVER = "solver"
+"""The name under which the solver's plans take part."""
+
+_COLUMNS = ("position", "game", "one", "two", "payoff", "error", "games")
+
+
+@dataclass(frozen=True)
+class Pairing:
+    """One meeting: the number of the position, its game, both players' names, the payoff of One,
+    its standard error and the games; the payoff is exact where the error is 0 and no games were
+    played."""
+
+    position: int
+    game: str
+    one: str
+    two: str
+    payoff: float
+    error: float
+    games: int
+
+
+@dataclass(frozen=True)
+class Tournament:
+    """All meetings of a tournament."""
+
+    pairings: tuple[Pairing, ...]
+
+    def table(self) -> list[dict[str, Any]]:
+        """The meetings as records, as `pandas.DataFrame` takes them."""
+        return [{column: getattr(pairing, column) for column in _COLUMNS}
+                for pairing in self.pairings]
+
+    def standings(self) -> list[dict[str, Any]]:
+        """Each player's mean payoff as One and as Two (its own: One's negative) and over both, the
+        best first."""
+        names = dict.fromkeys(name for pairing in self.pairings for name in (pairing.one,
+                                                                             pairing.two))
+        found: list[dict[str, Any]] = []
+        for name in names:
+            one = [pairing.payoff for pairing in self.pairings if pairing.one == name]
+            two = [-pairing.payoff for pairing in self.pairings if pairing.two == name]
+            found.append({"player": name, "as one": _mean(one), "as two": _mean(two),
+                          "mean": _mean(one + two)})
+        return sorted(found, key=lambda standing: -float(standing["mean"]))
+
+    def markdown(self) -> str:
+        """The standings and the meetings as tables of Markdown."""
+        return _markdown(self.standings()) + "\n" + _markdown(self.table())
+
+    def csv(self) -> str:
+        """The meetings as comma-separated values."""
+        text = io.StringIO()
+        writer = csv.DictWriter(text, _COLUMNS, lineterminator="\n")
+        writer.writeheader()
+        writer.writerows(self.table())
+        return text.getvalue()
+
+    def json(self) -> str:
+        """The standings and the meetings as one object of JSON."""
+        return json.dumps({"standings": self.standings(), "meetings": self.table()}) + "\n"
+
+
+def tournament(players: Mapping[str, Contender], positions: Iterable[Position],
+               solver: Any = None, games: int = 1000, seed: int = 0) -> Tournament:
+    """Each player against each, itself too, on each position.
+
+    Two players of states meet in an exact expected payoff; where one is a player of histories, in
+    `games` live games with a standard error. With `solver`, a `Solver`, the solver's own plans
+    take part under the name `solver`.
+    """
+    if solver is not None and SOLVER in players:
+        raise InvalidError(f"no player can be named {SOLVER} where the solver takes part")
+    found: list[Pairing] = []
+    for number, position in enumerate(positions):
+        require_position(position, "tournament")
+        ready = {name: {side: _ready(position, player, side) for side in SIDES}
+                 for name, player in players.items()}
+        if solver is not None:
+            report = solver.solve(position)
+            ready[SOLVER] = {"one": report.one, "two": report.two}
+        line = position.game.line()
+        for one in ready:
+            for two in ready:
+                met = _meet(position, ready[one]["one"], ready[two]["two"], games, seed)
+                found.append(Pairing(number, line, one, two, *met))
+    return Tournament(tuple(found))
+
+
+def _ready(position: Position, player: Contender, side: Side) -> Contender:
+    """The player's plan where it has one."""
+    if isinstance(player, Sheet) or not takes_history(player):
+        return plan_of(position, player, side)
+    return player
+
+
+def _meet(position: Position, one: Contender, two: Contender, games: int,
+          seed: int) -> tuple[float, float, int]:
+    """The payoff of One, its standard error, and the games."""
+    if isinstance(one, Sheet) and isinstance(two, Sheet):
+        payoff: Fraction = expected_of(one, two)
+        return float(payoff), 0.0, 0
+    match = live_match(position.game, one, two, games, seed)
+    return float(match.mean), match.error or 0.0, games
+
+
+def _mean(numbers: list[float]) -> float:
+    return sum(numbers) / len(numbers) if numbers else 0.0
+
+
+def _markdown(records: list[dict[str, Any]]) -> str:
+    """Records as a table."""
+    if not records:
+        return ""
+    lines = [list(records[0]), ["---"] * len(records[0])]
+    lines += [[f"{value:.6f}" if isinstance(value, float) else cut(str(value), 60)
+               for value in record.values()] for record in records]
+    return "".join(f"| {' | '.join(line)} |\n" for line in lines)

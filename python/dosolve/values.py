@@ -1,0 +1,53 @@
+"""Numbers and lists as users have them: Python's own, and those of numpy and pandas."""
+from __future__ import annotations
+
+from collections.abc import Sequence, Set
+from numbers import Integral
+from typing import Any, TypeGuard
+
+from .errors import InvalidError
+
+
+def as_plain(value: Any) -> Any:
+    """The value as Python's own: a number or array of numpy, or a series of pandas, as a number or
+    a list. Anything else stays as it is."""
+    listed = getattr(value, "tolist", None)
+    return listed() if callable(listed) else value
+
+
+def as_field(value: Any) -> Any:
+    """A setting of a game or of a search: whole numbers as int, lists as tuples of them."""
+    value = as_plain(value)
+    if isinstance(value, Sequence) and not isinstance(value, (str, bytes)):
+        return tuple(as_field(each) for each in value)
+    return int(value) if isinstance(value, Integral) and not isinstance(value, bool) else value
+
+
+def is_whole(value: object) -> TypeGuard[int]:
+    """Whether the value is a whole number; True and False are none."""
+    return isinstance(value, int) and not isinstance(value, bool)
+
+
+def require_range(what: str, value: object, low: int, high: int) -> None:
+    """Refuses a value that is no whole number from `low` to `high`."""
+    if not is_whole(value) or not low <= value <= high:
+        raise InvalidError(f"{what} is {shorten(value)}, and has to be a whole number from {low} "
+                           f"to {high}")
+
+
+def shorten(value: object, most: int = 60) -> str:
+    """A value to show in a message."""
+    if isinstance(value, Set) and not isinstance(value, frozenset):
+        return f"a set, {cut(repr(value), most)}"
+    return cut(repr(value), most)
+
+
+def cut(text: str, most: int) -> str:
+    """A text, its end left out where it is long."""
+    return text if len(text) <= most else text[:most - 2] + ".."
+
+
+def as_points(millionths: int) -> str:
+    """Millionths of a payoff as a payoff, exactly: 6 digits behind the point."""
+    whole, rest = divmod(abs(millionths), 1_000_000)
+    return f"{'-' if millionths < 0 else ''}{whole}.{rest:06d}"

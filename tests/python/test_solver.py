@@ -1,0 +1,165 @@
+"""The solver's own ways: time, Ctrl-C, progress, notes on what was found, wrong programs."""
+import dataclasses
+import io
+import math
+import os
+import pickle
+import signal
+import subprocess
+import sys
+import tempfile
+import time
+import unittest
+from pathlib import Path
+
+import dosolve
+from support import TOP
+
+GAME = dosolve.Goofspiel([1, 3], [2, 3], [1, 1])
+POSITION = dosolve.Position(GAME, 0, 8192, 10**6, 10**6, 1024, 1, "regret")
+
+
+class Programs(unittest.TestCase):
+    def program(self, script):
+        """A program in place of dosolve."""
+        folder = tempfile.TemporaryDirectory()
+        self.addCleanup(folder.cleanup)
+        file = Path(folder.name, "dosolve")
+        file.write_text("#!/bin/sh\n" + script)
+        file.chmod(0o755)
+        return file
+
+    def slow_program(self):
+        """A program that answers where 0 or 256 turns are given, and else works for half a
+        minute."""
+        row = dosolve.Row(GAME.root().key, -10**6, (1, 8191))
+        two, empty = (dosolve.Sheet(GAME, side, 8192) for side in ("two", "one"))
+        report = dosolve.Report.of(dosolve.Sheet(GAME, "one", 8192, [row]), two)
+        report = dataclasses.replace(report, turns=256, spent=(256,), outcome="spent")
+        script = self.program(
+            'position=$(cat)\ncase "$position" in *\'"turns":256,\'*) cat "$0.report" ;;\n'
+            '*\'"turns":0,\'*) cat "$0.first" ;;\n*) echo worker 0 turns 5 seconds 1 >&2\n'
+            'echo worker 0 turns 9 seconds 2 lower -5 upper 7 gap 12 >&2\nexec sleep 30 ;; esac\n')
+        Path(f"{script}.report").write_text(report.text())
+        Path(f"{script}.first").write_text(dosolve.Report.of(empty, two).text())
+        return script, report
+
+
+class Time(Programs):
+    def test_the_best_report_is_handed_back_when_time_is_up(self):
+        program, report = self.slow_program()
+        since, steps = time.monotonic(), []
+        found = dosolve.solve(POSITION, program, seconds=2, progress=steps.append)
+        self.assertEqual(found, report)
+        self.assertLess(time.monotonic() - since, 20)
+        self.assertEqual(found.used_up, ("turns",))
+        self.assertEqual([(step.turns, step.lower, step.upper, step.gap) for step in steps],
+                         [(5, report.lower, report.upper, report.gap), (9, -5, 7, 12)])
+
+    def test_with_no_time_there_is_the_report_of_no_search(self):
+        found = dosolve.solve(POSITION, seconds=0)
+        self.assertTrue(found.is_vacuous)
+        self.assertEqual(dosolve.check(found).outcome, found.outcome)
+
+    def test_a_search_that_ends_is_handed_back(self):
+        found = dosolve.solve(POSITION, seconds=math.inf)
+        self.assertEqual((found.lower, found.upper, found.used_up), (-500_000, -500_000, ()))
+
+    def test_interrupted_there_is_the_best_report(self):
+        program, report = self.slow_program()
+        words = (f"import dosolve, math; p = dosolve.Position.read({POSITION.text()!r}); "
+                 f"print(dosolve.solve(p, {str(program)!r}, seconds=math.inf, "
+                 f"progress=lambda step: print(step, flush=True)).text())")
+        run = subprocess.Popen([sys.executable, "-c", words], stdout=subprocess.PIPE, text=True,
+                               env=os.environ | {"PYTHONPATH": str(TOP / "python")})
+        self.assertIn("5 turns", run.stdout.readline())
+        run.send_signal(signal.SIGINT)
+        answer, _ = run.communicate(timeout=20)
+        self.assertEqual((run.returncode, answer[answer.index("dosolve"):].strip()),
+                         (0, report.text().strip()))
+
+    def test_a_limit_of_time_is_an_error_of_time(self):
+        program = self.program("cat > /dev/null; exec sleep 30")
+        for error in (TimeoutError, dosolve.ProgramFailed, dosolve.DosolveError):
+            with self.assertRaisesRegex(error, "solve took more than 0.2 seconds"):
+                dosolve.Solver(program, 0.2).solve(POSITION)
+        for seconds in (-1, "x", math.nan):
+            with self.assertRaisesRegex(dosolve.InvalidError, "seconds is"):
+                dosolve.solve(POSITION, seconds=seconds)
+
+
+class Steps(unittest.TestCase):
+    def test_lines_are_read_with_and_without_bounds(self):
+        lines = ["worker 0 turns 12 seconds 1", "nothing of it", "worker 1 turns 5 seconds 1",
+                 "worker 0 turns 20 seconds 2 lower -1000000 upper 500000 gap 1500000"]
+        found = dosolve.read_progress(lines)
+        self.assertEqual([step.turns for step in found], [12, 17, 25])
+        self.assertEqual([step.gap for step in found], [None, None, 1_500_000])
+        self.assertEqual(str(found[2]), "2 s, 25 turns, gap 1.500000")
+
+    def test_the_bar_is_for_terminals(self):
+        class Terminal(io.StringIO):
+            def isatty(self):
+                return True
+        for stream, shown in ((io.StringIO(), ""), (Terminal(), "dosolve: 2 s, 30 turns (30%")):
+            bar = dosolve.Bar(stream, 100)
+            bar(dosolve.Progress(30, 2.0))
+            self.assertIn(shown, stream.getvalue())
+            bar.close()
+            self.assertTrue(not shown or stream.getvalue().endswith("\r"))
+
+
+class Notes(unittest.TestCase):
+    def test_what_the_bounds_are_worth(self):
+        position = dosolve.Position(dosolve.OshiZumo(3, 20, 20, 1), 0, 8192, 0, 0, 1 << 16, 1,
+                                    "regret")
+        found = dosolve.solve(position)
+        self.assertEqual((found.outcome, found.is_vacuous), ("settled", True))
+        self.assertIn("no better than the range of payoffs", str(found))
+        self.assertIn("no turns were given", str(found))
+        few = dosolve.solve(dataclasses.replace(position, turns=10, visits=10**6))
+        self.assertEqual(few.used_up, ("turns",))
+        self.assertIn("used up its turns", str(few))
+        good = dosolve.solve(POSITION)
+        self.assertEqual((good.notes(), good.is_vacuous, good.used_up), ((), False, ()))
+        end = dosolve.solve(dataclasses.replace(POSITION, game=dosolve.Goofspiel([], [], [])))
+        self.assertEqual((end.is_vacuous, end.notes(), end.span), (False, (), 0))
+        few_rows = dosolve.solve(dosolve.Position(dosolve.Goofspiel([1, 2, 3, 4], [1, 2, 3, 4],
+                                                                    [1, 2, 3, 4]), 0, 8192, 10**6,
+                                                  10**6, 3, 1, "regret"))
+        self.assertEqual(few_rows.used_up, ("rows",) if few_rows.outcome == "full" else ())
+
+
+class Wrong(Programs):
+    def test_wrong_programs_are_told_for_what_they_are(self):
+        for script, words in (("exit 0", "gave no report .report head., nothing at all; is it d"),
+                              ("cat", "gave no report .report head.: '.*; is it dosolve"),
+                              ("exit 1", "is not dosolve, or failed: status 1"),
+                              ("exit 2", "is not dosolve, or failed: status 2"),
+                              ("echo hm; exit 9", "is not dosolve, or failed: status 9: hm"),
+                              ("kill -9 $$", "failed: status -9")):
+            with self.subTest(script), self.assertRaisesRegex(dosolve.ProgramFailedError, words):
+                dosolve.solve(POSITION, self.program(script))
+        older = self.program("cat > /dev/null; echo input 13 unknown field; exit 2")
+        with self.assertRaisesRegex(dosolve.InputRefusedError, "older than this package"):
+            dosolve.solve(dosolve.Position(GAME), older)
+
+    def test_what_is_no_position_or_report_is_said(self):
+        for given, words in ((GAME, r"takes a Position, not .*; Position\(Goofspiel"),
+                             ("file.json", "Position.load reads a file"), (7, "not 7")):
+            for call in (dosolve.solve, dosolve.bounds):
+                with self.assertRaisesRegex(dosolve.InvalidError, words):
+                    call(given)
+        with self.assertRaisesRegex(dosolve.InvalidError, "check takes a Report or its text"):
+            dosolve.check(POSITION)
+
+    def test_errors_can_be_sent(self):
+        for error in (dosolve.InputRefusedError("input 15 range of gap", "gap is 9"),
+                      dosolve.ReportRefusedError("report line 7"), dosolve.PlayerError("x"),
+                      dosolve.ProgramFailedError("x", 8), dosolve.ProgramTimeoutError("x")):
+            again = pickle.loads(pickle.dumps(error))
+            self.assertEqual((str(again), vars(again)), (str(error), vars(error)))
+
+
+if __name__ == "__main__":
+    unittest.main()

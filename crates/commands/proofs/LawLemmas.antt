@@ -13,7 +13,7 @@ use Rattle.certificate.specs.declared.positions.PositionText.{PositionText}
 use Rattle.certificate.specs.declared.report.Report.{Report}
 use Rattle.certificate.specs.Ranges.{IsInRange}
 use Rattle.certificate.specs.Texts.{report_text}
-use Rattle.position.specs.declared.error.InputError.{InputError}
+use Rattle.position.specs.declared.games.InputError.{InputError}
 use Rattle.position.proofs.GameLemmas.{of_game_weaker, of_one_game}
 use Rattle.position.specs.Objects.{◌>>=◌, known_at}
 use Rattle.position.specs.Position.{TaskText, object_at, game_at, ask_at, refuse_if, task_of, position_of}

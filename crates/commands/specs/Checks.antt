@@ -3,7 +3,7 @@ use Rattle.std.specs.Prelude.{◌≡◌, ℕ, List, length, nat_lt, if◌then◌
 use Rattle.certificate.specs.declared.error.TextError.{TextError}
 use Rattle.certificate.specs.declared.report.Report.{Report}
 use Rattle.certificate.specs.Reading.{read_report}
-use Rattle.position.specs.declared.error.InputError.{InputError}
+use Rattle.position.specs.declared.games.InputError.{InputError}
 use Rattle.position.specs.Games.{fault_of}
 use Rattle.checker.specs.declared.verdict.Why.{Why}
 use Rattle.checker.specs.declared.verdict.Verdict.{Verdict}

@@ -6,8 +6,8 @@ use Rattle.certificate.specs.declared.error.TextError.{TextError}
 use Rattle.certificate.specs.declared.error.TextError.TheVariants as errors
 use Rattle.certificate.specs.declared.report.Report.{Report}
 use Rattle.certificate.specs.Texts.{outcome_word}
-use Rattle.position.specs.declared.error.InputError.{InputError}
-use Rattle.position.specs.Refusals.{code_of}
+use Rattle.position.specs.declared.games.InputError.{InputError}
+use Rattle.position.specs.Games.{code_of}
 use Rattle.checker.specs.declared.verdict.Why.{Why}
 use Rattle.checker.specs.declared.verdict.Why.TheVariants.{Weights, Bound, Idle, Root, Outside, OutcomeWrong, ResolutionWrong}
 use Rattle.commands.specs.declared.reports.ReportFault.{ReportFault}

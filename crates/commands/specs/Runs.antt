@@ -6,7 +6,7 @@ use Rattle.certificate.specs.declared.report.Outcome.TheVariants.{Closed, Settle
 use Rattle.certificate.specs.declared.report.Report.{Report}
 use Rattle.certificate.specs.Texts.{report_text}
 use Rattle.certificate.specs.Reading.{read_report}
-use Rattle.position.specs.declared.error.InputError.{InputError}
+use Rattle.position.specs.declared.games.InputError.{InputError}
 use Rattle.position.specs.Position.{TaskText, position_of}
 use Rattle.position.specs.Causes.{Rose}
 use Rattle.position.specs.Taken.{SourceState, SinkState, ConsumesAtMost, AppendsFront}

@@ -1,7 +1,7 @@
 -- The texts of the program, each one line.
 use Rattle.std.specs.Prelude.{ℕ, List, [], ◌∷◌, ◌++◌, codes, decimal}
-use Rattle.position.specs.declared.error.InputError.{InputError}
-use Rattle.position.specs.Refusals.{code_of, words_of}
+use Rattle.position.specs.declared.games.InputError.{InputError}
+use Rattle.position.specs.Games.{code_of, words_of}
 
 abbrev pub usage_text : List ℕ
 usage_text = codes "usage: dosolve solve, check, bounds, sample N, exploit SIDE or play COUNT SEED\n"

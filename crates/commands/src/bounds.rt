@@ -50,7 +50,7 @@ pub(crate) fn bounded(alloc: Global, bytes: &[u8]) -> Result<Answer, NoMemory>
     ensures { IfOk result (λ a. IsBounded bytes.now a.status a.text) }
 {
     match position(alloc, bytes) {
-        Ok(task) => match task.game.accept(RootSearcher {
+        Ok(task) => match task.game().accept(RootSearcher {
             alloc,
             ask: task.ask,
         }) {

@@ -5,6 +5,7 @@ ghost use Rattle.std.specs.declared.result.Result.TheVariants.{Ok, Err};
 ghost use Rattle.certificate.specs.Ranges.{IsInRange};
 ghost use Rattle.checker.specs.Verdicts.{IsVerdict};
 ghost use Rattle.position.specs.Games.{IsGameOf};
+ghost use Rattle.position.specs.Playable.{IsPlayable, IsPlayable-prop};
 ghost use Rattle.commands.specs.Reports.{accepted_text, fault_text};
 ghost use Rattle.commands.specs.Checks.{most_report, report_in, IsChecked};
 
@@ -12,31 +13,39 @@ use crate::reports::{ReportFault, accepted_text, words};
 use crate::run::{Answer, written};
 use certificate::{Report, TextError, read};
 use checker::{Verdict, check};
-use position::{AnyGame, GameVisitor, build};
+use position::{AnyGame, GameVisitor, build, game_of};
 use seq::Seq;
 use sim_game::{Game, NoMemory};
 use std::alloc::Global;
 use text::Text;
 
-/// A report that was read, and the game of its position.
+/// A report whose position breaks no rule of its game.
 #[derive(Drop)]
 pub(crate) struct ReportedGame {
     pub(crate) report: Report,
-    pub(crate) game: AnyGame,
+    ghost playable: { IsPlayable report.position } by { IsPlayable-prop report.position },
 }
 
-/// The report of the bytes, which are not too many, and its game; or what is wrong first.
+impl ReportedGame {
+    /// The game of the report's position, which borrows from its text.
+    pub(crate) fn game(&self) -> AnyGame
+        ensures { IsGameOf self.now.report.position result }
+    {
+        game_of(&self.report.position)
+    }
+}
+
+/// The report of the bytes, which are not too many, where its position can be played; or what is wrong first.
 #[tactic(auto, unfolding(crate::specs::Checks::report_in))]
 pub(crate) fn report_in(alloc: Global, bytes: &[u8]) -> Result<ReportedGame, ReportFault>
     requires { length bytes.now ≤ most_report }
     ensures { MatchResult result
-        (λ found. (report_in bytes.now ≡ Ok found.report) × IsInRange found.report
-        × IsGameOf found.report.position found.game)
+        (λ found. (report_in bytes.now ≡ Ok found.report) × IsInRange found.report)
         (λ fault. fault ≢ ReportFault.Text TextError.NoMemory → report_in bytes.now ≡ Err fault) }
 {
     match read(alloc, bytes) {
         Ok(report) => match build(&report.position) {
-            Ok(game) => Ok(ReportedGame { report, game }),
+            Ok(_) => Ok(ReportedGame { report }),
             Err(error) => Err(ReportFault::Position(error)),
         },
         Err(error) => Err(ReportFault::Text(error)),
@@ -71,11 +80,11 @@ pub(crate) fn checked(alloc: Global, bytes: &[u8]) -> Result<Answer, NoMemory>
     ensures { IfOk result (λ a. IsChecked bytes.now a.status a.text) }
 {
     match report_in(alloc, bytes) {
-        Ok(ReportedGame { report, game }) => match game.accept(Judge {
+        Ok(found) => match found.game().accept(Judge {
             alloc,
-            report: &report,
+            report: &found.report,
         }) {
-            Ok(Verdict::Accepted) => accepted(alloc, &report),
+            Ok(Verdict::Accepted) => accepted(alloc, &found.report),
             Ok(Verdict::Refused(why)) => faulty(alloc, ReportFault::Refused(why)),
             Err(_) => Err(NoMemory),
         },

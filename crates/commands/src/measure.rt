@@ -6,7 +6,7 @@ ghost use Rattle.certificate.specs.Ranges.{IsInRange};
 ghost use Rattle.commands.specs.Checks.{most_report};
 ghost use Rattle.commands.specs.Measured.{IsExploited, IsMeasured, full_text, measured_text, sheet_of, worth_words};
 
-use crate::check::{ReportedGame, faulty, report_in};
+use crate::check::{faulty, report_in};
 use crate::run::{Answer, written};
 use certificate::Report;
 use exploit::{WorstCase, WorstError, Worth, is_worst, worst};
@@ -59,9 +59,9 @@ pub(crate) fn exploited(alloc: Global, side: Side, bytes: &[u8]) -> Result<Answe
     ensures { IfOk result (λ a. IsExploited side bytes.now a.status a.text) }
 {
     match report_in(alloc, bytes) {
-        Ok(ReportedGame { report, game }) => match game.accept(Measurer {
+        Ok(found) => match found.game().accept(Measurer {
             alloc,
-            report: &report,
+            report: &found.report,
             side,
         }) {
             Ok(case) => measured(alloc, side, case.worth),

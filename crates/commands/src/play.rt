@@ -8,7 +8,7 @@ ghost use Rattle.certificate.specs.Ranges.{IsInRange};
 ghost use Rattle.commands.specs.Checks.{most_report};
 ghost use Rattle.commands.specs.Matches.{IsMatch, IsPlayedMatch, match_text, totals_text, turn_text, turns_text};
 
-use crate::check::{ReportedGame, faulty, report_in};
+use crate::check::{faulty, report_in};
 use crate::run::{Answer, written};
 use certificate::Report;
 use position::GameVisitor;
@@ -58,9 +58,9 @@ pub(crate) fn played(alloc: Global, games: u32, seed: u64, bytes: &[u8]) -> Resu
     ensures { IfOk result (λ a. IsPlayedMatch games seed bytes.now a.status a.text) }
 {
     match report_in(alloc, bytes) {
-        Ok(ReportedGame { report, game }) => match game.accept(Referee {
+        Ok(found) => match found.game().accept(Referee {
             alloc,
-            report: &report,
+            report: &found.report,
             games,
             seed,
         }) {

@@ -5,14 +5,14 @@ ghost use Rattle.certificate.specs.Ranges.{IsAskInRange, IsInRange, IsPositionIn
 ghost use Rattle.certificate.specs.Reading.{read_report};
 ghost use Rattle.certificate.specs.Texts.{report_text};
 ghost use Rattle.lazy_workers.specs.Solutions.{IsSolvedGame};
-ghost use Rattle.position.specs.Games.{model_of};
+ghost use Rattle.position.specs.Games.{OfSame};
 ghost use Rattle.commands.specs.Runs.{status_of, IsSolved};
 
 use crate::run::{Answer, refused};
 use certificate::{Ask, Outcome, PositionText, Report, write};
 use lazy_workers::{Solved, solve};
 use oracle_search::Gate;
-use position::{AnyGame, position};
+use position::{AnyGame, position, with_game};
 use seq::Seq;
 use sim_game::NoMemory;
 use std::alloc::Global;
@@ -29,15 +29,9 @@ fn solve_any<R: Threads + Sync, T: Gate + Sync>(
 ) -> Result<Solved, NoMemory>
     requires ask { IsAskInRange ask.now }
     requires position { IsPositionInRange position }
-    ensures { IfOk result (IsSolvedGame (model_of game) position ask.now) }
+    ensures { OfSame game (λ S m. IfOk result (IsSolvedGame m position ask.now)) }
 {
-    match game {
-        AnyGame::Goofspiel(g) => solve(rt, alloc, g, position, ask, gate),
-        AnyGame::OshiZumo(g) => solve(rt, alloc, g, position, ask, gate),
-        AnyGame::Tron(g) => solve(rt, alloc, g, position, ask, gate),
-        AnyGame::GoofspielDrawn(g) => solve(rt, alloc, g, position, ask, gate),
-        AnyGame::Pursuit(g) => solve(rt, alloc, g, position, ask, gate),
-    }
+    with_game!(game, g => solve(rt, alloc, g, position, ask, gate))
 }
 
 /// The answer to the bytes of a position: the text of the report of a search, or a refusal.
@@ -50,7 +44,7 @@ pub(crate) fn solved<R: Threads + Sync, T: Gate + Sync>(
     ensures { IfOk result (λ a. IsSolved bytes.now a.status a.text) }
 {
     match position(alloc, bytes) {
-        Ok(task) => match solve_any(rt, alloc, task.game, task.text, &task.ask, gate) {
+        Ok(task) => match solve_any(rt, alloc, task.game(), task.text, &task.ask, gate) {
             Ok(solved) => reported(alloc, &solved.report),
             Err(_) => Err(NoMemory),
         },

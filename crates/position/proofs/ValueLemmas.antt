@@ -9,7 +9,7 @@ use Rattle.std.proofs.lemmas.List.Folds.{list_all-map}
 use Rattle.serde_json.specs.Data.{Data}
 use Rattle.serde_json.specs.View.{view, items_view, members_view}
 use Rattle.serde_json.specs.declared.value.Value.{Value}
-use Rattle.position.specs.declared.error.InputError.TheVariants.{Kind, Range}
+use Rattle.position.specs.declared.games.InputError.TheVariants.{Kind, Range}
 use Rattle.certificate.specs.declared.fields.Field.{Field}
 use Rattle.certificate.specs.declared.positions.GameKind.{GameKind}
 use Rattle.position.specs.Objects.{list_of, names_of, is_known, is_whole, is_byte, byte_of, byte_in, whole_in, bytes_in}

@@ -1,11 +1,12 @@
--- The games, one by one: the position that an object gives, the first rule that it breaks, and the model of its game.
-use Rattle.std.specs.Prelude.{◌≡◌, ◌<◌, ◌^◌, length, Option, option_map, Result, Ok}
-use Rattle.std.proofs.Common.{arith}
+-- The games, one by one: the position that an object gives, the first rule that it breaks, what is told of it, and the
+-- model of its game.
+use Rattle.std.specs.Prelude.{◌≡◌, ℕ, List, [], ◌++◌, codes, Option, option_map, Result, Ok}
 use Rattle.serde_json.specs.Data.{Data}
 use Rattle.sim_game.specs.Model.{GameModel}
 use Rattle.goofspiel.specs.declared.Goofspiel.{Goofspiel as GoofspielGame}
 use Rattle.goofspiel.specs.declared.State.{State as GoofspielState}
 use Rattle.goofspiel.specs.Position as goofspiel
+use Rattle.goofspiel.specs.Refusals as goofspiel_refusals
 use Rattle.goofspiel.specs.Rules.{goofspiel_game}
 use Rattle.goofspiel.specs.declared.drawn.GoofspielDrawn.{GoofspielDrawn as DrawnGame}
 use Rattle.goofspiel.specs.declared.drawn.DrawnState.{DrawnState}
@@ -13,22 +14,25 @@ use Rattle.goofspiel.specs.DrawnRules.{drawn_game}
 use Rattle.oshi_zumo.specs.declared.OshiZumo.{OshiZumo as OshiZumoGame}
 use Rattle.oshi_zumo.specs.declared.State.{State as OshiZumoState}
 use Rattle.oshi_zumo.specs.Position as oshi_zumo
+use Rattle.oshi_zumo.specs.Refusals as oshi_zumo_refusals
 use Rattle.oshi_zumo.specs.Rules.{oshi_zumo_game}
 use Rattle.tron.specs.declared.Tron.{Tron as TronGame}
 use Rattle.tron.specs.declared.State.{State as TronState}
 use Rattle.tron.specs.Position as tron
+use Rattle.tron.specs.Refusals as tron_refusals
 use Rattle.tron.specs.Rules.{tron_game}
 use Rattle.pursuit.specs.declared.Pursuit.{Pursuit as PursuitGame}
 use Rattle.pursuit.specs.declared.State.{State as PursuitState}
 use Rattle.pursuit.specs.Position as pursuit
+use Rattle.pursuit.specs.Refusals as pursuit_refusals
 use Rattle.pursuit.specs.Rules.{pursuit_game}
 use Rattle.certificate.specs.declared.positions.GameKind.{GameKind}
 use Rattle.certificate.specs.declared.positions.PositionText.{PositionText}
 use Rattle.certificate.specs.declared.positions.PositionText.TheVariants as texts
+use Rattle.certificate.specs.Fields.{name_of}
 use Rattle.certificate.specs.Positions.{fields_of, position_with}
-use Rattle.certificate.specs.Ranges.{IsPositionInRange}
-use Rattle.position.specs.declared.error.InputError.{InputError}
-use Rattle.position.specs.declared.error.InputError.TheVariants as errors
+use Rattle.position.specs.declared.games.InputError.{InputError}
+use Rattle.position.specs.declared.games.InputError.TheVariants as errors
 use Rattle.position.specs.declared.games.AnyGame.{AnyGame}
 use Rattle.position.specs.declared.games.AnyGame.TheVariants.{Goofspiel, OshiZumo, Tron, GoofspielDrawn, Pursuit}
 use Rattle.position.specs.Objects.{◌>>=◌, values_at}
@@ -38,23 +42,39 @@ position_text_in game d = do
   vs ← values_at (fields_of game) d
   Ok (position_with game vs)
 
+-- ---- what is told of a refusal
+-- want of memory has the number 0 and no words
+abbrev pub code_of : InputError → ℕ
+code_of errors.NotJson = 10
+code_of errors.NotObject = 11
+code_of (errors.Missing field) = 12
+code_of errors.Unknown = 13
+code_of (errors.Kind field) = 14
+code_of (errors.Range field) = 15
+code_of errors.GameName = 16
+code_of (errors.Goofspiel e) = goofspiel_refusals.number_of e
+code_of (errors.OshiZumo e) = oshi_zumo_refusals.number_of e
+code_of (errors.Tron e) = tron_refusals.number_of e
+code_of (errors.Pursuit e) = pursuit_refusals.number_of e
+code_of errors.TooLong = 50
+code_of errors.NoMemory = 0
+
+abbrev pub words_of : InputError → List ℕ
+words_of errors.NotJson = codes "not json"
+words_of errors.NotObject = codes "not an object"
+words_of (errors.Missing field) = codes "missing " ++ name_of field
+words_of errors.Unknown = codes "unknown field"
+words_of (errors.Kind field) = codes "kind of " ++ name_of field
+words_of (errors.Range field) = codes "range of " ++ name_of field
+words_of errors.GameName = codes "game name"
+words_of (errors.Goofspiel e) = goofspiel_refusals.words_of e
+words_of (errors.OshiZumo e) = oshi_zumo_refusals.words_of e
+words_of (errors.Tron e) = tron_refusals.words_of e
+words_of (errors.Pursuit e) = pursuit_refusals.words_of e
+words_of errors.TooLong = codes "too long"
+words_of errors.NoMemory = []
+
 -- ---- the game of a position
--- the lists are short enough for their game
-abbrev pub HasShortLists : PositionText → Type 0
-HasShortLists (texts.Goofspiel one two prizes score pay) = length one < 2 ^ 31 × length two < 2 ^ 31 × length prizes < 2 ^ 31
-HasShortLists (texts.OshiZumo size one two least place) = Unit {0}
-HasShortLists (texts.Tron height width walls one two) = length walls < 2 ^ 31
-HasShortLists (texts.GoofspielDrawn one two prizes score pay) = length one < 2 ^ 31 × length two < 2 ^ 31 × length prizes < 2 ^ 31
-HasShortLists (texts.Pursuit nodes edges one two rounds) = length edges < 2 ^ 31
-
--- the lists of a position that a report may have are short
-pub HasShortLists-in_range : (text : PositionText) → IsPositionInRange text → HasShortLists text
-HasShortLists-in_range (texts.Goofspiel one two prizes score pay) fits = (omega (arith, fits.0.few), omega (arith, fits.1.0.few), omega (arith, fits.1.1.0.few))
-HasShortLists-in_range (texts.OshiZumo size one two least place) fits = tt
-HasShortLists-in_range (texts.Tron height width walls one two) fits = omega (arith, fits.1.1.0.few)
-HasShortLists-in_range (texts.GoofspielDrawn one two prizes score pay) fits = (omega (arith, fits.0.few), omega (arith, fits.1.0.few), omega (arith, fits.1.1.0.few))
-HasShortLists-in_range (texts.Pursuit nodes edges one two rounds) fits = omega (arith, fits.1.0.few)
-
 -- the first rule of the game that the position breaks
 abbrev pub fault_of : PositionText → Option InputError
 fault_of (texts.Goofspiel one two prizes score pay) = option_map errors.Goofspiel (goofspiel.first_fault one two prizes score)

@@ -17,8 +17,8 @@ use Rattle.certificate.specs.declared.positions.GameKind.{GameKind}
 use Rattle.certificate.specs.declared.report.TheConstants.{ASK}
 use Rattle.certificate.specs.Fields.{name_of, word_in, FieldRow, AskRow, Fits}
 use Rattle.certificate.specs.Positions.{fields_of}
-use Rattle.position.specs.declared.error.InputError.{InputError}
-use Rattle.position.specs.declared.error.InputError.TheVariants as errors
+use Rattle.position.specs.declared.games.InputError.{InputError}
+use Rattle.position.specs.declared.games.InputError.TheVariants as errors
 
 infixl 10 ◌>>=◌
 abbrev pub ◌>>=◌ : {A B : Type 0} → Result A InputError → (A → Result B InputError) → Result B InputError

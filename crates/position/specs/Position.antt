@@ -9,8 +9,8 @@ use Rattle.certificate.specs.declared.report.TheConstants.{ASK}
 use Rattle.certificate.specs.Positions.{game_of}
 use Rattle.certificate.specs.Asks.{ask_with}
 use Rattle.certificate.specs.declared.fields.Field.TheVariants as fields
-use Rattle.position.specs.declared.error.InputError.{InputError}
-use Rattle.position.specs.declared.error.InputError.TheVariants as errors
+use Rattle.position.specs.declared.games.InputError.{InputError}
+use Rattle.position.specs.declared.games.InputError.TheVariants as errors
 use Rattle.position.specs.Objects.{◌>>=◌, or_refuse, text_at, json_of, known_at, all_asked_at}
 use Rattle.position.specs.Games.{position_text_in, fault_of}
 pub use Rattle.position.specs.Objects.{Fails, Gives}

@@ -1,24 +1,28 @@
-//! The games, one by one: what is built of their positions.
+//! The games, one by one: what is built of their positions, and why bytes are no position.
 
-ghost use Rattle.std.specs.Prelude.{◌≡◌, Some, None, IfOk, MatchResult};
+ghost use Rattle.std.specs.Prelude.{◌≡◌, ◌++◌, Some, None, IfOk, OnOk, MatchResult};
 ghost use Rattle.serde_json.specs.View.{view};
 ghost use Rattle.sim_game.specs.Model.{GameModel};
+ghost use Rattle.text.specs.Texts.{Adds};
+ghost use Rattle.certificate.specs.Fields.{name_of};
 ghost use Rattle.certificate.specs.declared.positions.PositionText.{PositionText};
 ghost use Rattle.certificate.specs.Ranges.{IsPositionInRange};
 ghost use Rattle.position.specs.declared.games.AnyGame.{AnyGame};
 ghost use Rattle.position.specs.Objects.{Gives};
-ghost use Rattle.position.specs.Games.{position_text_in, HasShortLists, fault_of, IsGameOf, model_of, OfSame, IsSameGame};
+ghost use Rattle.position.specs.Games.{code_of, words_of, position_text_in, fault_of, IsGameOf, model_of, OfSame, IsSameGame};
+ghost use Rattle.position.specs.Playable.{IsPlayable};
 
-use crate::InputError;
 use crate::object::values;
-use certificate::{GameKind, PositionText};
-use goofspiel::{Goofspiel, GoofspielDrawn};
-use oshi_zumo::OshiZumo;
-use pursuit::Pursuit;
+use certificate::{Field, GameKind, PositionText};
+use goofspiel::{Goofspiel, GoofspielDrawn, GoofspielError};
+use oshi_zumo::{OshiError, OshiZumo};
+use pursuit::{Pursuit, PursuitError};
 use serde_json::Value;
-use sim_game::Game;
+use sim_game::{Game, NoMemory};
 use std::alloc::Global;
-use tron::Tron;
+use text::Text;
+use thiserror::Error;
+use tron::{Tron, TronError};
 
 /// A game of any kind.
 #[derive(Clone, Copy, Debug, PartialEq, Eq)]
@@ -28,6 +32,98 @@ pub enum AnyGame {
     Tron(Tron),
     GoofspielDrawn(GoofspielDrawn),
     Pursuit(Pursuit),
+}
+
+/// The first refusal of the bytes.
+#[derive(Clone, Copy, Debug, PartialEq, Eq, Error)]
+pub enum InputError {
+    /// The bytes are not JSON.
+    #[error("not json")]
+    NotJson,
+    /// The value is not an object.
+    #[error("not an object")]
+    NotObject,
+    /// The object has no such field.
+    #[error("a field is missing")]
+    Missing { field: Field },
+    /// The object has a field that the game and the ask do not have.
+    #[error("unknown field")]
+    Unknown,
+    /// The field is no text, whole number or list of whole numbers, as it should be.
+    #[error("a field has another kind")]
+    Kind { field: Field },
+    /// The field is out of range.
+    #[error("a field is out of range")]
+    Range { field: Field },
+    /// There is no such game.
+    #[error("game name")]
+    GameName,
+    /// The first rule of the game that the position breaks.
+    #[error(transparent)]
+    Goofspiel(GoofspielError),
+    #[error(transparent)]
+    OshiZumo(OshiError),
+    #[error(transparent)]
+    Tron(TronError),
+    #[error(transparent)]
+    Pursuit(PursuitError),
+    /// There are more bytes than a position may have.
+    #[error("too long")]
+    TooLong,
+    #[error("out of memory")]
+    NoMemory,
+}
+
+impl InputError {
+    /// The number of the refusal: 10 to 16 and 50 for bytes, the game's own number for a rule of the game, and 0 where
+    /// there was no memory.
+    pub fn code(&self) -> u32
+        ensures { result ≡ code_of self.now }
+    {
+        match self {
+            InputError::NotJson => 10,
+            InputError::NotObject => 11,
+            InputError::Missing { .. } => 12,
+            InputError::Unknown => 13,
+            InputError::Kind { .. } => 14,
+            InputError::Range { .. } => 15,
+            InputError::GameName => 16,
+            InputError::Goofspiel(error) => error.number(),
+            InputError::OshiZumo(error) => error.number(),
+            InputError::Tron(error) => error.number(),
+            InputError::Pursuit(error) => error.number(),
+            InputError::TooLong => 50,
+            InputError::NoMemory => 0,
+        }
+    }
+
+    /// Adds the words of the refusal to the text; those of a game's rule are the game's.
+    pub fn tell(&self, text: &mut Text) -> Result<(), NoMemory>
+        ensures { OnOk result (Adds text.old text.new (words_of self.now)) }
+    {
+        match self {
+            InputError::NotJson => text.word(b"not json"),
+            InputError::NotObject => text.word(b"not an object"),
+            InputError::Missing { field } => tell_field(text, b"missing ", *field),
+            InputError::Unknown => text.word(b"unknown field"),
+            InputError::Kind { field } => tell_field(text, b"kind of ", *field),
+            InputError::Range { field } => tell_field(text, b"range of ", *field),
+            InputError::GameName => text.word(b"game name"),
+            InputError::Goofspiel(error) => error.tell(text),
+            InputError::OshiZumo(error) => error.tell(text),
+            InputError::Tron(error) => error.tell(text),
+            InputError::Pursuit(error) => error.tell(text),
+            InputError::TooLong => text.word(b"too long"),
+            InputError::NoMemory => text.word(b""),
+        }
+    }
+}
+
+fn tell_field(text: &mut Text, words: &[u8], field: Field) -> Result<(), NoMemory>
+    ensures { OnOk result (Adds text.old text.new (words.now ++ name_of field)) }
+{
+    text.word(words)?;
+    text.word(field.name().as_bytes())
 }
 
 /// What is done with a game, whatever its kind.
@@ -80,7 +176,7 @@ impl AnyGame {
 
 /// The game of the position, or the first of its rules that the position breaks. Takes no memory.
 pub fn build(text: &PositionText) -> Result<AnyGame, InputError>
-    requires { HasShortLists text.now }
+    requires { IsPositionInRange text.now }
     ensures { MatchResult result
         (λ game. (fault_of text.now ≡ None) × IsGameOf text.now game)
         (λ fault. fault_of text.now ≡ Some fault) }
@@ -148,6 +244,17 @@ pub fn build(text: &PositionText) -> Result<AnyGame, InputError>
             Ok(game) => Ok(AnyGame::Pursuit(game)),
             Err(fault) => Err(InputError::Pursuit(fault)),
         },
+    }
+}
+
+/// The game of a position that breaks no rule of it.
+pub fn game_of(text: &PositionText) -> AnyGame
+    requires { IsPlayable text.now }
+    ensures { IsGameOf text.now result }
+{
+    match build(text) {
+        Ok(game) => game,
+        Err(_) => unreachable!(),
     }
 }
 

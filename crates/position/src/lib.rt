@@ -12,14 +12,15 @@ mod reading;
 mod sink;
 mod source;
 mod standard;
+mod task;
 
 pub use certificate::Field;
-pub use error::InputError;
-pub use games::{AnyGame, GameVisitor, build, position_has_one_game};
+pub use games::{AnyGame, GameVisitor, InputError, build, game_of, position_has_one_game};
 pub use memory_sink::MemorySink;
 pub use memory_source::MemorySource;
 pub use plain::{PlainSink, PlainSource};
-pub use reading::{Task, position};
+pub use reading::position;
 pub use sink::{Sink, write_all};
 pub use source::{Failed, ReadError, Source, read_all};
 pub use standard::{StdSink, StdSource};
+pub use task::Task;

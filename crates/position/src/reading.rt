@@ -3,23 +3,14 @@
 ghost use Rattle.std.specs.Prelude.{◌≡◌, ◌<◌, ◌≤◌, length, Err, IfOk};
 ghost use Rattle.serde_json.specs.View.{view};
 ghost use Rattle.certificate.specs.Ranges.{IsAskInRange, IsPositionInRange};
-ghost use Rattle.position.specs.Games.{IsGameOf};
 ghost use Rattle.position.specs.Position.{Gives, game_at, ask_at, object_at, task_of, position_of};
 
 use crate::games::position_text;
 use crate::object::{all_asked, json, only_known, text};
-use crate::{AnyGame, Field, InputError, build};
-use certificate::{Ask, GameKind, PositionText};
+use crate::{Field, InputError, Task, build};
+use certificate::{Ask, GameKind};
 use serde_json::Value;
 use std::alloc::Global;
-
-/// A position, its game, and what is asked of the search.
-#[derive(Debug, Drop)]
-pub struct Task {
-    pub text: PositionText,
-    pub game: AnyGame,
-    pub ask: Ask,
-}
 
 /// The most bytes that a position may have.
 const MOST_BYTES: usize = 1_048_576;
@@ -57,7 +48,6 @@ fn object(alloc: Global, bytes: &[u8]) -> Result<Value, InputError>
 #[tactic(auto, unfolding(crate::specs::Position::task_of))]
 fn task_in(alloc: Global, object: &Value) -> Result<Task, InputError>
     ensures exact { Gives (λ t. record { text = t.text; ask = t.ask }) result (task_of (view object.now)) }
-    ensures game { IfOk result (λ t. IsGameOf t.text t.game) }
     ensures text { IfOk result (λ t. IsPositionInRange t.text) }
     ensures ask { IfOk result (λ t. IsAskInRange t.ask) }
 {
@@ -65,16 +55,15 @@ fn task_in(alloc: Global, object: &Value) -> Result<Task, InputError>
     only_known(kind, object)?;
     let text = position_text(alloc, kind, object)?;
     let ask = ask(alloc, object)?;
-    let game = build(&text)?;
-    Ok(Task { text, game, ask })
+    build(&text)?;
+    Ok(Task { text, ask })
 }
 
-/// The position, its game and what is asked, or the first refusal: of the bytes, of the object, of the game's name,
+/// The position and what is asked, or the first refusal: of the bytes, of the object, of the game's name,
 /// of a field that does not belong, of each field in its order, and of the game's rules.
 #[tactic(auto, unfolding(crate::specs::Position::position_of, crate::specs::Position::object_at))]
 pub fn position(alloc: Global, bytes: &[u8]) -> Result<Task, InputError>
     ensures exact { Gives (λ t. record { text = t.text; ask = t.ask }) result (position_of bytes.now) }
-    ensures game { IfOk result (λ t. IsGameOf t.text t.game) }
     ensures text { IfOk result (λ t. IsPositionInRange t.text) }
     ensures ask { IfOk result (λ t. IsAskInRange t.ask) }
     // This refusal needs no memory.

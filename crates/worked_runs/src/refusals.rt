@@ -13,7 +13,7 @@ const LINEAR: &str =
 #[test]
 fn reads_what_is_asked(rt: HostRuntime) -> Result<(), Fail> {
     let regret = position(rt.alloc(), PUSH.as_bytes())?;
-    assert!(rt; matches!(regret.game, AnyGame::OshiZumo(_)));
+    assert!(rt; matches!(regret.game(), AnyGame::OshiZumo(_)));
     assert_eq!(rt; regret.ask.weight, 8192);
     assert_eq!(rt; regret.ask.stages, StageMethod::Regret);
     let linear = position(rt.alloc(), LINEAR.as_bytes())?;

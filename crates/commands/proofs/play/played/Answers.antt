@@ -6,7 +6,7 @@ use Rattle.commands.proofs.play.played.Goals as goal
 pub returns-in-Ok-accept : goal.returns-in-Ok-accept
 returns-in-Ok-accept c =
     rw (c.written.ensures.status, c.written.ensures.text)
-    (IsPlayedMatch.played c.in-Ok.field-0.report c.in-Ok-accept.text c.in-Ok.ensures.0 (c.in-Ok.field-0.game, c.in-Ok.ensures.2, c.in-Ok-accept.ensures))
+    (IsPlayedMatch.played c.in-Ok.found.report c.in-Ok-accept.text c.in-Ok.ensures.0 (c.game.result, c.game.ensures, c.in-Ok-accept.ensures))
 
 pub returns : goal.returns
 returns c =

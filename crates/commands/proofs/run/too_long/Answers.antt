@@ -1,4 +1,4 @@
-use Rattle.position.specs.declared.error.InputError.TheVariants as errors
+use Rattle.position.specs.declared.games.InputError.TheVariants as errors
 use Rattle.commands.specs.declared.reports.ReportFault.TheVariants as faults
 use Rattle.commands.specs.Texts.{input_text}
 use Rattle.commands.specs.Reports.{fault_text}

@@ -1,0 +1,38 @@
+-- The positions that can be played.
+use Rattle.std.specs.Prelude.{◌≡◌, List, [], ◌∷◌, false, is_some}
+use Rattle.std.proofs.Props.{props}
+use Rattle.certificate.specs.declared.fields.FieldKind.{FieldKind}
+use Rattle.certificate.specs.declared.fields.FieldKind.TheVariants as holds
+use Rattle.certificate.specs.declared.fields.Value.{Value}
+use Rattle.certificate.specs.declared.fields.Value.TheVariants as values
+use Rattle.certificate.specs.declared.positions.PositionText.{PositionText}
+use Rattle.certificate.specs.Fields.{Fits, AllFit}
+use Rattle.certificate.specs.Positions.{kind_of, kinds_of, values_of}
+use Rattle.certificate.specs.Ranges.{IsPositionInRange}
+use Rattle.position.specs.Games.{fault_of}
+
+-- the position has a line, and breaks no rule of its game
+pub record IsPlayable (text : PositionText) : Type 0 where
+  pub in_range : IsPositionInRange text
+  pub builds : is_some (fault_of text) ≡ false
+
+-- ---- one proof of each
+Fits-prop : (kind : FieldKind) (v : Value) → IsProp (Fits kind v)
+Fits-prop (holds.Number low high) (values.Number z) = hlevel props
+Fits-prop (holds.Number low high) (values.List ns) = hlevel props
+Fits-prop (holds.Number low high) (values.Word w) = hlevel props
+Fits-prop (holds.List most) (values.Number z) = hlevel props
+Fits-prop (holds.List most) (values.List ns) = hlevel props
+Fits-prop (holds.List most) (values.Word w) = hlevel props
+Fits-prop (holds.Word choices) (values.Number z) = hlevel props
+Fits-prop (holds.Word choices) (values.List ns) = hlevel props
+Fits-prop (holds.Word choices) (values.Word w) = hlevel props
+
+AllFit-prop : (kinds : List FieldKind) (vs : List Value) → IsProp (AllFit kinds vs)
+AllFit-prop [] [] = hlevel props
+AllFit-prop [] (v ∷ vs) = hlevel props
+AllFit-prop (k ∷ ks) [] = hlevel props
+AllFit-prop (k ∷ ks) (v ∷ vs) = hlevel (Fits-prop k v, AllFit-prop ks vs)
+
+pub IsPlayable-prop : (text : PositionText) → IsProp (IsPlayable text)
+IsPlayable-prop text = hlevel (props, AllFit-prop (kinds_of (kind_of text)) (values_of text))

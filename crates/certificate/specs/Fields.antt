@@ -1,5 +1,5 @@
 -- The fields of positions and of what is asked: their names, what each holds, and how a report spells it.
-use Rattle.std.specs.Prelude.{◌≡◌, ℕ, ℤ, map, Bool, true, List, [], ◌∷◌, codes, bytes_eq, find, is_some, Option, Some, option_map}
+use Rattle.std.specs.Prelude.{◌≡◌, ℕ, map, Bool, true, List, [], ◌∷◌, codes, bytes_eq, find, is_some, Option, Some, option_map}
 use Rattle.std.specs.Fmt.{signed_decimal}
 use Rattle.std.specs.List.{join_with_byte}
 use Rattle.text.specs.Texts.{list_text}
@@ -82,15 +82,15 @@ AllFit (k ∷ ks) [] = ⊥
 AllFit (k ∷ ks) (v ∷ vs) = Fits k v × AllFit ks vs
 
 -- ---- how a report spells it
--- numbers with a comma between each two, or a dash for none
-abbrev pub numbers_text : List ℤ → List ℕ
-numbers_text [] = codes "-"
-numbers_text (z ∷ zs) = join_with_byte 44 (map signed_decimal (z ∷ zs))
+-- parts with a comma between each two, or a dash for none
+abbrev pub joined_list : List (List ℕ) → List ℕ
+joined_list [] = codes "-"
+joined_list (x ∷ xs) = join_with_byte 44 (x ∷ xs)
 
 abbrev pub value_text : Value → List ℕ
 value_text (values.Number z) = signed_decimal z
 value_text (values.List ns) = list_text ns
-value_text (values.Numbers zs) = numbers_text zs
+value_text (values.Numbers zs) = joined_list (map signed_decimal zs)
 value_text (values.Word w) = spelling w
 
 abbrev pub value_in : FieldKind → List ℕ → Option Value

@@ -4,7 +4,7 @@ ghost use Rattle.std.specs.Prelude.{◌≡◌, [], IfOk, IfSome};
 ghost use Rattle.certificate.specs.Numbers.{natural_in, integer_in};
 ghost use Rattle.certificate.specs.Readers.{each_in, naturals_in, list_parts, list_in};
 
-use crate::numbers::{integer, natural};
+use crate::numbers::{natural, short_integer};
 use crate::parts::{Parts, has_parts};
 use seq::Seq;
 use std::alloc::{AllocError, Global};
@@ -63,10 +63,10 @@ fn integers(
 {
     let mut numbers = Vec::new(alloc);
     'parts: while let Some(part) = parts.next() {
-        let Some(z) = integer(part, i64::from(low), i64::from(high)) else {
+        let Some(z) = short_integer(part, low, high) else {
             return Ok(None);
         };
-        numbers.push(z as i32)?;
+        numbers.push(z)?;
     }
     Ok(Some(Seq::from_vec(numbers)))
 }

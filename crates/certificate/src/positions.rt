@@ -2,9 +2,10 @@
 //! position, which is read and written by the fields of its game, whatever the game.
 
 ghost use Rattle.std.specs.Prelude.{◌≡◌, ℕ, ℤ, pos, ◌∷◌, codes, drop, flat_map, map, IfOk, OnOk};
+ghost use Rattle.std.specs.Fmt.{signed_decimal};
 ghost use Rattle.text.specs.Texts.{Adds, line_text};
 ghost use Rattle.certificate.specs.Readers.{Gives};
-ghost use Rattle.certificate.specs.Fields.{spelling, Fits, AllFit, numbers_text, value_text};
+ghost use Rattle.certificate.specs.Fields.{spelling, Fits, AllFit, joined_list, value_text};
 ghost use Rattle.certificate.specs.Positions.{game_word, game_version, fields_of, kinds_of, kind_of, version_of, pay_word, shown_value, values_of, position_with, IsPositionInRange, game_of, game_in, game, first_has_word, have_words, value, values, line_values, position, position_fields};
 ghost use Rattle.certificate.specs.Reading.{game_line};
 ghost use Rattle.certificate.specs.declared.positions.TheConstants.{BYTE, SCORE, PLACE};
@@ -331,7 +332,9 @@ impl Value {
 fn copy_of<T: Copy>(alloc: Global, list: &Seq<T>) -> Result<Seq<T>, NoMemory>
     ensures { IfOk result (λ s. s ≡ list.now) }
 {
-    Ok(Seq::from_vec(list.as_slice().to_vec(alloc)?))
+    let mut items = Vec::new(alloc);
+    items.extend_from_slice(list.as_slice())?;
+    Ok(Seq::from_vec(items))
 }
 
 impl PositionText {
@@ -697,7 +700,7 @@ fn add_value(text: &mut Text, value: &Shown) -> Result<(), NoMemory>
 
 /// A space and a list: numbers with a comma between each two, or a dash for none.
 fn add_numbers(text: &mut Text, zs: &[i32]) -> Result<(), NoMemory>
-    ensures { OnOk result (Adds text.old text.new (32 ∷ numbers_text zs.now)) }
+    ensures { OnOk result (Adds text.old text.new (32 ∷ joined_list (map signed_decimal zs.now))) }
 {
     match zs {
         [] => text.word(b" -"),

@@ -1,0 +1,2 @@
+//! Tables: any finite game, handed in state by state.
+#![tactic(auto)]

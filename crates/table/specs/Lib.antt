@@ -1,2 +1,11 @@
+pub mod Below
+pub mod BelowLemmas
+pub mod Draws
+pub mod Faults
+pub mod Laws
 pub mod Lists
 pub mod Nested
+pub mod Position
+pub mod Refusals
+pub mod Rules
+pub mod Setting

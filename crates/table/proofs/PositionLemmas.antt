@@ -35,11 +35,11 @@ module _ (l : Lists) where
       let fine = kept (not (eqb (table_rank l s) 0) || is_payoff (table_value l s)) (errors.PayoffRange s) (none_at (state_count l) (fault_at Payoff l) s none here) in
       payoff_range (table_value l s) (at_end (table_rank l s) (is_payoff (table_value l s)) fine e)
 
-  moves : rule_fault Rows l ≡ None → rule_fault Cells l ≡ None → (side : Side) (s : ℕ) → s < state_count l → 1 ≤ table_rank l s → (1 ≤ table_moves l side s) × (table_moves l side s ≤ 32)
-  moves rows cells One s here inner =
+  pub moves_from : rule_fault Rows l ≡ None → rule_fault Cells l ≡ None → (side : Side) (s : ℕ) → s < state_count l → 1 ≤ table_rank l s → (1 ≤ table_moves l side s) × (table_moves l side s ≤ 32)
+  moves_from rows cells One s here inner =
       let fine = kept (eqb (table_rank l s) 0 || are_moves (table_moves l One s)) (errors.RowsRange s) (none_at (state_count l) (fault_at Rows l) s rows here) in
       moves_range (table_moves l One s) (at_inner (table_rank l s) (are_moves (table_moves l One s)) fine inner)
-  moves rows cells Two s here inner =
+  moves_from rows cells Two s here inner =
       let fine = kept (eqb (table_rank l s) 0 || are_moves (table_moves l Two s)) (errors.CellsRange s) (none_at (state_count l) (fault_at Cells l) s cells here) in
       moves_range (table_moves l Two s) (at_inner (table_rank l s) (are_moves (table_moves l Two s)) fine inner)
 
@@ -82,8 +82,8 @@ module _ (l : Lists) where
       fits = fits;
       payoff_low = λ s here e. (payoffs payoff s here e).0;
       payoff_high = λ s here e. (payoffs payoff s here e).1;
-      moves_low = λ side s here inner. (moves rows cells side s here inner).0;
-      moves_high = λ side s here inner. (moves rows cells side s here inner).1;
+      moves_low = λ side s here inner. (moves_from rows cells side s here inner).0;
+      moves_high = λ side s here inner. (moves_from rows cells side s here inner).1;
       cells = cell_from;
       rank_high = λ s here. (ranks turns s here).0;
       longest = λ s here inner. (ranks turns s here).1 inner;

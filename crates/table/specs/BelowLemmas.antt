@@ -41,7 +41,7 @@ greatest_high zero top f h = omega arith
 greatest_high (suc n) top f h = omega (arith, h n (omega arith), greatest_high n top f (λ i below. h i (omega arith)))
 
 -- ---- the first that there is
-or_none : {T : Type 0} (a b : Option T) → option_or a b ≡ None → (a ≡ None) × (b ≡ None)
+pub or_none : {T : Type 0} (a b : Option T) → option_or a b ≡ None → (a ≡ None) × (b ≡ None)
 or_none None b h = (refl, h)
 or_none (Some x) b h = absurd (cc)
 

@@ -5,6 +5,7 @@ pub mod Faults
 pub mod Laws
 pub mod Lists
 pub mod Nested
+pub mod NestedGame
 pub mod Position
 pub mod Refusals
 pub mod Rules

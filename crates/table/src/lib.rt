@@ -13,11 +13,13 @@ ghost use Rattle.table.specs.Rules.{place_of, table_game, KeepsRules};
 
 mod fits;
 mod lists;
+mod nested;
 mod refusals;
 mod rules;
 mod setting;
 mod summary;
 
+pub use nested::{states_fit, states_have_one_game};
 pub use refusals::position_has_one_game;
 use rules::{CellRule, Fitting, Rule};
 use setting::Cell;

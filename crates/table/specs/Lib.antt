@@ -7,6 +7,7 @@ pub mod Lists
 pub mod Nested
 pub mod NestedGame
 pub mod Position
+pub mod Ranges
 pub mod Refusals
 pub mod Rules
 pub mod Setting

@@ -4,7 +4,13 @@ ghost use Rattle.std.specs.Prelude.{◌≡◌, List, None, true};
 ghost use Rattle.table.specs.Faults.{do_fit, first_fault};
 ghost use Rattle.table.specs.Nested.{are_in_range, lists_of_states, StateForm};
 ghost use Rattle.table.specs.NestedGame.{IsNestedGame};
+ghost use Rattle.table.specs.Ranges.{AreListsInRange};
 ghost use Rattle.table.specs.Rules.{table_game};
+
+/// The lists of a position's states are those of a text: no list is too long, and each number is in its range.
+pub fn states_have_short_lists()
+    ensures { (forms : List StateForm) → are_in_range forms ≡ true → AreListsInRange (lists_of_states forms) }
+{}
 
 /// The lists of a position's states fit each other, so that only those of a report can break the first rule.
 pub fn states_fit()

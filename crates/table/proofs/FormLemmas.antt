@@ -229,7 +229,7 @@ abbrev pub IsRanked : StateForm → ℕ → Type 0
 IsRanked (End payoff) rank = rank ≡ 0
 IsRanked (Rows rows) rank = 1 ≤ rank
 
-counts_told : (ns : List ℕ) (i : ℕ) → count_in (map pos ns) i ≡ get_or ns i 0
+pub counts_told : (ns : List ℕ) (i : ℕ) → count_in (map pos ns) i ≡ get_or ns i 0
 counts_told [] i = refl
 counts_told (n ∷ ns) zero = refl
 counts_told (n ∷ ns) (suc i) = counts_told ns i

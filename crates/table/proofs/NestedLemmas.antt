@@ -12,16 +12,19 @@ use Rattle.sim_game.specs.declared.Side.{Side}
 use Rattle.sim_game.specs.declared.Side.TheVariants.{One, Two}
 use Rattle.sim_game.specs.Model.{whole_chance}
 use Rattle.table.specs.declared.State.{State}
+use Rattle.table.specs.declared.rules.CellRule.TheVariants as CellRule
 use Rattle.table.specs.declared.rules.Rule.TheVariants as Rule
-use Rattle.table.specs.BelowLemmas.{all_from, or_none}
+use Rattle.table.specs.BelowLemmas.{all_from, greatest_high, or_none}
 use Rattle.table.specs.Faults.{cell_fits, count_fault, first_fault, lists_fault, rule_fault, do_draws_fit, do_fit, do_states_fit, have_counts, state_fits}
 use Rattle.table.specs.Laws.{pair_below}
-use Rattle.table.specs.Lists.{Lists, cells_of, count_in, count_of, draw_state, draw_total, draw_weight, draws_end, draws_at, end_at, first_draw, place_at, state_count, table_cell, table_moves, table_rank, table_state, table_value, table_weight}
-use Rattle.table.specs.Nested.{CellForm, Follows, Draws, StateForm, End, Rows, are_in_range, cell_in_range, cells_told, columns_in, draw_count_of, draw_in_range, draws_of_form, draws_told, given_cells, kept_cells, lists_of_states, moves_told, ranks_told, state_in_range, values_told}
+use Rattle.table.specs.Lists.{Lists, cell_rank, next_rank, cells_of, count_in, count_of, draw_state, draw_total, draw_weight, draws_end, draws_at, end_at, first_draw, place_at, state_count, table_cell, table_moves, table_rank, table_state, table_value, table_weight}
+use Rattle.table.specs.Nested.{CellForm, Follows, Draws, StateForm, End, Rows, are_in_range, cell_in_range, cells_told, columns_in, draw_count_of, draw_in_range, draws_of_form, draws_told, given_cells, greatest_in, kept_cells, lists_of_states, moves_told, named_by, rank_behind, rank_told, ranks_told, state_in_range, values_told}
 use Rattle.table.specs.NestedGame.{cell_chance, cell_draws, cell_follows, form_at, form_cell, form_moves, rows_in, AreMoves, IsNestedGame}
 use Rattle.table.specs.Rules.{place_of, table_game}
-use Rattle.table.proofs.PositionLemmas.{moves_from}
-use Rattle.table.proofs.FormLemmas.{all_in, before, before_all, before_even, before_more, cell_told, cells_count, cells_in_range, columns_of, columns_told, count_before, draw_at, draw_of_two, draws_flat, draws_in_range, ends_told, kept_cell, kept_count, later_ends_told, moves_count, number_told, rank_told_at, ranks_count, row_length, rows_told, value_at_told, value_told, values_count, IsRanked}
+use Rattle.table.proofs.PositionLemmas.{moves_from, rank_no_higher}
+use Rattle.table.proofs.RuleLemmas.{keeps_all, leads_behind}
+use Rattle.table.proofs.WayLemmas.{behind_is, greatest_named, named_at, named_count, named_is, named_no_higher, rank_in}
+use Rattle.table.proofs.FormLemmas.{all_in, before, before_all, before_even, before_more, cell_told, cells_count, cells_in_range, columns_of, columns_told, count_before, counts_told, draw_at, draw_of_two, draws_flat, draws_in_range, ends_told, kept_cell, kept_count, later_ends_told, moves_count, number_told, rank_told_at, ranks_count, row_length, rows_told, value_at_told, value_told, values_count, IsRanked}
 
 -- ---- a state
 state_fits_told : (form : StateForm) (rank one two cells : ℕ) (value : ℤ) → IsRanked form rank → one ≡ length (rows_in form) → two ≡ columns_of form → value ≡ value_told cells form
@@ -83,11 +86,11 @@ module _ (forms : List StateForm) (fine : list_all state_in_range forms ≡ true
   two_is : (s : ℕ) → s < length forms → table_moves l Two s ≡ columns_of (form_at forms s)
   two_is s here = columns_told forms s here
 
-  cells_of_state : (s : ℕ) → s < length forms → cells_of l s ≡ length (kept_cells (form_at forms s))
-  cells_of_state s here = rw (one_is s here, two_is s here) (sym (kept_count (form_at forms s)))
+  cells_in_state : (s : ℕ) → s < length forms → cells_of l s ≡ length (kept_cells (form_at forms s))
+  cells_in_state s here = rw (one_is s here, two_is s here) (sym (kept_count (form_at forms s)))
 
   cells_before : (s : ℕ) → s ≤ length forms → count_below s (cells_of l) ≡ before kept_cells forms s
-  cells_before s le = count_before kept_cells forms (End (pos 0)) (cells_of l) cells_of_state s le
+  cells_before s le = count_before kept_cells forms (End (pos 0)) (cells_of l) cells_in_state s le
 
   value_is : (s : ℕ) → s < length forms → table_value l s ≡ value_told (before kept_cells forms s) (form_at forms s)
   value_is s here = value_at_told 0 forms s here ∙ ap (λ (n : ℕ). value_told n (form_at forms s)) (omega arith)
@@ -176,6 +179,75 @@ module _ (forms : List StateForm) (fine : list_all state_in_range forms ≡ true
   state_is place d here below =
       ap (λ (z : ℤ). draw_state l.draws z d) (cell_is place here) ∙ state_of_draw place d (at place) here refl (is_fine place here) below
 
+  -- ---- the cells of a state
+  -- a cell, by its place among those of its state
+  cell_of_state : (s k : ℕ) (rows : List (List CellForm)) → s < length forms → form_at forms s ≡ Rows rows → k < length (kept_cells (Rows rows))
+      → (place_at l s k < length cells) × (at (place_at l s k) ≡ get_or (kept_cells (Rows rows)) k (Follows (pos 0)))
+  cell_of_state s k rows here e below =
+      let start = before kept_cells forms s in
+      let kept = kept_cells (form_at forms s) in
+      let within : k < length kept = omega (arith, below, ap (λ (form : StateForm). length (kept_cells form)) e) in
+      let place : place_at l s k ≡ start + k = ap (λ (z : ℤ). unsigned_abs z + k) (value_is s here ∙ ap (value_told start) e) in (
+        omega (arith, place, within, length-flat_map-take kept_cells forms s (End (pos 0)) here),
+        ap at place ∙ get_or-flat_map kept_cells forms s k (End (pos 0)) (Follows (pos 0)) here within
+        ∙ ap (λ (form : StateForm). get_or (kept_cells form) k (Follows (pos 0))) e,
+      )
+
+  -- ---- ranks
+  abbrev ranks : List ℕ
+  ranks = ranks_told 0 forms
+
+  module _ (order : rule_fault (Rule.Each CellRule.Order) l ≡ None) (s : ℕ) (rows : List (List CellForm)) (here : s < length forms) (e : form_at forms s ≡ Rows rows) where
+    abbrev kept : List CellForm
+    kept = kept_cells (Rows rows)
+
+    abbrev rank_of : ℤ → ℕ
+    rank_of z = rank_behind s (drop (suc s) ranks) z
+
+    kept_are : cells_of l s ≡ length kept
+    kept_are = cells_in_state s here ∙ ap (λ (form : StateForm). length (kept_cells form)) e
+
+    cell_here : (k : ℕ) → k < length kept → (place_at l s k < length cells) × (at (place_at l s k) ≡ get_or kept k (Follows (pos 0)))
+    cell_here k below = cell_of_state s k rows here e below
+
+    draws_here : (k : ℕ) → k < length kept → draws_at l (place_at l s k) ≡ cell_draws (get_or kept k (Follows (pos 0)))
+    draws_here k below = draws_are_at (place_at l s k) (cell_here k below).0 ∙ ap cell_draws (cell_here k below).1
+
+    -- the rank of a state that a cell names
+    named_rank : (k d : ℕ) → k < length kept → d < draws_at l (place_at l s k) → rank_of (named_at kept k d) ≡ table_rank l (table_state l (place_at l s k) d)
+    named_rank k d below draw =
+        let place = place_at l s k in
+        let cell = cell_here k below in
+        let count = draws_are_at place cell.0 in
+        let next = table_state l place d in
+        let state : next ≡ cell_follows (at place) d = state_is place d cell.0 (omega (arith, count, draw)) in
+        let behind : s < next = leads_behind l s place d (keeps_all CellRule.Order l s k order (omega (arith, states_are)) (omega (arith, kept_are))) draw in
+        let named : get_or (named_by (at place)) d (pos 0) ≡ pos next = named_is (at place) d (is_fine place cell.0) (omega (arith, count, draw)) ∙ ap pos (sym state) in
+        ap (λ (c : CellForm). rank_of (get_or (named_by c) d (pos 0))) (sym cell.1) ∙ ap rank_of named ∙ behind_is s ranks next behind ∙ sym (counts_told ranks next)
+
+    abbrev most : ℕ
+    most = greatest_in (map rank_of (flat_map named_by kept))
+
+    most_high : most ≤ next_rank l s
+    most_high = greatest_named rank_of (next_rank l s) kept (λ k d below draw.
+        let few : d < draws_at l (place_at l s k) = omega (arith, draw, draws_here k below, named_count (get_or kept k (Follows (pos 0)))) in
+        omega (arith, named_rank k d below few, rank_no_higher l s k d (omega (arith, kept_are)) few))
+
+    most_low : next_rank l s ≤ most
+    most_low = greatest_high (cells_of l s) most (λ k. cell_rank l (place_at l s k)) (λ k below.
+        let place = place_at l s k in
+        let there : k < length kept = omega (arith, kept_are) in
+        greatest_high (draws_at l place) most (λ d. table_rank l (table_state l place d)) (λ d draw. omega (
+          arith, named_rank k d there draw,
+          named_no_higher rank_of kept k d there (omega (arith, draw, draws_here k there, named_count (get_or kept k (Follows (pos 0)))))
+        )))
+
+    pub rank_longest : table_rank l s ≡ next_rank l s + 1
+    rank_longest =
+        let told : table_rank l s ≡ suc most =
+            counts_told ranks s ∙ rank_in 0 forms s here ∙ ap (λ (n : ℕ). rank_told n (drop (suc s) ranks) (form_at forms s)) (omega arith) ∙ ap (rank_told s (drop (suc s) ranks)) e in
+        omega (arith, told, most_high, most_low)
+
   -- ---- the game
   module _ (none : first_fault l ≡ None) where
     rows_none : rule_fault Rule.Rows l ≡ None
@@ -200,19 +272,13 @@ module _ (forms : List StateForm) (fine : list_all state_in_range forms ≡ true
     cell_of_moves s a b (End payoff) here e one two = absurd (omega arith)
     cell_of_moves s a b (Rows rows) here e one two =
         let columns = columns_in rows in
-        let start = before kept_cells forms s in
         let some = columns_some s rows here e in
         let low : b < columns = omega (arith, first_row rows some) in
-        let value : table_value l s ≡ pos start = value_is s here ∙ ap (value_told start) e in
         let told : table_moves l Two s ≡ columns = two_is s here ∙ ap columns_of e in
-        let place : place_of l s a b ≡ start + (a * columns + b) =
-            ap (λ (z : ℤ). unsigned_abs z + (a * table_moves l Two s + b)) value ∙ ap (λ (n : ℕ). start + (a * n + b)) told in
-        let count : length (kept_cells (form_at forms s)) ≡ length rows * columns = ap (λ (form : StateForm). length (kept_cells form)) e ∙ kept_count (Rows rows) in
-        let within : a * columns + b < length (kept_cells (form_at forms s)) = omega (arith, count, pair_below a b (length rows) columns one low) in (
-          omega (arith, place, within, length-flat_map-take kept_cells forms s (End (pos 0)) here),
-          ap at place ∙ get_or-flat_map kept_cells forms s (a * columns + b) (End (pos 0)) (Follows (pos 0)) here within
-          ∙ ap (λ (form : StateForm). get_or (kept_cells form) (a * columns + b) (Follows (pos 0))) e ∙ kept_cell rows a b some one low,
-        )
+        let place : place_of l s a b ≡ place_at l s (a * columns + b) = ap (λ (n : ℕ). place_at l s (a * n + b)) told in
+        let within : a * columns + b < length (kept_cells (Rows rows)) = omega (arith, kept_count (Rows rows), pair_below a b (length rows) columns one low) in
+        let cell = cell_of_state s (a * columns + b) rows here e within in
+        (omega (arith, place, cell.0), ap at place ∙ cell.1 ∙ kept_cell rows a b some one low)
 
     module _ (s : State) (a b : ℕ) (m : AreMoves forms s a b) where
       abbrev cell : CellForm

@@ -50,7 +50,7 @@ module _ (l : Lists) where
       let both = and_parts (leb (table_rank l s) 31) (eqb (table_rank l s) 0 || eqb (table_rank l s) (next_rank l s + 1)) fine in
       (leb-true (table_rank l s) 31 both.0, λ inner. eqb-true (table_rank l s) (next_rank l s + 1) (at_inner (table_rank l s) (eqb (table_rank l s) (next_rank l s + 1)) both.1 inner))
 
-  rank_no_higher : (s k d : ℕ) → k < cells_of l s → d < draws_at l (place_at l s k) → table_rank l (table_state l (place_at l s k) d) ≤ next_rank l s
+  pub rank_no_higher : (s k d : ℕ) → k < cells_of l s → d < draws_at l (place_at l s k) → table_rank l (table_state l (place_at l s k) d) ≤ next_rank l s
   rank_no_higher s k d below draw =
       let place = place_at l s k in
       omega (arith, greatest_at (draws_at l place) (λ d. table_rank l (table_state l place d)) d draw, greatest_at (cells_of l s) (λ k. cell_rank l (place_at l s k)) k below)

@@ -15,7 +15,7 @@ use Rattle.table.proofs.FormLemmas.{all_flat, all_in, before_all, before_even, c
 within_from : (low high z : ℤ) → low ≤ℤ z → z ≤ℤ high → is_within low high z ≡ true
 within_from low high z h h' = grind (arith, ints)
 
-within_parts : (low high z : ℤ) → is_within low high z ≡ true → (low ≤ℤ z) × (z ≤ℤ high)
+pub within_parts : (low high z : ℤ) → is_within low high z ≡ true → (low ≤ℤ z) × (z ≤ℤ high)
 within_parts low high z h = (grind (arith, ints), grind (arith, ints))
 
 all_within : (low high : ℤ) (ns : List ℤ) → list_all (is_within low high) ns ≡ true → All (λ z. (low ≤ℤ z) × (z ≤ℤ high)) ns

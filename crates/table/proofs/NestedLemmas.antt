@@ -1,6 +1,6 @@
 -- The lists of a nested form fit each other, and their game is the one that the form tells.
-use Rattle.std.proofs.Common.{◌≡◌, ℕ, zero, suc, ◌+◌, ◌-◌, ◌*◌, ◌/◌, ◌%◌, ◌<◌, ◌≤◌, ℤ, pos, negsuc, Bool, true, ◌&&◌, cond, eqb, leb, List, [], ◌∷◌, length, map, drop, get_or, None, refl, ap, sym, subst, ◌∙◌, inl, inr, arith, add-one}
-use Rattle.std.proofs.lemmas.Bool.{and_from, and_parts, cases_lt, cond-false, eq-eqb, le-leb, ne_eqb}
+use Rattle.std.proofs.Common.{◌≡◌, ℕ, zero, suc, ◌+◌, ◌-◌, ◌*◌, ◌/◌, ◌%◌, ◌<◌, ◌≤◌, ℤ, pos, negsuc, Bool, true, ◌&&◌, cond, eqb, leb, List, [], ◌∷◌, length, map, drop, get_or, false, Option, None, Some, refl, ap, sym, subst, ◌∙◌, inl, inr, arith, add-one}
+use Rattle.std.proofs.lemmas.Bool.{both_ways, or_left, or_right, and_from, and_parts, cases_lt, cond-false, eq-eqb, le-leb, ne_eqb}
 use Rattle.std.proofs.lemmas.Bool.Decides.{Decides-int_eq}
 use Rattle.std.proofs.lemmas.List.Concat.{get_or-flat_map}
 use Rattle.std.proofs.lemmas.List.Folds.{length-flat_map-take}
@@ -12,14 +12,18 @@ use Rattle.sim_game.specs.declared.Side.{Side}
 use Rattle.sim_game.specs.declared.Side.TheVariants.{One, Two}
 use Rattle.sim_game.specs.Model.{whole_chance}
 use Rattle.table.specs.declared.State.{State}
+use Rattle.table.specs.declared.TableError.{TableError}
+use Rattle.table.specs.declared.TableError.TheVariants as errors
 use Rattle.table.specs.declared.rules.CellRule.TheVariants as CellRule
 use Rattle.table.specs.declared.rules.Rule.TheVariants as Rule
-use Rattle.table.specs.BelowLemmas.{all_from, greatest_high, or_none}
-use Rattle.table.specs.Faults.{cell_fits, count_fault, first_fault, lists_fault, rule_fault, do_draws_fit, do_fit, do_states_fit, have_counts, state_fits}
+use Rattle.table.specs.Below.{first_below}
+use Rattle.table.specs.BelowLemmas.{all_from, greatest_high, or_none, or_there}
+use Rattle.table.specs.Faults.{cell_fits, fault_at, is_rank, count_fault, first_fault, lists_fault, rule_fault, do_draws_fit, do_fit, do_states_fit, have_counts, state_fits}
 use Rattle.table.specs.Laws.{pair_below}
 use Rattle.table.specs.Lists.{Lists, cell_rank, next_rank, cells_of, count_in, count_of, draw_state, draw_total, draw_weight, draws_end, draws_at, end_at, first_draw, place_at, state_count, table_cell, table_moves, table_rank, table_state, table_value, table_weight}
 use Rattle.table.specs.Nested.{CellForm, Follows, Draws, StateForm, End, Rows, are_in_range, cell_in_range, cells_told, columns_in, draw_count_of, draw_in_range, draws_of_form, draws_told, given_cells, greatest_in, kept_cells, lists_of_states, moves_told, named_by, rank_behind, rank_told, ranks_told, state_in_range, values_told}
 use Rattle.table.specs.NestedGame.{cell_chance, cell_draws, cell_follows, form_at, form_cell, form_moves, rows_in, AreMoves, IsNestedGame}
+use Rattle.table.specs.NestedRanks.{HaveLongestWays}
 use Rattle.table.specs.Rules.{place_of, table_game}
 use Rattle.table.proofs.PositionLemmas.{moves_from, rank_no_higher}
 use Rattle.table.proofs.RuleLemmas.{keeps_all, leads_behind}
@@ -318,6 +322,48 @@ module _ (forms : List StateForm) (fine : list_all state_in_range forms ≡ true
       inner = λ s rows here e. subst (λ (form : StateForm). IsRanked form (table_rank l s.number)) e (rank_told_at forms s.number here);
     }
 
+-- ---- ranks that are refused
+first_there : {T : Type 0} (n : ℕ) (f : ℕ → Option T) (x : T) → first_below n f ≡ Some x → (k : ℕ) × (k < n) × (f k ≡ Some x)
+first_there zero f x h = absurd (cc)
+first_there (suc n) f x h = elim (or_there (first_below n f) (f n) x h) [
+  | inl earlier ↦ let k = first_there n f x earlier in (k.0, omega (arith, k.1), k.2)
+  | inr last ↦ (n, omega arith, last)
+]
+
+turns_told : (b : Bool) (s : ℕ) (fault : TableError) → cond b None (Some (errors.Turns s)) ≡ Some fault → (b ≡ false) × (fault ≡ errors.Turns s)
+turns_told true s fault h = absurd (cc)
+turns_told false s fault h = (refl, cc)
+
+module _ (forms : List StateForm) (fine : list_all state_in_range forms ≡ true) (order : rule_fault (Rule.Each CellRule.Order) (lists_of_states forms) ≡ None) where
+  abbrev lists : Lists
+  lists = lists_of_states forms
+
+  longest_of : (s : ℕ) (form : StateForm) → s < length forms → form_at forms s ≡ form → 1 ≤ table_rank lists s → table_rank lists s ≡ next_rank lists s + 1
+  longest_of s (End payoff) here e inner = absurd (omega (arith, subst (λ (form : StateForm). IsRanked form (table_rank lists s)) e (rank_told_at forms s here)))
+  longest_of s (Rows rows) here e inner = rank_longest forms fine order s rows here e
+
+  is_rank_told : (s : ℕ) → s < length forms → table_rank lists s ≤ 31 → is_rank lists s ≡ true
+  is_rank_told s here few = and_from _ _ (le-leb (table_rank lists s) 31 few) (elim (cases_lt 0 (table_rank lists s)) [
+    | inl more ↦ or_right (eqb (table_rank lists s) 0) _ (eq-eqb (table_rank lists s) (next_rank lists s + 1) (longest_of s (form_at forms s) here refl (omega arith)))
+    | inr none ↦ or_left (eqb (table_rank lists s) 0) _ (eq-eqb (table_rank lists s) 0 (omega arith))
+  ])
+
+  too_many_turns : (fault : TableError) → rule_fault Rule.Turns lists ≡ Some fault → (s : ℕ) × (fault ≡ errors.Turns s) × (31 < table_rank lists s)
+  too_many_turns fault h =
+      let found = first_there (state_count lists) (fault_at Rule.Turns lists) fault h in
+      let told = turns_told (is_rank lists found.0) found.0 fault found.2 in
+      (found.0, told.1, elim (cases_lt 31 (table_rank lists found.0)) [
+        | inl more ↦ more
+        | inr few ↦ absurd (both_ways (is_rank lists found.0) told.0 (is_rank_told found.0 (omega (arith, found.1, ranks_count forms)) few))
+      ])
+
+  pub ways_told : HaveLongestWays lists
+  ways_told = record {
+    longest = λ s here inner. longest_of s (form_at forms s) (omega (arith, here, ranks_count forms)) refl inner;
+    refused = too_many_turns;
+  }
+
+-- ---- all forms in range
 states_in_range : (forms : List StateForm) → are_in_range forms ≡ true → list_all state_in_range forms ≡ true
 states_in_range forms h = (and_parts (list_all state_in_range forms) _ h).0
 
@@ -326,3 +372,6 @@ forms_fit forms h = nested_fits forms (states_in_range forms h)
 
 pub forms_tell_game : (forms : List StateForm) → are_in_range forms ≡ true → first_fault (lists_of_states forms) ≡ None → IsNestedGame forms (table_game (lists_of_states forms))
 forms_tell_game forms h none = nested_game forms (states_in_range forms h) none
+
+pub forms_have_longest_ways : (forms : List StateForm) → are_in_range forms ≡ true → rule_fault (Rule.Each CellRule.Order) (lists_of_states forms) ≡ None → HaveLongestWays (lists_of_states forms)
+forms_have_longest_ways forms h order = ways_told forms (states_in_range forms h) order

@@ -1,5 +1,5 @@
 -- What holds of the numbers below a number.
-use Rattle.std.proofs.Common.{◌≡◌, ℕ, zero, suc, ◌+◌, ◌<◌, ◌≤◌, Bool, true, false, Option, None, Some, refl, ap, ◌∙◌, inl, inr, arith, add-one}
+use Rattle.std.proofs.Common.{◌≡◌, ℕ, zero, suc, ◌+◌, ◌<◌, ◌≤◌, Bool, true, false, Option, None, Some, refl, ap, ◌∙◌, ◌⊎◌, inl, inr, arith, add-one}
 use Rattle.std.proofs.lemmas.Bool.{and_from, and_left, and_parts, and_right, cases_lt}
 use Rattle.std.specs.Option.{option_or}
 use Rattle.table.specs.Below.{all_below, first_below, highest_below}
@@ -44,6 +44,10 @@ greatest_high (suc n) top f h = omega (arith, h n (omega arith), greatest_high n
 pub or_none : {T : Type 0} (a b : Option T) → option_or a b ≡ None → (a ≡ None) × (b ≡ None)
 or_none None b h = (refl, h)
 or_none (Some x) b h = absurd (cc)
+
+pub or_there : {T : Type 0} (a b : Option T) (x : T) → option_or a b ≡ Some x → (a ≡ Some x) ⊎ (b ≡ Some x)
+or_there None b x h = inr h
+or_there (Some y) b x h = inl h
 
 pub none_at : {T : Type 0} (n : ℕ) (f : ℕ → Option T) (k : ℕ) → first_below n f ≡ None → k < n → f k ≡ None
 none_at zero f k h below = absurd (omega arith)

@@ -6,6 +6,7 @@ pub mod Laws
 pub mod Lists
 pub mod Nested
 pub mod NestedGame
+pub mod NestedRanks
 pub mod Position
 pub mod Ranges
 pub mod Refusals

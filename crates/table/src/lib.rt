@@ -19,7 +19,9 @@ mod rules;
 mod setting;
 mod summary;
 
-pub use nested::{states_fit, states_have_one_game, states_have_short_lists};
+pub use nested::{
+    states_fit, states_have_longest_ways, states_have_one_game, states_have_short_lists,
+};
 pub use refusals::position_has_one_game;
 use rules::{CellRule, Fitting, Rule};
 use setting::Cell;

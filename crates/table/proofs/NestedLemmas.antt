@@ -1,5 +1,5 @@
 -- The lists of a nested form fit each other, and their game is the one that the form tells.
-use Rattle.std.proofs.Common.{◌≡◌, ℕ, zero, suc, ◌+◌, ◌-◌, ◌*◌, ◌/◌, ◌%◌, ◌<◌, ◌≤◌, ℤ, pos, negsuc, Bool, true, ◌&&◌, cond, eqb, leb, List, [], ◌∷◌, length, map, drop, get_or, false, Option, None, Some, refl, ap, sym, subst, ◌∙◌, inl, inr, arith, add-one}
+use Rattle.std.proofs.Common.{◌≡◌, ℕ, zero, suc, ◌+◌, ◌*◌, ◌%◌, ◌<◌, ◌≤◌, ℤ, pos, negsuc, Bool, true, ◌&&◌, cond, eqb, List, [], ◌∷◌, length, map, drop, get_or, false, Option, None, Some, refl, ap, sym, subst, ◌∙◌, inl, inr, arith, add-one}
 use Rattle.std.proofs.lemmas.Bool.{both_ways, or_left, or_right, and_from, and_parts, cases_lt, cond-false, eq-eqb, le-leb, ne_eqb}
 use Rattle.std.proofs.lemmas.Bool.Decides.{Decides-int_eq}
 use Rattle.std.proofs.lemmas.List.Concat.{get_or-flat_map}
@@ -10,7 +10,6 @@ use Rattle.std.specs.Ordering.{int_eq}
 use Rattle.sums.specs.Sums.{count_below}
 use Rattle.sim_game.specs.declared.Side.{Side}
 use Rattle.sim_game.specs.declared.Side.TheVariants.{One, Two}
-use Rattle.sim_game.specs.Model.{whole_chance}
 use Rattle.table.specs.declared.State.{State}
 use Rattle.table.specs.declared.TableError.{TableError}
 use Rattle.table.specs.declared.TableError.TheVariants as errors
@@ -21,7 +20,7 @@ use Rattle.table.specs.BelowLemmas.{all_from, greatest_high, or_none, or_there}
 use Rattle.table.specs.Faults.{cell_fits, fault_at, is_rank, count_fault, first_fault, lists_fault, rule_fault, do_draws_fit, do_fit, do_states_fit, have_counts, state_fits}
 use Rattle.table.specs.Laws.{pair_below}
 use Rattle.table.specs.Lists.{Lists, cell_rank, next_rank, cells_of, count_in, count_of, draw_state, draw_total, draw_weight, draws_end, draws_at, end_at, first_draw, place_at, state_count, table_cell, table_moves, table_rank, table_state, table_value, table_weight}
-use Rattle.table.specs.Nested.{CellForm, Follows, Draws, StateForm, End, Rows, are_in_range, cell_in_range, cells_told, columns_in, draw_count_of, draw_in_range, draws_of_form, draws_told, given_cells, greatest_in, kept_cells, lists_of_states, moves_told, named_by, rank_behind, rank_told, ranks_told, state_in_range, values_told}
+use Rattle.table.specs.Nested.{CellForm, Follows, Draws, StateForm, End, Rows, are_in_range, cell_in_range, columns_in, draw_in_range, draws_of_form, greatest_in, kept_cells, lists_of_states, named_by, rank_behind, rank_told, ranks_told, state_in_range}
 use Rattle.table.specs.NestedGame.{cell_chance, cell_draws, cell_follows, form_at, form_cell, form_moves, rows_in, AreMoves, IsNestedGame}
 use Rattle.table.specs.NestedRanks.{HaveLongestWays}
 use Rattle.table.specs.Rules.{place_of, table_game}
@@ -109,7 +108,7 @@ module _ (forms : List StateForm) (fine : list_all state_in_range forms ≡ true
   states_fit : do_states_fit l ≡ true
   states_fit =
       let all : length l.cells ≡ count_below (state_count l) (cells_of l) =
-          cells_are ∙ sym (before_all kept_cells forms) ∙ sym (cells_before (length forms) (omega arith)) ∙ ap (λ (n : ℕ). count_below n (cells_of l)) (sym states_are) in
+      cells_are ∙ sym (before_all kept_cells forms) ∙ sym (cells_before (length forms) (omega arith)) ∙ ap (λ (n : ℕ). count_below n (cells_of l)) (sym states_are) in
       and_from _ _ (all_from (state_count l) (state_fits l) fits_at) (eq-eqb _ _ all)
 
   counts_fit : have_counts l ≡ true
@@ -194,7 +193,7 @@ module _ (forms : List StateForm) (fine : list_all state_in_range forms ≡ true
       let place : place_at l s k ≡ start + k = ap (λ (z : ℤ). unsigned_abs z + k) (value_is s here ∙ ap (value_told start) e) in (
         omega (arith, place, within, length-flat_map-take kept_cells forms s (End (pos 0)) here),
         ap at place ∙ get_or-flat_map kept_cells forms s k (End (pos 0)) (Follows (pos 0)) here within
-        ∙ ap (λ (form : StateForm). get_or (kept_cells form) k (Follows (pos 0))) e,
+            ∙ ap (λ (form : StateForm). get_or (kept_cells form) k (Follows (pos 0))) e,
       )
 
   -- ---- ranks
@@ -242,14 +241,15 @@ module _ (forms : List StateForm) (fine : list_all state_in_range forms ≡ true
         let place = place_at l s k in
         let there : k < length kept = omega (arith, kept_are) in
         greatest_high (draws_at l place) most (λ d. table_rank l (table_state l place d)) (λ d draw. omega (
-          arith, named_rank k d there draw,
-          named_no_higher rank_of kept k d there (omega (arith, draw, draws_here k there, named_count (get_or kept k (Follows (pos 0)))))
+          arith,
+          named_rank k d there draw,
+          named_no_higher rank_of kept k d there (omega (arith, draw, draws_here k there, named_count (get_or kept k (Follows (pos 0))))),
         )))
 
     pub rank_longest : table_rank l s ≡ next_rank l s + 1
     rank_longest =
         let told : table_rank l s ≡ suc most =
-            counts_told ranks s ∙ rank_in 0 forms s here ∙ ap (λ (n : ℕ). rank_told n (drop (suc s) ranks) (form_at forms s)) (omega arith) ∙ ap (rank_told s (drop (suc s) ranks)) e in
+        counts_told ranks s ∙ rank_in 0 forms s here ∙ ap (λ (n : ℕ). rank_told n (drop (suc s) ranks) (form_at forms s)) (omega arith) ∙ ap (rank_told s (drop (suc s) ranks)) e in
         omega (arith, told, most_high, most_low)
 
   -- ---- the game
@@ -351,11 +351,14 @@ module _ (forms : List StateForm) (fine : list_all state_in_range forms ≡ true
   too_many_turns : (fault : TableError) → rule_fault Rule.Turns lists ≡ Some fault → (s : ℕ) × (fault ≡ errors.Turns s) × (31 < table_rank lists s)
   too_many_turns fault h =
       let found = first_there (state_count lists) (fault_at Rule.Turns lists) fault h in
-      let told = turns_told (is_rank lists found.0) found.0 fault found.2 in
-      (found.0, told.1, elim (cases_lt 31 (table_rank lists found.0)) [
-        | inl more ↦ more
-        | inr few ↦ absurd (both_ways (is_rank lists found.0) told.0 (is_rank_told found.0 (omega (arith, found.1, ranks_count forms)) few))
-      ])
+      let told = turns_told (is_rank lists found.0) found.0 fault found.2 in (
+        found.0,
+        told.1,
+        elim (cases_lt 31 (table_rank lists found.0)) [
+          | inl more ↦ more
+          | inr few ↦ absurd (both_ways (is_rank lists found.0) told.0 (is_rank_told found.0 (omega (arith, found.1, ranks_count forms)) few))
+        ],
+      )
 
   pub ways_told : HaveLongestWays lists
   ways_told = record {

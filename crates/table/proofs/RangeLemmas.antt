@@ -1,14 +1,14 @@
 -- The lists of forms in range are in range.
-use Rattle.std.proofs.Common.{◌≡◌, ℕ, zero, suc, ◌+◌, ◌-◌, ◌*◌, ◌<◌, ◌≤◌, max, ℤ, pos, negsuc, neg_ℤ, ◌≤ℤ◌, Bool, true, ◌&&◌, cond, eqb, leb, List, [], ◌∷◌, ◌++◌, length, map, get_or, All, refl, ap, sym, subst, ◌∙◌, arith}
+use Rattle.std.proofs.Common.{◌≡◌, ℕ, zero, suc, ◌+◌, ◌-◌, ◌≤◌, ℤ, pos, negsuc, neg_ℤ, ◌≤ℤ◌, true, eqb, leb, List, [], ◌∷◌, length, map, get_or, All, refl, ap, sym, ◌∙◌, arith}
 use Rattle.std.proofs.lemmas.Bool.{and_from, and_parts, cond_both, leb-true}
 use Rattle.std.proofs.lemmas.Int.{ints}
 use Rattle.std.proofs.lemmas.List.{get_or-map, length-append, length-map}
 use Rattle.std.proofs.lemmas.List.Concat.{length-flat_map}
 use Rattle.std.proofs.lemmas.List.Sums.{sum-map}
 use Rattle.std.proofs.lemmas.Grind.{flat_map-append}
-use Rattle.std.specs.List.{flat_map, list_all, sum_by}
+use Rattle.std.specs.List.{flat_map, list_all}
 use Rattle.table.specs.Nested.{CellForm, Follows, Draws, StateForm, End, Rows, are_in_range, cell_in_range, cells_told, columns_in, draw_count_of, draw_in_range, draws_of_form, draws_told, given_cells, greatest_in, is_within, kept_cells, lists_of_states, moves_told, named_by, names_state, rank_behind, ranks_told, row_in_range, state_in_range, values_told}
-use Rattle.table.specs.Ranges.{AreWithin, AreListsInRange}
+use Rattle.table.specs.Ranges.{AreListsInRange}
 use Rattle.table.proofs.FormLemmas.{all_flat, all_in, before_all, before_even, cells_count, cells_in_range, draw_of_two, draws_flat, draws_in_range, moves_count, ranks_count, values_count}
 
 -- ---- numbers
@@ -43,9 +43,13 @@ draws_fewer (form ∷ forms) =
     let given = given_cells form in
     let here = kept_or_none (λ (cells : List CellForm). length (flat_map draws_of_form cells) ≤ length (flat_map draws_of_form given)) form (omega arith) (omega arith) in
     omega (
-      arith, here, draws_fewer forms,
-      ap length (flat_map-append draws_of_form kept (flat_map kept_cells forms)), length-append (flat_map draws_of_form kept) (flat_map draws_of_form (flat_map kept_cells forms)),
-      ap length (flat_map-append draws_of_form given (flat_map given_cells forms)), length-append (flat_map draws_of_form given) (flat_map draws_of_form (flat_map given_cells forms)),
+      arith,
+      here,
+      draws_fewer forms,
+      ap length (flat_map-append draws_of_form kept (flat_map kept_cells forms)),
+      length-append (flat_map draws_of_form kept) (flat_map draws_of_form (flat_map kept_cells forms)),
+      ap length (flat_map-append draws_of_form given (flat_map given_cells forms)),
+      length-append (flat_map draws_of_form given) (flat_map draws_of_form (flat_map given_cells forms)),
     )
 
 -- ---- ranks
@@ -154,8 +158,13 @@ module _ (forms : List StateForm) (fine : list_all state_in_range forms ≡ true
       each = all_within (neg_ℤ (pos 1048576)) (pos 1048575) (cells_told 0 cells) (cells_within 0 cells cells_fine (omega (arith, draws_few)));
     };
     draws = record {
-      few = omega (arith, ap length (draws_flat cells), before_all (λ (draw : List ℤ). draw) draws,
-        before_even (λ (draw : List ℤ). draw) draws [] 2 (draw_of_two draws draws_fine) (length draws) (omega arith), draws_few);
+      few = omega (
+        arith,
+        ap length (draws_flat cells),
+        before_all (λ (draw : List ℤ). draw) draws,
+        before_even (λ (draw : List ℤ). draw) draws [] 2 (draw_of_two draws draws_fine) (length draws) (omega arith),
+        draws_few,
+      );
       each = all_within (pos 0) (pos 1048575) (flat_map draws_told cells)
           (ap (list_all names_state) (draws_flat cells) ∙ all_flat draw_in_range names_state (λ (draw : List ℤ). draw) draw_within draws draws_fine);
     };

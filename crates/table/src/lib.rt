@@ -134,7 +134,8 @@ impl<'a> Table<'a> {
     {
         let columns = self.setting.moves(Side::Two, s) as usize;
         let first = self.setting.value(s) as usize;
-        self.setting.cell(first + (a as usize * columns + b as usize))
+        self.setting
+            .cell(first + (a as usize * columns + b as usize))
     }
 
     /// How many draws from the first on are all that can happen.

@@ -1,4 +1,3 @@
-use Rattle.std.proofs.Common.{arith}
 use Rattle.table.specs.Laws.{has_draw}
 use Rattle.table.specs.Rules.{place_of}
 use Rattle.table.specs.Setting.{cell_number, lists_of}

@@ -9,9 +9,9 @@ pub returns-then-weight-eq0 : goal.returns-then-weight-eq0
 returns-then-weight-eq0 c =
     let told = told_weight (lists_of c.args.self.now.setting) c.args.place c.loop-d.d c.weight-weight.result (cell_number c.cell-cell.result) c.cell-cell.ensures c.weight-weight.ensures in
     elim c.then-weight-eq0.branch [
-  | then-weight-eq0-via-then-weight-eq0 w ↦ sym (weight_is_none (lists_of c.args.self.now.setting) c.args.place c.loop-d.d (omega arith) (omega (arith, told)))
-  | then-weight-eq0-via-else-weight-eq0+then-weight-left w ↦ sym (weight_is_more (lists_of c.args.self.now.setting) c.args.place c.loop-d.d c.loop-d.left c.loop-d.invariant (omega arith) (omega (arith, told)))
-]
+      | then-weight-eq0-via-then-weight-eq0 w ↦ sym (weight_is_none (lists_of c.args.self.now.setting) c.args.place c.loop-d.d (omega arith) (omega (arith, told)))
+      | then-weight-eq0-via-else-weight-eq0+then-weight-left w ↦ sym (weight_is_more (lists_of c.args.self.now.setting) c.args.place c.loop-d.d c.loop-d.left c.loop-d.invariant (omega arith) (omega (arith, told)))
+    ]
 
 pub weight-weight-requires : goal.weight-weight-requires
 weight-weight-requires c = has_draw (lists_of c.args.self.now.setting) c.args.place c.loop-d.d (cell_number c.cell-cell.result) c.args.self.now.fits c.cell-cell.ensures (omega arith)

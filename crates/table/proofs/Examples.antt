@@ -1,0 +1,232 @@
+-- Tables computed by hand.
+use Rattle.std.proofs.Common.{◌≡◌, ℕ, ◌+◌, ℤ, pos, negsuc, neg_ℤ, Bool, true, false, List, [], ◌∷◌, map, replicate, Option, None, Some, refl}
+use Rattle.table.specs.declared.TableError.{TableError}
+use Rattle.table.specs.declared.TableError.TheVariants as errors
+use Rattle.table.specs.Faults.{first_fault}
+use Rattle.table.specs.Lists.{Lists, lists_from}
+use Rattle.table.specs.Nested.{CellForm, Follows, Draws, StateForm, End, Rows, are_in_range, lists_of_states}
+use Rattle.table.specs.Rules.{table_game}
+
+-- ---- matching pennies: One wins where the moves are the same
+abbrev to : ℕ → CellForm
+to state = Follows (pos state)
+
+abbrev pair : CellForm → CellForm → List CellForm
+pair c d = c ∷ d ∷ []
+
+abbrev draw : ℕ → ℕ → List ℤ
+draw state weight = pos state ∷ pos weight ∷ []
+
+abbrev pennies : List StateForm
+pennies = Rows (pair (to 1) (to 2) ∷ pair (to 2) (to 1) ∷ []) ∷ End (pos 1) ∷ End (neg_ℤ (pos 1)) ∷ []
+
+pennies_in_range : are_in_range pennies ≡ true
+pennies_in_range = refl
+
+abbrev pennies_lists : Lists
+pennies_lists = record {
+  ranks = pos 1 ∷ pos 0 ∷ pos 0 ∷ [];
+  moves = pos 2 ∷ pos 2 ∷ pos 0 ∷ pos 0 ∷ pos 0 ∷ pos 0 ∷ [];
+  values = pos 0 ∷ pos 1 ∷ neg_ℤ (pos 1) ∷ [];
+  cells = pos 1 ∷ pos 2 ∷ pos 2 ∷ pos 1 ∷ [];
+  draws = [];
+}
+
+lists_of_pennies : lists_of_states pennies ≡ pennies_lists
+lists_of_pennies = refl
+
+pennies_fine : first_fault pennies_lists ≡ None
+pennies_fine = refl
+
+pennies_low : (table_game pennies_lists).low ≡ neg_ℤ (pos 1)
+pennies_low = refl
+
+pennies_high : (table_game pennies_lists).high ≡ pos 1
+pennies_high = refl
+
+pennies_width : (table_game pennies_lists).width ≡ 2
+pennies_width = refl
+
+pennies_chance_free : (table_game pennies_lists).chance_free ≡ true
+pennies_chance_free = refl
+
+pennies_differ : (table_game pennies_lists).drawn (record { number = 0 }) 0 1 0 ≡ record { number = 2 }
+pennies_differ = refl
+
+-- ---- two stages with draws
+abbrev stages : List StateForm
+stages =
+    Rows (pair (to 2) (Draws (draw 2 120120 ∷ draw 5 240240 ∷ [])) ∷ pair (Draws (draw 1 90090 ∷ draw 6 270270 ∷ [])) (to 1) ∷ [])
+    ∷ Rows (pair (to 3) (to 6) ∷ pair (to 6) (to 3) ∷ [])
+    ∷ Rows (pair (to 3) (to 4) ∷ pair (to 5) (to 6) ∷ [])
+    ∷ End (pos 5) ∷ End (pos 1) ∷ End (neg_ℤ (pos 1)) ∷ End (neg_ℤ (pos 5)) ∷ []
+
+stages_in_range : are_in_range stages ≡ true
+stages_in_range = refl
+
+abbrev stages_lists : Lists
+stages_lists = record {
+  ranks = pos 2 ∷ pos 1 ∷ pos 1 ∷ pos 0 ∷ pos 0 ∷ pos 0 ∷ pos 0 ∷ [];
+  moves = pos 2 ∷ pos 2 ∷ pos 2 ∷ pos 2 ∷ pos 2 ∷ pos 2 ∷ pos 0 ∷ pos 0 ∷ pos 0 ∷ pos 0 ∷ pos 0 ∷ pos 0 ∷ pos 0 ∷ pos 0 ∷ [];
+  values = pos 0 ∷ pos 4 ∷ pos 8 ∷ pos 5 ∷ pos 1 ∷ neg_ℤ (pos 1) ∷ neg_ℤ (pos 5) ∷ [];
+  cells = pos 2 ∷ negsuc 0 ∷ negsuc 2 ∷ pos 1 ∷ pos 3 ∷ pos 6 ∷ pos 6 ∷ pos 3 ∷ pos 3 ∷ pos 4 ∷ pos 5 ∷ pos 6 ∷ [];
+  draws = pos 2 ∷ pos 120120 ∷ pos 5 ∷ pos 240240 ∷ pos 1 ∷ pos 90090 ∷ pos 6 ∷ pos 270270 ∷ [];
+}
+
+lists_of_stages : lists_of_states stages ≡ stages_lists
+lists_of_stages = refl
+
+stages_fine : first_fault stages_lists ≡ None
+stages_fine = refl
+
+stages_with_chance : (table_game stages_lists).chance_free ≡ false
+stages_with_chance = refl
+
+-- the last draws end with the list
+stages_draws : (table_game stages_lists).draws (record { number = 0 }) 1 0 ≡ 2
+stages_draws = refl
+
+stages_chance : (table_game stages_lists).chance (record { number = 0 }) 0 1 1 ≡ 240240
+stages_chance = refl
+
+stages_drawn : (table_game stages_lists).drawn (record { number = 0 }) 1 0 1 ≡ record { number = 6 }
+stages_drawn = refl
+
+stages_certain : (table_game stages_lists).chance (record { number = 2 }) 1 1 0 ≡ 360360
+stages_certain = refl
+
+-- ---- rows of unequal length have no cells
+ragged_has_no_cells : lists_of_states (Rows (pair (to 1) (to 1) ∷ (to 1 ∷ []) ∷ []) ∷ End (pos 3) ∷ []) ≡ record {
+  ranks = pos 1 ∷ pos 0 ∷ [];
+  moves = pos 2 ∷ pos 0 ∷ pos 0 ∷ pos 0 ∷ [];
+  values = pos 0 ∷ pos 3 ∷ [];
+  cells = [];
+  draws = [];
+}
+ragged_has_no_cells = refl
+
+-- ---- a state that stands before, or is not there, has no rank
+backward_has_rank_one : (lists_of_states (End (pos 0) ∷ Rows ((to 0 ∷ []) ∷ []) ∷ Rows ((to 7 ∷ []) ∷ []) ∷ [])).ranks ≡ pos 0 ∷ pos 1 ∷ pos 1 ∷ []
+backward_has_rank_one = refl
+
+-- ---- forms out of range
+abbrev in_range : StateForm → Bool
+in_range form = are_in_range (form ∷ [])
+
+high_end : in_range (End (pos 1000001)) ≡ false
+high_end = refl
+
+low_end : in_range (End (neg_ℤ (pos 1000001))) ≡ false
+low_end = refl
+
+lowest_end : in_range (End (neg_ℤ (pos 1000000))) ≡ true
+lowest_end = refl
+
+state_below_none : in_range (Rows ((Follows (neg_ℤ (pos 1)) ∷ []) ∷ [])) ≡ false
+state_below_none = refl
+
+weight_too_long : in_range (Rows ((Draws (draw 1 1048576 ∷ []) ∷ []) ∷ [])) ≡ false
+weight_too_long = refl
+
+draw_of_three : in_range (Rows ((Draws ((pos 1 ∷ pos 2 ∷ pos 3 ∷ []) ∷ []) ∷ []) ∷ [])) ≡ false
+draw_of_three = refl
+
+most_rows : in_range (Rows (replicate 255 [])) ≡ true
+most_rows = refl
+
+too_many_rows : in_range (Rows (replicate 256 [])) ≡ false
+too_many_rows = refl
+
+too_many_cells : in_range (Rows (replicate 256 (to 1) ∷ [])) ≡ false
+too_many_cells = refl
+
+too_many_draws : in_range (Rows ((Draws (replicate 256 (draw 1 1)) ∷ []) ∷ [])) ≡ false
+too_many_draws = refl
+
+-- ---- what is told of forms in range: each refusal, and its place
+abbrev told_of : List StateForm → Option TableError
+told_of forms = first_fault (lists_of_states forms)
+
+no_states : told_of [] ≡ Some errors.NoStates
+no_states = refl
+
+high_payoff : told_of (Rows [] ∷ End (pos 4000) ∷ End (neg_ℤ (pos 4001)) ∷ []) ≡ Some (errors.PayoffRange 2)
+high_payoff = refl
+
+no_rows : told_of (End (pos 0) ∷ Rows [] ∷ Rows [] ∷ []) ≡ Some (errors.RowsRange 1)
+no_rows = refl
+
+many_rows : told_of (Rows (replicate 33 (to 1 ∷ [])) ∷ End (pos 0) ∷ []) ≡ Some (errors.RowsRange 0)
+many_rows = refl
+
+no_cells : told_of (Rows ([] ∷ [] ∷ []) ∷ End (pos 0) ∷ []) ≡ Some (errors.CellsRange 0)
+no_cells = refl
+
+rows_differ : told_of (Rows ((to 2 ∷ []) ∷ []) ∷ Rows (pair (to 2) (to 2) ∷ (to 2 ∷ []) ∷ []) ∷ End (pos 0) ∷ []) ≡ Some (errors.CellsRange 1)
+rows_differ = refl
+
+-- the first of the two states without draws
+no_draws : told_of (Rows (pair (to 2) (to 2) ∷ pair (Draws []) (to 2) ∷ []) ∷ Rows (pair (Draws []) (to 2) ∷ []) ∷ End (pos 0) ∷ []) ≡ Some (errors.DrawsRange 0 1 0)
+no_draws = refl
+
+many_draws : told_of (Rows (pair (to 1) (Draws (replicate 14 (draw 1 27720))) ∷ []) ∷ End (pos 0) ∷ []) ≡ Some (errors.DrawsRange 0 0 1)
+many_draws = refl
+
+most_draws : told_of (Rows (pair (to 1) (Draws (replicate 13 (draw 1 27720))) ∷ []) ∷ End (pos 0) ∷ []) ≡ None
+most_draws = refl
+
+one_short : told_of (Rows (pair (to 1) (to 1) ∷ pair (to 1) (Draws (draw 1 180180 ∷ draw 1 180179 ∷ [])) ∷ []) ∷ End (pos 0) ∷ []) ≡ Some (errors.Weights 0 1 1)
+one_short = refl
+
+weight_none : told_of (Rows ((Draws (draw 1 0 ∷ draw 1 360360 ∷ []) ∷ []) ∷ []) ∷ End (pos 0) ∷ []) ≡ Some (errors.Weights 0 0 0)
+weight_none = refl
+
+-- a weight comes before an order, whichever stands first
+weights_first : told_of (Rows ((to 0 ∷ []) ∷ []) ∷ Rows ((Draws (draw 2 1 ∷ []) ∷ []) ∷ []) ∷ End (pos 0) ∷ []) ≡ Some (errors.Weights 1 0 0)
+weights_first = refl
+
+leads_nowhere : told_of (Rows (pair (to 1) (to 2) ∷ pair (to 0) (to 1) ∷ []) ∷ End (pos 0) ∷ []) ≡ Some (errors.Order 0 0 1)
+leads_nowhere = refl
+
+leads_to_itself : told_of (Rows ((to 1 ∷ []) ∷ []) ∷ Rows ((to 1 ∷ []) ∷ []) ∷ End (pos 0) ∷ []) ≡ Some (errors.Order 1 0 0)
+leads_to_itself = refl
+
+-- each state leads to the next
+abbrev line_from : ℕ → List ℕ → List StateForm
+line_from s [] = End (pos 0) ∷ []
+line_from s (turn ∷ turns) = Rows ((to (s + 1) ∷ []) ∷ []) ∷ line_from (s + 1) turns
+
+longest_line : told_of (line_from 0 (replicate 31 0)) ≡ None
+longest_line = refl
+
+line_too_long : told_of (line_from 0 (replicate 32 0)) ≡ Some (errors.Turns 0)
+line_too_long = refl
+
+-- ---- lists that are those of no states
+abbrev counts : List ℕ → List ℤ
+counts = map pos
+
+rank_missing : first_fault (lists_from (counts (1 ∷ 0 ∷ [])) (counts (2 ∷ 2 ∷ 0 ∷ 0 ∷ 0 ∷ 0 ∷ []))
+    (pos 0 ∷ pos 1 ∷ negsuc 0 ∷ []) (pos 1 ∷ pos 2 ∷ pos 2 ∷ pos 1 ∷ []) []) ≡ Some errors.Lists
+rank_missing = refl
+
+moves_at_end : first_fault (lists_from (counts (0 ∷ [])) (counts (1 ∷ 0 ∷ [])) (pos 0 ∷ []) [] []) ≡ Some errors.Lists
+moves_at_end = refl
+
+draws_from_one : first_fault (lists_from (counts (1 ∷ 0 ∷ [])) (counts (1 ∷ 1 ∷ 0 ∷ 0 ∷ []))
+    (pos 0 ∷ pos 1 ∷ []) (negsuc 1 ∷ []) (counts (1 ∷ 180180 ∷ 1 ∷ 360360 ∷ []))) ≡ Some errors.Lists
+draws_from_one = refl
+
+-- the draws of the second cell begin before those of the first
+draws_fall : first_fault (lists_from (counts (1 ∷ 0 ∷ [])) (counts (1 ∷ 2 ∷ 0 ∷ 0 ∷ []))
+    (pos 0 ∷ pos 0 ∷ []) (negsuc 1 ∷ negsuc 0 ∷ []) (counts (1 ∷ 360360 ∷ 1 ∷ 360360 ∷ []))) ≡ Some errors.Lists
+draws_fall = refl
+
+-- a cell that no state has
+cell_too_many : first_fault (lists_from (counts (1 ∷ 0 ∷ [])) (counts (1 ∷ 1 ∷ 0 ∷ 0 ∷ [])) (pos 0 ∷ pos 0 ∷ []) (pos 1 ∷ pos 1 ∷ []) []) ≡ Some errors.Lists
+cell_too_many = refl
+
+-- lists of a report may have a rank that is no longest way
+rank_too_high : first_fault (lists_from (counts (2 ∷ 0 ∷ 0 ∷ [])) (counts (2 ∷ 2 ∷ 0 ∷ 0 ∷ 0 ∷ 0 ∷ []))
+    (pos 0 ∷ pos 1 ∷ negsuc 0 ∷ []) (pos 1 ∷ pos 2 ∷ pos 2 ∷ pos 1 ∷ []) []) ≡ Some (errors.Turns 0)
+rank_too_high = refl

@@ -1,0 +1,387 @@
+-- The lists of a nested form fit each other, and their game is the one that the form tells.
+use Rattle.std.proofs.Common.{◌≡◌, ℕ, zero, suc, ◌+◌, ◌*◌, ◌%◌, ◌<◌, ◌≤◌, ℤ, pos, negsuc, Bool, true, ◌&&◌, cond, eqb, List, [], ◌∷◌, length, map, drop, get_or, false, Option, None, Some, refl, ap, sym, subst, ◌∙◌, inl, inr, arith, add-one}
+use Rattle.std.proofs.lemmas.Bool.{both_ways, or_left, or_right, and_from, and_parts, cases_lt, cond-false, eq-eqb, le-leb, ne_eqb}
+use Rattle.std.proofs.lemmas.Bool.Decides.{Decides-int_eq}
+use Rattle.std.proofs.lemmas.List.Concat.{get_or-flat_map}
+use Rattle.std.proofs.lemmas.List.Folds.{length-flat_map-take}
+use Rattle.std.specs.Int.RustNames.{unsigned_abs}
+use Rattle.std.specs.List.{flat_map, list_all}
+use Rattle.std.specs.Ordering.{int_eq}
+use Rattle.sums.specs.Sums.{count_below}
+use Rattle.sim_game.specs.declared.Side.{Side}
+use Rattle.sim_game.specs.declared.Side.TheVariants.{One, Two}
+use Rattle.table.specs.declared.State.{State}
+use Rattle.table.specs.declared.TableError.{TableError}
+use Rattle.table.specs.declared.TableError.TheVariants as errors
+use Rattle.table.specs.declared.rules.CellRule.TheVariants as CellRule
+use Rattle.table.specs.declared.rules.Rule.TheVariants as Rule
+use Rattle.table.specs.Below.{first_below}
+use Rattle.table.specs.BelowLemmas.{all_from, greatest_high, or_none, or_there}
+use Rattle.text.specs.Faults.{first_some}
+use Rattle.table.specs.Faults.{AreOrdered, cell_fits, fault_at, is_rank, count_fault, first_fault, lists_fault, rule_fault, do_draws_fit, do_fit, do_states_fit, have_counts, state_fits}
+use Rattle.table.specs.Laws.{pair_below}
+use Rattle.table.specs.Lists.{Lists, cell_rank, next_rank, cells_of, count_in, count_of, draw_state, draw_total, draw_weight, draws_end, draws_at, end_at, first_draw, place_at, state_count, table_cell, table_moves, table_rank, table_state, table_value, table_weight}
+use Rattle.table.specs.Nested.{CellForm, Follows, Draws, StateForm, End, Rows, are_in_range, cell_in_range, columns_in, draw_in_range, draws_of_form, greatest_in, kept_cells, lists_of_states, named_by, rank_behind, rank_told, ranks_told, state_in_range}
+use Rattle.table.specs.NestedGame.{cell_chance, cell_draws, cell_follows, form_at, form_cell, form_moves, rows_in, HaveMoves, IsNestedGame}
+use Rattle.table.specs.NestedRanks.{HaveLongestWays}
+use Rattle.table.specs.Rules.{place_of, table_game}
+use Rattle.table.proofs.PositionLemmas.{moves_from, rank_no_higher}
+use Rattle.table.proofs.RuleLemmas.{keeps_all, leads_behind}
+use Rattle.table.proofs.WayLemmas.{behind_is, greatest_named, named_at, named_count, named_is, named_no_higher, rank_in}
+use Rattle.table.proofs.FormLemmas.{all_in, before, before_all, before_even, before_more, cell_told, cells_count, cells_in_range, columns_of, columns_told, count_before, counts_told, draw_at, draw_of_two, draws_flat, draws_in_range, ends_told, kept_cell, kept_count, later_ends_told, moves_count, number_told, rank_told_at, ranks_count, row_length, rows_told, value_at_told, value_told, values_count, IsRanked}
+
+-- ---- a state
+state_fits_told : (form : StateForm) (rank one two cells : ℕ) (value : ℤ) → IsRanked form rank → one ≡ length (rows_in form) → two ≡ columns_of form → value ≡ value_told cells form
+    → cond (eqb rank 0) (eqb one 0 && eqb two 0) (int_eq value (pos cells)) ≡ true
+state_fits_told (End payoff) rank one two cells value ranked e f v = rw (eq-eqb rank 0 ranked, e, f) refl
+state_fits_told (Rows rows) rank one two cells value ranked e f v =
+    cond-false (eqb rank 0) (eqb one 0 && eqb two 0) (int_eq value (pos cells)) (ne_eqb rank 0 (λ z. absurd (omega arith))) ∙ (Decides-int_eq value (pos cells)).1 v
+
+-- ---- a cell
+first_low : (n : ℕ) (cell : CellForm) → cell_in_range cell ≡ true → first_draw (number_told n cell) ≤ n
+first_low n (Follows (pos state)) fine = omega arith
+first_low n (Follows (negsuc state)) fine = absurd (cc)
+first_low n (Draws draws) fine = omega arith
+
+count_told : (n last : ℕ) (cell : CellForm) → cell_in_range cell ≡ true → last ≡ n + length (draws_of_form cell) → count_of (number_told n cell) last ≡ cell_draws cell
+count_told n last (Follows (pos state)) fine e = refl
+count_told n last (Follows (negsuc state)) fine e = absurd (cc)
+count_told n last (Draws draws) fine e = omega (arith, e)
+
+first_row : (rows : List (List CellForm)) → 1 ≤ columns_in rows → length (get_or rows 0 []) ≡ columns_in rows
+first_row [] some = absurd (omega arith)
+first_row (row ∷ rows) some = row_length (row ∷ rows) 0 some (omega arith)
+
+module _ (forms : List StateForm) (fine : list_all state_in_range forms ≡ true) where
+  abbrev l : Lists
+  l = lists_of_states forms
+
+  abbrev cells : List CellForm
+  cells = flat_map kept_cells forms
+
+  abbrev draws : List (List ℤ)
+  draws = flat_map draws_of_form cells
+
+  cells_fine : list_all cell_in_range cells ≡ true
+  cells_fine = cells_in_range forms fine
+
+  draws_fine : list_all draw_in_range draws ≡ true
+  draws_fine = draws_in_range cells cells_fine
+
+  -- ---- counts
+  states_are : state_count l ≡ length forms
+  states_are = ranks_count forms
+
+  cells_are : length l.cells ≡ length cells
+  cells_are = cells_count 0 cells
+
+  draws_are : length l.draws ≡ 2 * length draws
+  draws_are =
+      ap length (draws_flat cells) ∙ sym (before_all (λ (draw : List ℤ). draw) draws)
+      ∙ before_even (λ (draw : List ℤ). draw) draws [] 2 (draw_of_two draws draws_fine) (length draws) (omega arith) ∙ omega arith
+
+  total_is : draw_total l ≡ length draws
+  total_is = omega (arith, draws_are)
+
+  -- ---- states
+  one_is : (s : ℕ) → s < length forms → table_moves l One s ≡ length (rows_in (form_at forms s))
+  one_is s here = rows_told forms s here
+
+  two_is : (s : ℕ) → s < length forms → table_moves l Two s ≡ columns_of (form_at forms s)
+  two_is s here = columns_told forms s here
+
+  cells_in_state : (s : ℕ) → s < length forms → cells_of l s ≡ length (kept_cells (form_at forms s))
+  cells_in_state s here = rw (one_is s here, two_is s here) (sym (kept_count (form_at forms s)))
+
+  cells_before : (s : ℕ) → s ≤ length forms → count_below s (cells_of l) ≡ before kept_cells forms s
+  cells_before s le = count_before kept_cells forms (End (pos 0)) (cells_of l) cells_in_state s le
+
+  value_is : (s : ℕ) → s < length forms → table_value l s ≡ value_told (before kept_cells forms s) (form_at forms s)
+  value_is s here = value_at_told 0 forms s here ∙ ap (λ (n : ℕ). value_told n (form_at forms s)) (omega arith)
+
+  fits_at : (s : ℕ) → s < state_count l → state_fits l s ≡ true
+  fits_at s below =
+      let here : s < length forms = omega (arith, states_are) in
+      let value : table_value l s ≡ value_told (count_below s (cells_of l)) (form_at forms s) = value_is s here ∙ ap (λ (n : ℕ). value_told n (form_at forms s)) (sym (cells_before s (omega arith))) in
+      state_fits_told (form_at forms s) (table_rank l s) (table_moves l One s) (table_moves l Two s) (count_below s (cells_of l)) (table_value l s)
+      (rank_told_at forms s here) (one_is s here) (two_is s here) value
+
+  states_fit : do_states_fit l ≡ true
+  states_fit =
+      let all : length l.cells ≡ count_below (state_count l) (cells_of l) =
+      cells_are ∙ sym (before_all kept_cells forms) ∙ sym (cells_before (length forms) (omega arith)) ∙ ap (λ (n : ℕ). count_below n (cells_of l)) (sym states_are) in
+      and_from _ _ (all_from (state_count l) (state_fits l) fits_at) (eq-eqb _ _ all)
+
+  counts_fit : have_counts l ≡ true
+  counts_fit = and_from _ _ (and_from _ _ (eq-eqb (length l.moves) (2 * state_count l) (omega (arith, moves_count forms, states_are)))
+      (eq-eqb (length l.values) (state_count l) (values_count 0 forms ∙ sym states_are))) (eq-eqb (length l.draws % 2) 0 (omega (arith, draws_are)))
+
+  -- ---- cells
+  abbrev at : ℕ → CellForm
+  at place = get_or cells place (Follows (pos 0))
+
+  abbrev first : ℕ → ℕ
+  first place = before draws_of_form cells place
+
+  cell_is : (place : ℕ) → place < length cells → table_cell l place ≡ number_told (first place) (at place)
+  cell_is place here = cell_told 0 cells place here ∙ ap (λ (n : ℕ). number_told n (at place)) (omega arith)
+
+  end_is : (place : ℕ) → place < length cells → end_at l place ≡ first place + length (draws_of_form (at place))
+  end_is place here =
+      later_ends_told 0 (draw_total l) cells (place + 1) cells_fine (omega (arith, total_is))
+      ∙ omega (arith, ap (λ (k : ℕ). before draws_of_form cells k) (add-one place), before_more draws_of_form cells place (Follows (pos 0)) here)
+
+  is_fine : (place : ℕ) → place < length cells → cell_in_range (at place) ≡ true
+  is_fine place here = all_in cell_in_range cells (Follows (pos 0)) place cells_fine here
+
+  cell_fits_at : (place : ℕ) → place < length l.cells → cell_fits l place ≡ true
+  cell_fits_at place below =
+      let here : place < length cells = omega (arith, cells_are) in
+      let low : first_draw (table_cell l place) ≤ first place = rw (cell_is place here) (first_low (first place) (at place) (is_fine place here)) in
+      le-leb (first_draw (table_cell l place)) (end_at l place) (omega (arith, low, end_is place here))
+
+  draws_fit : do_draws_fit l ≡ true
+  draws_fit = and_from _ _ (all_from (length l.cells) (cell_fits l) cell_fits_at) (eq-eqb (draws_end l.cells (draw_total l)) 0 (ends_told 0 (draw_total l) cells cells_fine (omega (arith, total_is))))
+
+  pub nested_fits : do_fit l ≡ true
+  nested_fits = and_from _ _ (and_from _ _ counts_fit states_fit) draws_fit
+
+  -- ---- draws
+  draws_are_at : (place : ℕ) → place < length cells → draws_at l place ≡ cell_draws (at place)
+  draws_are_at place here =
+      ap (λ (z : ℤ). count_of z (end_at l place)) (cell_is place here) ∙ count_told (first place) (end_at l place) (at place) (is_fine place here) (end_is place here)
+
+  -- a number of a draw of the cell at the place
+  number_at : (place d i : ℕ) (more : List (List ℤ)) → place < length cells → at place ≡ Draws more → d < length more → i < 2
+      → count_in l.draws (2 * (first place + d) + i) ≡ count_in (get_or more d []) i
+  number_at place d i more here e below few =
+      let same : draws_of_form (at place) ≡ more = ap draws_of_form e in
+      let count : length (draws_of_form (at place)) ≡ length more = ap length same in
+      let within : first place + d < length draws = omega (arith, length-flat_map-take draws_of_form cells place (Follows (pos 0)) here, count) in
+      ap (λ (ns : List ℤ). count_in ns (2 * (first place + d) + i)) (draws_flat cells)
+      ∙ draw_at draws draws_fine (first place + d) i within few
+      ∙ ap (λ (draw : List ℤ). count_in draw i) (get_or-flat_map draws_of_form cells place d (Follows (pos 0)) [] here (omega (arith, count)) ∙ ap (λ (ds : List (List ℤ)). get_or ds d []) same)
+
+  weight_of_draw : (place d : ℕ) (cell : CellForm) → place < length cells → at place ≡ cell → cell_in_range cell ≡ true → d < cell_draws cell
+      → draw_weight l.draws (number_told (first place) cell) d ≡ cell_chance cell d
+  weight_of_draw place d (Follows (pos state)) here e fine below = refl
+  weight_of_draw place d (Follows (negsuc state)) here e fine below = absurd (cc)
+  weight_of_draw place d (Draws more) here e fine below = number_at place d 1 more here e below (omega arith)
+
+  state_of_draw : (place d : ℕ) (cell : CellForm) → place < length cells → at place ≡ cell → cell_in_range cell ≡ true → d < cell_draws cell
+      → draw_state l.draws (number_told (first place) cell) d ≡ cell_follows cell d
+  state_of_draw place d (Follows (pos state)) here e fine below = refl
+  state_of_draw place d (Follows (negsuc state)) here e fine below = absurd (cc)
+  state_of_draw place d (Draws more) here e fine below =
+      ap (λ (n : ℕ). count_in l.draws n) (omega arith) ∙ number_at place d 0 more here e below (omega arith)
+
+  weight_is : (place d : ℕ) → place < length cells → d < cell_draws (at place) → table_weight l place d ≡ cell_chance (at place) d
+  weight_is place d here below =
+      ap (λ (z : ℤ). draw_weight l.draws z d) (cell_is place here) ∙ weight_of_draw place d (at place) here refl (is_fine place here) below
+
+  state_is : (place d : ℕ) → place < length cells → d < cell_draws (at place) → table_state l place d ≡ cell_follows (at place) d
+  state_is place d here below =
+      ap (λ (z : ℤ). draw_state l.draws z d) (cell_is place here) ∙ state_of_draw place d (at place) here refl (is_fine place here) below
+
+  -- ---- the cells of a state
+  -- a cell, by its place among those of its state
+  cell_of_state : (s k : ℕ) (rows : List (List CellForm)) → s < length forms → form_at forms s ≡ Rows rows → k < length (kept_cells (Rows rows))
+      → (place_at l s k < length cells) × (at (place_at l s k) ≡ get_or (kept_cells (Rows rows)) k (Follows (pos 0)))
+  cell_of_state s k rows here e below =
+      let start = before kept_cells forms s in
+      let kept = kept_cells (form_at forms s) in
+      let within : k < length kept = omega (arith, below, ap (λ (form : StateForm). length (kept_cells form)) e) in
+      let place : place_at l s k ≡ start + k = ap (λ (z : ℤ). unsigned_abs z + k) (value_is s here ∙ ap (value_told start) e) in (
+        omega (arith, place, within, length-flat_map-take kept_cells forms s (End (pos 0)) here),
+        ap at place ∙ get_or-flat_map kept_cells forms s k (End (pos 0)) (Follows (pos 0)) here within
+            ∙ ap (λ (form : StateForm). get_or (kept_cells form) k (Follows (pos 0))) e,
+      )
+
+  -- ---- ranks
+  abbrev ranks : List ℕ
+  ranks = ranks_told 0 forms
+
+  module _ (order : AreOrdered l) (s : ℕ) (rows : List (List CellForm)) (here : s < length forms) (e : form_at forms s ≡ Rows rows) where
+    abbrev kept : List CellForm
+    kept = kept_cells (Rows rows)
+
+    abbrev rank_of : ℤ → ℕ
+    rank_of z = rank_behind s (drop (suc s) ranks) z
+
+    kept_are : cells_of l s ≡ length kept
+    kept_are = cells_in_state s here ∙ ap (λ (form : StateForm). length (kept_cells form)) e
+
+    cell_here : (k : ℕ) → k < length kept → (place_at l s k < length cells) × (at (place_at l s k) ≡ get_or kept k (Follows (pos 0)))
+    cell_here k below = cell_of_state s k rows here e below
+
+    draws_here : (k : ℕ) → k < length kept → draws_at l (place_at l s k) ≡ cell_draws (get_or kept k (Follows (pos 0)))
+    draws_here k below = draws_are_at (place_at l s k) (cell_here k below).0 ∙ ap cell_draws (cell_here k below).1
+
+    -- the rank of a state that a cell names
+    named_rank : (k d : ℕ) → k < length kept → d < draws_at l (place_at l s k) → rank_of (named_at kept k d) ≡ table_rank l (table_state l (place_at l s k) d)
+    named_rank k d below draw =
+        let place = place_at l s k in
+        let cell = cell_here k below in
+        let count = draws_are_at place cell.0 in
+        let next = table_state l place d in
+        let state : next ≡ cell_follows (at place) d = state_is place d cell.0 (omega (arith, count, draw)) in
+        let behind : s < next = leads_behind l s place d (keeps_all CellRule.Order l s k order (omega (arith, states_are)) (omega (arith, kept_are))) draw in
+        let named : get_or (named_by (at place)) d (pos 0) ≡ pos next = named_is (at place) d (is_fine place cell.0) (omega (arith, count, draw)) ∙ ap pos (sym state) in
+        ap (λ (c : CellForm). rank_of (get_or (named_by c) d (pos 0))) (sym cell.1) ∙ ap rank_of named ∙ behind_is s ranks next behind ∙ sym (counts_told ranks next)
+
+    abbrev most : ℕ
+    most = greatest_in (map rank_of (flat_map named_by kept))
+
+    most_high : most ≤ next_rank l s
+    most_high = greatest_named rank_of (next_rank l s) kept (λ k d below draw.
+        let few : d < draws_at l (place_at l s k) = omega (arith, draw, draws_here k below, named_count (get_or kept k (Follows (pos 0)))) in
+        omega (arith, named_rank k d below few, rank_no_higher l s k d (omega (arith, kept_are)) few))
+
+    most_low : next_rank l s ≤ most
+    most_low = greatest_high (cells_of l s) most (λ k. cell_rank l (place_at l s k)) (λ k below.
+        let place = place_at l s k in
+        let there : k < length kept = omega (arith, kept_are) in
+        greatest_high (draws_at l place) most (λ d. table_rank l (table_state l place d)) (λ d draw. omega (
+          arith,
+          named_rank k d there draw,
+          named_no_higher rank_of kept k d there (omega (arith, draw, draws_here k there, named_count (get_or kept k (Follows (pos 0))))),
+        )))
+
+    pub rank_longest : table_rank l s ≡ next_rank l s + 1
+    rank_longest =
+        let told : table_rank l s ≡ suc most =
+        counts_told ranks s ∙ rank_in 0 forms s here ∙ ap (λ (n : ℕ). rank_told n (drop (suc s) ranks) (form_at forms s)) (omega arith) ∙ ap (rank_told s (drop (suc s) ranks)) e in
+        omega (arith, told, most_high, most_low)
+
+  -- ---- the game
+  module _ (none : first_fault l ≡ None) where
+    abbrev cell_faults : List (Option TableError)
+    cell_faults = rule_fault (Rule.Each CellRule.Draws) l ∷ rule_fault (Rule.Each CellRule.Weights) l ∷ rule_fault (Rule.Each CellRule.Order) l ∷ rule_fault Rule.Turns l ∷ []
+
+    after_payoffs : first_some (rule_fault Rule.Rows l ∷ rule_fault Rule.Cells l ∷ cell_faults) ≡ None
+    after_payoffs = (or_none (rule_fault Rule.Payoff l) _ (or_none (count_fault l) _ (or_none (lists_fault l) _ none).1).1).1
+
+    rows_none : rule_fault Rule.Rows l ≡ None
+    rows_none = (or_none (rule_fault Rule.Rows l) _ after_payoffs).0
+
+    columns_none : rule_fault Rule.Cells l ≡ None
+    columns_none = (or_none (rule_fault Rule.Cells l) _ (or_none (rule_fault Rule.Rows l) _ after_payoffs).1).0
+
+    columns_some : (s : ℕ) (rows : List (List CellForm)) → s < length forms → form_at forms s ≡ Rows rows → 1 ≤ columns_in rows
+    columns_some s rows here e =
+        let inner : 1 ≤ table_rank l s = subst (λ (form : StateForm). IsRanked form (table_rank l s)) e (rank_told_at forms s here) in
+        let told : table_moves l Two s ≡ columns_in rows = two_is s here ∙ ap columns_of e in
+        omega (arith, told, (moves_from l rows_none columns_none Two s (omega (arith, states_are)) inner).0)
+
+    columns_first : (s : ℕ) (form : StateForm) → s < length forms → form_at forms s ≡ form → columns_of form ≡ form_moves Two form
+    columns_first s (End payoff) here e = refl
+    columns_first s (Rows rows) here e = sym (first_row rows (columns_some s rows here e))
+
+    -- the cell of two moves, and that it is there
+    cell_of_moves : (s a b : ℕ) (form : StateForm) → s < length forms → form_at forms s ≡ form → a < form_moves One form → b < form_moves Two form
+        → (place_of l s a b < length cells) × (at (place_of l s a b) ≡ form_cell form a b)
+    cell_of_moves s a b (End payoff) here e one two = absurd (omega arith)
+    cell_of_moves s a b (Rows rows) here e one two =
+        let columns = columns_in rows in
+        let some = columns_some s rows here e in
+        let low : b < columns = omega (arith, first_row rows some) in
+        let told : table_moves l Two s ≡ columns = two_is s here ∙ ap columns_of e in
+        let place : place_of l s a b ≡ place_at l s (a * columns + b) = ap (λ (n : ℕ). place_at l s (a * n + b)) told in
+        let within : a * columns + b < length (kept_cells (Rows rows)) = omega (arith, kept_count (Rows rows), pair_below a b (length rows) columns one low) in
+        let cell = cell_of_state s (a * columns + b) rows here e within in
+        (omega (arith, place, cell.0), ap at place ∙ cell.1 ∙ kept_cell rows a b some one low)
+
+    module _ (s : State) (a b : ℕ) (m : HaveMoves forms s a b) where
+      abbrev cell : CellForm
+      cell = form_cell (form_at forms s.number) a b
+
+      there : (place_of l s.number a b < length cells) × (at (place_of l s.number a b) ≡ cell)
+      there = cell_of_moves s.number a b (form_at forms s.number) m.here refl m.one m.two
+
+      same_draws : draws_at l (place_of l s.number a b) ≡ cell_draws cell
+      same_draws = draws_are_at (place_of l s.number a b) there.0 ∙ ap cell_draws there.1
+
+      same_chance : (d : ℕ) → d < cell_draws cell → table_weight l (place_of l s.number a b) d ≡ cell_chance cell d
+      same_chance d below =
+          weight_is (place_of l s.number a b) d there.0 (omega (arith, ap cell_draws there.1)) ∙ ap (λ (c : CellForm). cell_chance c d) there.1
+
+      same_state : (d : ℕ) → d < cell_draws cell → table_state l (place_of l s.number a b) d ≡ cell_follows cell d
+      same_state d below =
+          state_is (place_of l s.number a b) d there.0 (omega (arith, ap cell_draws there.1)) ∙ ap (λ (c : CellForm). cell_follows c d) there.1
+
+    same_moves : (side : Side) (s : ℕ) → s < length forms → table_moves l side s ≡ form_moves side (form_at forms s)
+    same_moves One s here = one_is s here
+    same_moves Two s here = two_is s here ∙ columns_first s (form_at forms s) here refl
+
+    pub nested_game : IsNestedGame forms (table_game l)
+    nested_game = record {
+      root = refl;
+      key = λ s. refl;
+      label = λ side s i. refl;
+      moves = λ side s here. same_moves side s.number here;
+      draws = same_draws;
+      chance = λ s a b d m below. same_chance s a b m d below;
+      drawn = λ s a b d m below. (let e = same_state s a b m d below in λ i. record { number = e i });
+      ends = λ s payoff here e. (
+        subst (λ (form : StateForm). IsRanked form (table_rank l s.number)) e (rank_told_at forms s.number here),
+        value_is s.number here ∙ ap (value_told (before kept_cells forms s.number)) e,
+      );
+      inner = λ s rows here e. subst (λ (form : StateForm). IsRanked form (table_rank l s.number)) e (rank_told_at forms s.number here);
+    }
+
+-- ---- ranks that are refused
+first_there : {T : Type 0} (n : ℕ) (f : ℕ → Option T) (x : T) → first_below n f ≡ Some x → (k : ℕ) × (k < n) × (f k ≡ Some x)
+first_there zero f x h = absurd (cc)
+first_there (suc n) f x h = elim (or_there (first_below n f) (f n) x h) [
+  | inl earlier ↦ let k = first_there n f x earlier in (k.0, omega (arith, k.1), k.2)
+  | inr last ↦ (n, omega arith, last)
+]
+
+turns_told : (b : Bool) (s : ℕ) (fault : TableError) → cond b None (Some (errors.Turns s)) ≡ Some fault → (b ≡ false) × (fault ≡ errors.Turns s)
+turns_told true s fault h = absurd (cc)
+turns_told false s fault h = (refl, cc)
+
+module _ (forms : List StateForm) (fine : list_all state_in_range forms ≡ true) (order : AreOrdered (lists_of_states forms)) where
+  abbrev lists : Lists
+  lists = lists_of_states forms
+
+  longest_of : (s : ℕ) (form : StateForm) → s < length forms → form_at forms s ≡ form → 1 ≤ table_rank lists s → table_rank lists s ≡ next_rank lists s + 1
+  longest_of s (End payoff) here e inner = absurd (omega (arith, subst (λ (form : StateForm). IsRanked form (table_rank lists s)) e (rank_told_at forms s here)))
+  longest_of s (Rows rows) here e inner = rank_longest forms fine order s rows here e
+
+  is_rank_told : (s : ℕ) → s < length forms → table_rank lists s ≤ 31 → is_rank lists s ≡ true
+  is_rank_told s here few = and_from _ _ (le-leb (table_rank lists s) 31 few) (elim (cases_lt 0 (table_rank lists s)) [
+    | inl more ↦ or_right (eqb (table_rank lists s) 0) _ (eq-eqb (table_rank lists s) (next_rank lists s + 1) (longest_of s (form_at forms s) here refl (omega arith)))
+    | inr none ↦ or_left (eqb (table_rank lists s) 0) _ (eq-eqb (table_rank lists s) 0 (omega arith))
+  ])
+
+  too_many_turns : (fault : TableError) → rule_fault Rule.Turns lists ≡ Some fault → (s : ℕ) × (fault ≡ errors.Turns s) × (31 < table_rank lists s)
+  too_many_turns fault h =
+      let found = first_there (state_count lists) (fault_at Rule.Turns lists) fault h in
+      let told = turns_told (is_rank lists found.0) found.0 fault found.2 in (
+        found.0,
+        told.1,
+        elim (cases_lt 31 (table_rank lists found.0)) [
+          | inl more ↦ more
+          | inr few ↦ absurd (both_ways (is_rank lists found.0) told.0 (is_rank_told found.0 (omega (arith, found.1, ranks_count forms)) few))
+        ],
+      )
+
+  pub ways_told : HaveLongestWays lists
+  ways_told = record {
+    longest = λ s here inner. longest_of s (form_at forms s) (omega (arith, here, ranks_count forms)) refl inner;
+    refused = too_many_turns;
+  }
+
+-- ---- all forms in range
+states_in_range : (forms : List StateForm) → are_in_range forms ≡ true → list_all state_in_range forms ≡ true
+states_in_range forms h = (and_parts (list_all state_in_range forms) _ h).0
+
+pub forms_fit : (forms : List StateForm) → are_in_range forms ≡ true → do_fit (lists_of_states forms) ≡ true
+forms_fit forms h = nested_fits forms (states_in_range forms h)
+
+pub forms_tell_game : (forms : List StateForm) → are_in_range forms ≡ true → first_fault (lists_of_states forms) ≡ None → IsNestedGame forms (table_game (lists_of_states forms))
+forms_tell_game forms h none = nested_game forms (states_in_range forms h) none
+
+pub forms_have_longest_ways : (forms : List StateForm) → are_in_range forms ≡ true → AreOrdered (lists_of_states forms) → HaveLongestWays (lists_of_states forms)
+forms_have_longest_ways forms h order = ways_told forms (states_in_range forms h) order

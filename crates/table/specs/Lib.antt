@@ -1,0 +1,14 @@
+pub mod Below
+pub mod BelowLemmas
+pub mod Draws
+pub mod Faults
+pub mod Laws
+pub mod Lists
+pub mod Nested
+pub mod NestedGame
+pub mod NestedRanks
+pub mod Position
+pub mod Ranges
+pub mod Refusals
+pub mod Rules
+pub mod Setting

@@ -1,0 +1,59 @@
+-- The game of a table, told by its nested form alone: no list of cells or draws, no place.
+use Rattle.std.specs.Prelude.{◌≡◌, ℕ, ◌<◌, ◌≤◌, ℤ, pos, unsigned_abs, List, [], length, slice_index_or}
+use Rattle.sim_game.specs.declared.Side.{Side}
+use Rattle.sim_game.specs.declared.Side.TheVariants.{One, Two}
+use Rattle.sim_game.specs.Model.{whole_chance, GameModel, IsEnd}
+use Rattle.table.specs.declared.State.{State}
+use Rattle.table.specs.Lists.{count_in}
+use Rattle.table.specs.Nested.{CellForm, Follows, Draws, StateForm, End, Rows}
+
+-- ---- a state
+abbrev pub form_at : List StateForm → ℕ → StateForm
+form_at forms s = slice_index_or forms s (End (pos 0))
+
+abbrev pub rows_in : StateForm → List (List CellForm)
+rows_in (End payoff) = []
+rows_in (Rows rows) = rows
+
+-- One's moves are the rows, Two's the cells of a row
+abbrev pub form_moves : Side → StateForm → ℕ
+form_moves One form = length (rows_in form)
+form_moves Two form = length (slice_index_or (rows_in form) 0 [])
+
+-- the cell of two moves
+abbrev pub form_cell : StateForm → ℕ → ℕ → CellForm
+form_cell form a b = slice_index_or (slice_index_or (rows_in form) a []) b (Follows (pos 0))
+
+-- ---- a cell
+abbrev pub cell_draws : CellForm → ℕ
+cell_draws (Follows state) = 1
+cell_draws (Draws draws) = length draws
+
+abbrev pub cell_chance : CellForm → ℕ → ℕ
+cell_chance (Follows state) d = whole_chance
+cell_chance (Draws draws) d = count_in (slice_index_or draws d []) 1
+
+abbrev pub cell_follows : CellForm → ℕ → ℕ
+cell_follows (Follows state) d = unsigned_abs state
+cell_follows (Draws draws) d = count_in (slice_index_or draws d []) 0
+
+-- ---- the game
+-- the sides have these moves at a state of the form
+pub record HaveMoves (forms : List StateForm) (s : State) (a b : ℕ) : Type 0 where
+  pub here : s.number < length forms
+  pub one : a < form_moves One (form_at forms s.number)
+  pub two : b < form_moves Two (form_at forms s.number)
+
+-- each call of the game answers as the form tells
+pub record IsNestedGame (forms : List StateForm) (m : GameModel State) : Type 0 where
+  pub root : m.root ≡ record { number = 0 }
+  pub key : (s : State) → m.key s ≡ s.number
+  pub label : (side : Side) (s : State) (i : ℕ) → m.label side s i ≡ i
+  pub moves : (side : Side) (s : State) → s.number < length forms → m.moves side s ≡ form_moves side (form_at forms s.number)
+  pub draws : (s : State) (a b : ℕ) → HaveMoves forms s a b → m.draws s a b ≡ cell_draws (form_cell (form_at forms s.number) a b)
+  pub chance : (s : State) (a b d : ℕ) → HaveMoves forms s a b → d < cell_draws (form_cell (form_at forms s.number) a b)
+      → m.chance s a b d ≡ cell_chance (form_cell (form_at forms s.number) a b) d
+  pub drawn : (s : State) (a b d : ℕ) → HaveMoves forms s a b → d < cell_draws (form_cell (form_at forms s.number) a b)
+      → m.drawn s a b d ≡ record { number = cell_follows (form_cell (form_at forms s.number) a b) d }
+  pub ends : (s : State) (payoff : ℤ) → s.number < length forms → form_at forms s.number ≡ End payoff → IsEnd m s × (m.payoff s ≡ payoff)
+  pub inner : (s : State) (rows : List (List CellForm)) → s.number < length forms → form_at forms s.number ≡ Rows rows → 1 ≤ m.rank s

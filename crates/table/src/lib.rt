@@ -1,0 +1,240 @@
+//! Tables: any finite game, handed in state by state.
+#![tactic(auto)]
+
+ghost use Rattle.std.specs.Prelude.{◌≡◌, ℕ, ◌<◌, ◌^◌, length, MatchResult, None, Some};
+ghost use Rattle.sim_game.specs.declared.Side.TheVariants.{One, Two};
+ghost use Rattle.table.specs.Draws.{AreDraws};
+ghost use Rattle.table.specs.Faults.{first_fault};
+ghost use Rattle.table.specs.Setting.{cell_number, lists_of, IsSettingOf};
+ghost use Rattle.table.specs.Laws.{table_is_game};
+ghost use Rattle.table.specs.Lists.{table_cell, table_high, is_chance_free, lists_from, table_low, table_moves, state_count, table_width};
+ghost use Rattle.table.specs.Position.{IsTable};
+ghost use Rattle.table.specs.Rules.{place_of, table_game, KeepsRules};
+
+mod fits;
+mod lists;
+mod nested;
+mod refusals;
+mod rules;
+mod setting;
+mod summary;
+
+pub use nested::{
+    states_fit, states_have_longest_ways, states_have_one_game, states_have_short_lists,
+};
+pub use refusals::position_has_one_game;
+use rules::{CellRule, Fitting, Rule};
+use setting::Cell;
+pub use setting::Setting;
+use sim_game::{CHANCE, Game, Side};
+use thiserror::Error;
+
+/// A state, by its number.
+#[derive(Clone, Copy, PartialEq, Eq, Debug)]
+pub struct State {
+    pub number: u32,
+}
+
+/// A game, by its lists.
+#[derive(Clone, Copy, PartialEq, Eq, Debug)]
+pub struct Table<'a> {
+    pub setting: Setting<'a>,
+    low: i32,
+    high: i32,
+    width: u32,
+    chance_free: bool,
+    ghost valid: { IsTable (lists_of setting) },
+    ghost low_is: { low ≡ table_low (lists_of setting) },
+    ghost high_is: { high ≡ table_high (lists_of setting) },
+    ghost width_is: { width ≡ table_width (lists_of setting) },
+    ghost chance_free_is: { chance_free ≡ is_chance_free (lists_of setting) },
+}
+
+/// Why there is no such position. States are numbered from 0, and so are the rows of a state and the cells of a row.
+#[derive(Clone, Copy, PartialEq, Eq, Debug, Error)]
+pub enum TableError {
+    #[error("the lists do not fit each other")]
+    Lists,
+    #[error("there is no state")]
+    NoStates,
+    #[error("the payoff of the end {state} is not -4000 to 4000")]
+    PayoffRange { state: u32 },
+    #[error("the state {state} has not 1 to 32 rows")]
+    RowsRange { state: u32 },
+    #[error("the rows of the state {state} have not 1 to 32 cells")]
+    CellsRange { state: u32 },
+    #[error("the cell {cell} of row {row} of the state {state} has not 1 to 13 draws")]
+    DrawsRange { state: u32, row: u32, cell: u32 },
+    #[error("the weights of the cell {cell} of row {row} of the state {state} do not sum to 360360, or one is 0")]
+    Weights { state: u32, row: u32, cell: u32 },
+    #[error("the cell {cell} of row {row} of the state {state} names a state that does not stand behind it")]
+    Order { state: u32, row: u32, cell: u32 },
+    #[error("the longest way from the state {state} takes more than 31 turns, or not as many as told")]
+    Turns { state: u32 },
+}
+
+impl<'a> Table<'a> {
+    /// The table of these lists. An error names the first rule that is broken: the lists fit each other; there is a
+    /// state; payoffs of ends are -4000 to 4000; a state that is no end has 1 to 32 rows, and 1 to 32 cells in each; a
+    /// cell has 1 to 13 draws, whose weights are at least 1 and sum to 360360, and whose states stand behind the
+    /// cell's own; ranks are those of the longest ways, and at most 31.
+    pub fn new(
+        ranks: &'a [i32],
+        moves: &'a [i32],
+        values: &'a [i32],
+        cells: &'a [i32],
+        draws: &'a [i32],
+    ) -> Result<Table<'a>, TableError>
+        requires ranks { length ranks.now < 2 ^ 31 }
+        requires cells { length cells.now < 2 ^ 31 }
+        requires draws { length draws.now < 2 ^ 31 }
+        ensures { let l = lists_from ranks.now moves.now values.now cells.now draws.now in
+            MatchResult result
+            (λ table. (first_fault l ≡ None)
+            × IsSettingOf ranks.now moves.now values.now cells.now draws.now table.setting)
+            (λ fault. first_fault l ≡ Some fault) }
+    {
+        let setting = Setting {
+            ranks,
+            moves,
+            values,
+            cells,
+            draws,
+        };
+        if !setting.do_fit() {
+            return Err(TableError::Lists);
+        }
+        if ranks.is_empty() {
+            return Err(TableError::NoStates);
+        }
+        let lists = Fitting { setting };
+        lists.check(Rule::Payoff)?;
+        lists.check(Rule::Rows)?;
+        lists.check(Rule::Cells)?;
+        lists.check(Rule::Each(CellRule::Draws))?;
+        lists.check(Rule::Each(CellRule::Weights))?;
+        lists.check(Rule::Each(CellRule::Order))?;
+        lists.check(Rule::Turns)?;
+        Ok(Table {
+            setting,
+            low: lists.low(),
+            high: lists.high(),
+            width: lists.width(),
+            chance_free: lists.is_chance_free(),
+        })
+    }
+
+    /// The cell of two moves at a state.
+    #[inline]
+    fn cell(&self, s: u32, a: u32, b: u32) -> Cell
+        requires here { s < state_count (lists_of self.now.setting) }
+        requires one { a < table_moves (lists_of self.now.setting) One s }
+        requires two { b < table_moves (lists_of self.now.setting) Two s }
+        ensures { let l = lists_of self.now.setting in table_cell l (place_of l s a b) ≡ cell_number result }
+    {
+        let columns = self.setting.moves(Side::Two, s) as usize;
+        let first = self.setting.value(s) as usize;
+        self.setting
+            .cell(first + (a as usize * columns + b as usize))
+    }
+
+    /// How many draws from the first on are all that can happen.
+    #[inline]
+    fn draw_count(&self, first: u32) -> u32
+        requires { (count : ℕ) × AreDraws (lists_of self.now.setting) first count }
+        ensures { AreDraws (lists_of self.now.setting) first result }
+    {
+        let mut count = 0;
+        let mut left = CHANCE;
+        while left > 0 {
+            left -= self.setting.weight(Cell::Draws(first), count);
+            count += 1;
+        }
+        count
+    }
+}
+
+impl Game for Table<'_> {
+    type State = State;
+
+    ghost model = { λ game. table_game (lists_of game.setting) };
+
+    fn root(&self) -> State {
+        State { number: 0 }
+    }
+
+    #[inline]
+    fn moves(&self, side: Side, s: State) -> u32 {
+        self.setting.moves(side, s.number)
+    }
+
+    #[inline]
+    fn next(&self, s: State, a: u32, b: u32) -> State {
+        self.drawn(s, a, b, 0)
+    }
+
+    #[inline]
+    fn payoff(&self, s: State) -> i32 {
+        self.setting.value(s.number)
+    }
+
+    #[inline]
+    fn rank(&self, s: State) -> u32 {
+        self.setting.rank(s.number)
+    }
+
+    #[inline]
+    fn key(&self, s: State) -> u64 {
+        s.number as u64
+    }
+
+    #[inline]
+    fn low(&self) -> i32 {
+        self.low
+    }
+
+    #[inline]
+    fn high(&self) -> i32 {
+        self.high
+    }
+
+    #[inline]
+    fn width(&self) -> u32 {
+        self.width
+    }
+
+    fn label(&self, _side: Side, _s: State, i: u32) -> u8 {
+        i as u8
+    }
+
+    #[inline]
+    fn chance_free(&self) -> bool {
+        self.chance_free
+    }
+
+    #[inline]
+    fn draws(&self, s: State, a: u32, b: u32) -> u32 {
+        match self.cell(s.number, a, b) {
+            Cell::State(_) => 1,
+            Cell::Draws(first) => self.draw_count(first),
+        }
+    }
+
+    #[inline]
+    fn chance(&self, s: State, a: u32, b: u32, d: u32) -> u32 {
+        self.setting.weight(self.cell(s.number, a, b), d)
+    }
+
+    #[inline]
+    fn drawn(&self, s: State, a: u32, b: u32, d: u32) -> State {
+        let number = self.setting.state(self.cell(s.number, a, b), d);
+        State { number }
+    }
+
+    ghost lawful = { λ game. table_is_game (lists_of game.setting) game.valid };
+}
+
+/// What a state tells of the turns that follow it holds.
+pub fn keeps_rules(_game: &Table)
+    ensures { KeepsRules (lists_of _game.now.setting) }
+{}

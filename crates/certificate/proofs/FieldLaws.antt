@@ -5,18 +5,19 @@ use Rattle.std.proofs.lemmas.Int.{ints}
 use Rattle.std.proofs.Math.Nat.{mul-le-mul_right}
 use Rattle.std.proofs.lemmas.Fmt.{length-decimal-le}
 use Rattle.std.proofs.lemmas.List.{length-append, length-map, nil_from_length}
-use Rattle.std.proofs.lemmas.List.Elements.{All-cons, All-head, All-nil, All-tail}
+use Rattle.std.proofs.lemmas.List.Elements.{All-cons, All-head, All-nil, All-tail, All-weaker}
 use Rattle.std.proofs.lemmas.Slice.Eq.{bytes_eq-Decides}
 use Rattle.plan_book.specs.declared.SheetRow.{SheetRow}
 use Rattle.certificate.specs.declared.error.TextError.{TextError}
 use Rattle.certificate.specs.declared.error.TextError.TheVariants.{Number}
 use Rattle.certificate.specs.Unread.{Unread}
-use Rattle.certificate.specs.Numbers.{integer_in, Within, Between}
+use Rattle.certificate.specs.Numbers.{natural_in, integer_in, Within, Between}
 use Rattle.text.specs.Texts.{line_text}
 use Rattle.certificate.specs.Texts.{row_fields}
 use Rattle.certificate.specs.Readers.{◌>>=◌, or_fault, Reads, ◌followed_by◌, ◌before◌, made_by, first_field, field, spelled, natural, integer, naturals_in, naturals, expected_word}
 use Rattle.certificate.specs.Reading.{read_row}
-use Rattle.certificate.proofs.Spelling.{IsField, Spells, natural_spells, integer_spells, naturals_takes, naturals_again, numbers_clean}
+use Rattle.certificate.proofs.NumberLemmas.{natural_takes}
+use Rattle.certificate.proofs.Spelling.{IsField, Spells, natural_spells, integer_spells, each_takes, each_again, each_clean}
 
 -- A reader of all fields of a line, of which there are at most so many, and what writes them undo each other; the line
 -- has at most so many bytes.
@@ -169,15 +170,19 @@ numbers_short digits high (n ∷ ns) some few wide fits =
       numbers_short digits high ns some few wide (All-tail (λ n. n ≤ high) n ns fits),
     )
 
+from_zero : (high : ℕ) (ns : List ℕ) → All (λ n. n ≤ high) ns → All (Within 0 high) ns
+from_zero high ns fits = All-weaker (λ n. n ≤ high) (Within 0 high) (λ n h. (omega arith, h)) ns fits
+
 pub naturals_law : (most digits high : ℕ) → 0 < digits → high < 10 ^ digits → high < 2 ^ 64 → FieldLaw most (most * (digits + 1) + 1) (naturals 0 high) (map decimal) (All (λ n. n ≤ high))
 unfolding naturals
 naturals_law most digits high some few wide = record {
   takes = λ u x e few.
       let ns = bind_ok (or_fault (naturals_in 0 high u.parts) (Number u.number)) _ x e in
-      let s = naturals_takes high u.parts ns.0 wide (or_ok (naturals_in 0 high u.parts) (Number u.number) ns.0 ns.1) in
-      subst (λ (x : List ℕ × Unread). (u.parts ≡ map decimal x.0) × All (λ n. n ≤ high) x.0) (ok_is (ns.0, record { parts = []; number = u.number }) x ns.2) (s.text, s.fits);
-  again = λ n ns fits. (record { parts = []; number = n }, rw (naturals_again high ns wide fits) refl);
-  clean = λ ns fits. numbers_clean high ns wide fits;
+      let s = each_takes (natural_in 0 high) decimal (Within 0 high) (natural_takes 0 high) u.parts ns.0 (or_ok (naturals_in 0 high u.parts) (Number u.number) ns.0 ns.1) in
+      subst (λ (x : List ℕ × Unread). (u.parts ≡ map decimal x.0) × All (λ n. n ≤ high) x.0) (ok_is (ns.0, record { parts = []; number = u.number }) x ns.2)
+      (s.are, All-weaker (Within 0 high) (λ n. n ≤ high) (λ n h. h.1) ns.0 s.fit);
+  again = λ n ns fits. (record { parts = []; number = n }, rw (each_again (natural_spells 0 high wide) ns (from_zero high ns fits)) refl);
+  clean = λ ns fits. each_clean (natural_spells 0 high wide) ns (from_zero high ns fits);
   short = λ ns fits count.
       let fewer : length ns ≤ most = omega (arith, count, length-map ns decimal) in
       omega (arith, numbers_short digits high ns some few wide fits, mul-le-mul_right (digits + 1) fewer);

@@ -1,33 +1,32 @@
--- Reading numbers one after the other, as loops do.
+-- Reading values one after the other, as loops do.
 use Rattle.std.proofs.Common.{◌≡◌, ℕ, List, [], ◌∷◌, ◌++◌, Option, Some, None, option_map, refl, sym, ap, ◌∙◌, append_assoc, append-nil}
-use Rattle.certificate.specs.Numbers.{natural_in}
-use Rattle.certificate.specs.Readers.{naturals_in}
+use Rattle.certificate.specs.Readers.{each_in}
 
--- the numbers, behind those read before
-abbrev pub behind : List ℕ → Option (List ℕ) → Option (List ℕ)
-behind front o = option_map (λ ns. front ++ ns) o
+-- the values, behind those read before
+abbrev pub behind : {A : Type 0} → List A → Option (List A) → Option (List A)
+behind front o = option_map (λ xs. front ++ xs) o
 
-regroup : (front : List ℕ) (n : ℕ) (o : Option (List ℕ)) → behind front (option_map (λ ns. n ∷ ns) o) ≡ behind (front ++ n ∷ []) o
-regroup front n None = refl
-regroup front n (Some ns) = ap (λ (l : List ℕ). Some l) (sym (append_assoc front (n ∷ []) ns))
+regroup : {A : Type 0} (front : List A) (x : A) (o : Option (List A)) → behind front (option_map (λ xs. x ∷ xs) o) ≡ behind (front ++ x ∷ []) o
+regroup front x None = refl
+regroup {A} front x (Some xs) = ap (λ (l : List A). Some l) (sym (append_assoc front (x ∷ []) xs))
 
-pub number_more : (low high : ℕ) (front : List ℕ) (n : ℕ) (f : List ℕ) (fs rest : List (List ℕ)) (whole : Option (List ℕ)) → fs ≡ f ∷ rest → Some n ≡ natural_in low high f
-    → behind front (naturals_in low high fs) ≡ whole → behind (front ++ n ∷ []) (naturals_in low high rest) ≡ whole
-unfolding naturals_in
-number_more low high front n f fs rest whole here is so_far =
-    let one : behind front (naturals_in low high fs) ≡ behind (front ++ n ∷ []) (naturals_in low high rest) = rw (here, ← is) (regroup front n (naturals_in low high rest)) in
+pub value_more : {A : Type 0} (value : List ℕ → Option A) (front : List A) (x : A) (f : List ℕ) (fs rest : List (List ℕ)) (whole : Option (List A)) → fs ≡ f ∷ rest → Some x ≡ value f
+    → behind front (each_in value fs) ≡ whole → behind (front ++ x ∷ []) (each_in value rest) ≡ whole
+unfolding each_in
+value_more value front x f fs rest whole here is so_far =
+    let one : behind front (each_in value fs) ≡ behind (front ++ x ∷ []) (each_in value rest) = rw (here, ← is) (regroup front x (each_in value rest)) in
     sym one ∙ so_far
 
-pub number_none : (low high : ℕ) (front : List ℕ) (f : List ℕ) (fs rest : List (List ℕ)) (whole : Option (List ℕ)) → fs ≡ f ∷ rest → None ≡ natural_in low high f
-    → behind front (naturals_in low high fs) ≡ whole → None ≡ whole
-unfolding naturals_in
-number_none low high front f fs rest whole here is so_far =
-    let one : behind front (naturals_in low high fs) ≡ None = rw (here, ← is) refl in
+pub value_none : {A : Type 0} (value : List ℕ → Option A) (front : List A) (f : List ℕ) (fs rest : List (List ℕ)) (whole : Option (List A)) → fs ≡ f ∷ rest → None ≡ value f
+    → behind front (each_in value fs) ≡ whole → None ≡ whole
+unfolding each_in
+value_none value front f fs rest whole here is so_far =
+    let one : behind front (each_in value fs) ≡ None = rw (here, ← is) refl in
     sym one ∙ so_far
 
-pub numbers_done : (low high : ℕ) (front : List ℕ) (fs : List (List ℕ)) (whole : Option (List ℕ)) → fs ≡ []
-    → behind front (naturals_in low high fs) ≡ whole → Some front ≡ whole
-unfolding naturals_in
-numbers_done low high front fs whole none so_far =
-    let one : behind front (naturals_in low high fs) ≡ Some front = rw none (ap (λ (l : List ℕ). Some l) (append-nil front)) in
+pub values_done : {A : Type 0} (value : List ℕ → Option A) (front : List A) (fs : List (List ℕ)) (whole : Option (List A)) → fs ≡ []
+    → behind front (each_in value fs) ≡ whole → Some front ≡ whole
+unfolding each_in
+values_done {A} value front fs whole none so_far =
+    let one : behind front (each_in value fs) ≡ Some front = rw none (ap (λ (l : List A). Some l) (append-nil front)) in
     sym one ∙ so_far

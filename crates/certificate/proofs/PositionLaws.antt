@@ -11,20 +11,20 @@ use Rattle.goofspiel.specs.declared.Pay.{Pay}
 use Rattle.goofspiel.specs.declared.Pay.TheVariants.{Margin, Win}
 use Rattle.certificate.specs.declared.error.TextError.TheVariants.{Line}
 use Rattle.certificate.specs.declared.fields.FieldKind.{FieldKind}
-use Rattle.certificate.specs.declared.fields.FieldKind.TheVariants.{Number as NumberOf, List as ListOf, Word as WordOf}
+use Rattle.certificate.specs.declared.fields.FieldKind.TheVariants.{Number as NumberOf, List as ListOf, Numbers as NumbersOf, Word as WordOf}
 use Rattle.certificate.specs.declared.fields.Choices.TheVariants as choices
 use Rattle.certificate.specs.declared.fields.Value.{Value}
-use Rattle.certificate.specs.declared.fields.Value.TheVariants.{Number, List as Numbers, Word}
+use Rattle.certificate.specs.declared.fields.Value.TheVariants.{Number, List as Bytes, Numbers, Word}
 use Rattle.certificate.specs.declared.fields.Word.TheVariants as words
 use Rattle.certificate.specs.declared.positions.TheConstants.{GAMES}
 use Rattle.certificate.specs.declared.positions.PositionText.{PositionText}
 use Rattle.certificate.specs.declared.positions.PositionText.TheVariants as texts
 use Rattle.certificate.specs.declared.positions.Shown.{Shown}
 use Rattle.certificate.specs.declared.positions.GameKind.{GameKind}
-use Rattle.certificate.specs.declared.positions.GameKind.TheVariants.{Goofspiel, OshiZumo, Tron, GoofspielDrawn, Pursuit}
+use Rattle.certificate.specs.declared.positions.GameKind.TheVariants.{Goofspiel, OshiZumo, Tron, GoofspielDrawn, Pursuit, Table}
 use Rattle.certificate.specs.Numbers.{Within}
 use Rattle.certificate.specs.Fields.{Fits, AllFit, value_text}
-use Rattle.certificate.specs.Positions.{newest_version, game_word, game_version, kinds_of, kind_of, version_of, pay_named, pay_word, number_in_value, list_in_value, word_in_value, shown_value, values_of, position_with, IsPositionInRange, position_numbers, position_fields, game_of, game_in, game, line_values, position}
+use Rattle.certificate.specs.Positions.{newest_version, game_word, game_version, kinds_of, kind_of, version_of, pay_named, pay_word, number_in_value, list_in_value, numbers_in_value, word_in_value, shown_value, values_of, position_with, IsPositionInRange, position_numbers, position_fields, game_of, game_in, game, line_values, position}
 use Rattle.certificate.proofs.Spelling.{IsField, Spells, is_word, word_spells}
 use Rattle.certificate.proofs.FieldLaws.{FieldLaw, line_more, bind_ok, ok_is, spelled_takes, spelled_again}
 use Rattle.certificate.proofs.ValueLaws.{are_small, longest_line, as_many, values_law}
@@ -44,30 +44,31 @@ known_game OshiZumo = (refl, refl)
 known_game Tron = (refl, refl)
 known_game GoofspielDrawn = (refl, refl)
 known_game Pursuit = (refl, refl)
+known_game Table = (refl, refl)
 
-list_is : (most : ℕ) (v : Value) → Fits (ListOf most) v → Numbers (list_in_value v) ≡ v
-list_is most (Number z) fits = absurd fits
-list_is most (Numbers ns) fits = refl
-list_is most (Word w) fits = absurd fits
+list_is : (most : ℕ) (v : Value) → Fits (ListOf most) v → Bytes (list_in_value v) ≡ v
+list_is most (Bytes ns) fits = refl
+list_is most v fits = absurd fits
+
+numbers_are : (low high : ℤ) (most : ℕ) (v : Value) → Fits (NumbersOf low high most) v → Numbers (numbers_in_value v) ≡ v
+numbers_are low high most (Numbers zs) fits = refl
+numbers_are low high most v fits = absurd fits
 
 number_is : (low high : ℤ) (v : Value) → Fits (NumberOf low high) v → Number (number_in_value v) ≡ v
 number_is low high (Number z) fits = refl
-number_is low high (Numbers ns) fits = absurd fits
-number_is low high (Word w) fits = absurd fits
+number_is low high v fits = absurd fits
 
 count_is : (low : ℕ) (high : ℤ) (v : Value) → Fits (NumberOf (pos low) high) v → Number (pos (unsigned_abs (number_in_value v))) ≡ v
 count_is low high (Number (pos n)) fits = refl
 count_is low high (Number (negsuc n)) fits = absurd (omega (arith, ints, fits.0))
-count_is low high (Numbers ns) fits = absurd fits
-count_is low high (Word w) fits = absurd fits
+count_is low high v fits = absurd fits
 
 pay_is : (v : Value) → Fits (WordOf choices.Pay) v → Word (pay_word (pay_named (word_in_value v))) ≡ v
-pay_is (Number z) fits = absurd fits
-pay_is (Numbers ns) fits = absurd fits
 pay_is (Word words.Margin) fits = refl
 pay_is (Word words.Win) fits = refl
 pay_is (Word words.Regret) fits = absurd cc
 pay_is (Word words.Linear) fits = absurd cc
+pay_is v fits = absurd fits
 
 word_pay : (pay : Pay) → pay_named (pay_word pay) ≡ pay
 word_pay Margin = refl
@@ -102,6 +103,8 @@ made_of GoofspielDrawn vs fits = by_five (kinds_of GoofspielDrawn) (IsMadeOf Goo
     (λ a b c d e f. (refl, same_five (list_is _ a f.0) (list_is _ b f.1.0) (list_is _ c f.1.1.0) (number_is _ _ d f.1.1.1.0) (pay_is e f.1.1.1.1.0)))
 made_of Pursuit vs fits = by_five (kinds_of Pursuit) (IsMadeOf Pursuit) vs (as_many (kinds_of Pursuit) vs fits) fits
     (λ a b c d e f. (refl, same_five (count_is _ _ a f.0) (list_is _ b f.1.0) (count_is _ _ c f.1.1.0) (count_is _ _ d f.1.1.1.0) (count_is _ _ e f.1.1.1.1.0)))
+made_of Table vs fits = by_five (kinds_of Table) (IsMadeOf Table) vs (as_many (kinds_of Table) vs fits) fits
+    (λ a b c d e f. (refl, same_five (numbers_are _ _ _ a f.0) (numbers_are _ _ _ b f.1.0) (numbers_are _ _ _ c f.1.1.0) (numbers_are _ _ _ d f.1.1.1.0) (numbers_are _ _ _ e f.1.1.1.1.0)))
 
 -- the position made of its values is the position
 made_again : (text : PositionText) → position_with (kind_of text) (values_of text) ≡ text
@@ -110,6 +113,7 @@ made_again (texts.OshiZumo size one two least place) = refl
 made_again (texts.Tron height width walls one two) = refl
 made_again (texts.GoofspielDrawn one two prizes score pay) = ap (texts.GoofspielDrawn one two prizes score) (word_pay pay)
 made_again (texts.Pursuit nodes edges one two rounds) = refl
+made_again (texts.Table ranks moves values cells draws) = refl
 
 -- ---- what is written of a position
 

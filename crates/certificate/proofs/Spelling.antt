@@ -5,7 +5,7 @@ use Rattle.std.specs.Int.Signed.{mag}
 use Rattle.std.specs.List.{list_all, slice_split, join_with_byte}
 use Rattle.std.proofs.lemmas.Int.{ints}
 use Rattle.std.proofs.lemmas.Bool.{and_parts, eq-eqb}
-use Rattle.std.proofs.lemmas.Option.{option_and_then_some}
+use Rattle.std.proofs.lemmas.Option.{cond_some, option_and_then_some}
 use Rattle.std.proofs.lemmas.Fmt.{decimal_is_IsNumeral, length-decimal-le, length_signed_le}
 use Rattle.std.proofs.lemmas.Str.Parse.{digit_at}
 use Rattle.std.proofs.lemmas.List.{length-map, length-append}
@@ -15,8 +15,9 @@ use Rattle.std.proofs.lemmas.Slice.Eq.{bytes_eq-Decides}
 use Rattle.certificate.specs.declared.report.Outcome.{Outcome}
 use Rattle.certificate.specs.declared.report.Outcome.TheVariants.{Closed, Settled, Spent, Full}
 use Rattle.text.specs.Texts.{list_text}
-use Rattle.certificate.specs.Numbers.{natural_in, integer_in, Within, Between, IsByteList}
-use Rattle.certificate.specs.Readers.{naturals_in, has_parts, list_in}
+use Rattle.certificate.specs.Numbers.{natural_in, integer_in, Within, Between, IsByteList, IsNumberList}
+use Rattle.certificate.specs.Readers.{each_in, has_parts, list_parts, list_in}
+use Rattle.certificate.specs.Fields.{joined_list}
 use Rattle.certificate.specs.Texts.{outcome_word}
 use Rattle.certificate.specs.Reading.{outcome_of}
 use Rattle.certificate.proofs.NumberLemmas.{neither, natural_takes, natural_again, signed_takes, signed_again}
@@ -64,12 +65,17 @@ mag_less : (z : ℤ) → mag z ≤ unsigned_abs z
 mag_less (pos n) = omega arith
 mag_less (negsuc n) = omega arith
 
+pub integer_takes : (low high : ℤ) (s : List ℕ) (z : ℤ) → integer_in low high s ≡ Some z → (s ≡ signed_decimal z) × Between low high z
+unfolding integer_in
+integer_takes low high s z e =
+    option_and_then_some _ _ z e (λ y is h.
+    let w = neither (int_lt y low) (int_lt high y) y z h in
+    ((signed_takes s y is).0 ∙ ap signed_decimal w.0, subst (Between low high) w.0 (at_least low y w.1, at_least y high w.2)))
+
 pub integer_spells : (low high : ℤ) → ((z : ℤ) → Between low high z → unsigned_abs z < 2 ^ 63) → Spells 20 (integer_in low high) signed_decimal (Between low high)
 unfolding integer_in
 integer_spells low high small = record {
-  takes = λ s z e. option_and_then_some _ _ z e (λ y is h.
-      let w = neither (int_lt y low) (int_lt high y) y z h in
-      ((signed_takes s y is).0 ∙ ap signed_decimal w.0, subst (Between low high) w.0 (at_least low y w.1, at_least y high w.2)));
+  takes = integer_takes low high;
   again = λ z fits. rw (signed_again z (small z fits), not_below low z fits.0, not_below z high fits.1) refl;
   clean = λ z fits. signed_field z (small z fits);
   short = λ z fits. length_signed_le 19 z (omega (arith, mag_less z, small z fits)) (omega (arith, mag_less z, small z fits));
@@ -119,35 +125,48 @@ outcome_spells = word_spells (Closed ∷ Settled ∷ Spent ∷ Full ∷ []) outc
     each Spent = (refl, refl)
     each Full = (refl, refl)
 
--- ---- lists
-
-pub naturals_again : (high : ℕ) (ns : List ℕ) → high < 2 ^ 64 → All (λ n. n ≤ high) ns → naturals_in 0 high (map decimal ns) ≡ Some ns
-unfolding naturals_in
-naturals_again high [] wide fit = refl
-naturals_again high (n ∷ ns) wide fit =
-    rw ((natural_spells 0 high wide).again n (omega arith, All-head (λ n. n ≤ high) n ns fit), naturals_again high ns wide (All-tail (λ n. n ≤ high) n ns fit)) refl
+-- ---- values one after the other
 
 pub option_map_some : {A B : Type 0} (f : A → B) (o : Option A) (y : B) → option_map f o ≡ Some y → (x : A) × (o ≡ Some x) × (f x ≡ y)
 option_map_some f None y e = absurd cc
 option_map_some f (Some x) y e = (x, refl, cc)
 
--- numbers that fields spell
-pub record Spelled (high : ℕ) (fs : List (List ℕ)) (ns : List ℕ) : Type 0 where
-  pub text : fs ≡ map decimal ns
-  pub fits : All (λ n. n ≤ high) ns
+-- values that fields spell
+pub record Spelled {A : Type 0} (text : A → List ℕ) (Fits : A → Type 0) (fs : List (List ℕ)) (xs : List A) : Type 0 where
+  pub are : fs ≡ map text xs
+  pub fit : All Fits xs
 
-pub naturals_takes : (high : ℕ) (fs : List (List ℕ)) (ns : List ℕ) → high < 2 ^ 64 → naturals_in 0 high fs ≡ Some ns → Spelled high fs ns
-unfolding naturals_in
-naturals_takes high [] ns wide e = let none : ◌≡◌ {A = List ℕ} [] ns = cc in subst (Spelled high []) none (record { text = refl; fits = All-nil (λ n. n ≤ high) })
-naturals_takes high (f ∷ fs) ns wide e =
-    option_and_then_some _ _ ns e (λ n is h.
-    let here = (natural_spells 0 high wide).takes f n is in
-    let more = option_map_some (λ ns. n ∷ ns) (naturals_in 0 high fs) ns h in
-    let others = naturals_takes high fs more.0 wide more.1 in
-    subst (Spelled high (f ∷ fs)) more.2 (record { text = ap₂ (λ f fs. f ∷ fs) here.0 others.text; fits = All-cons (λ n. n ≤ high) n more.0 here.1.1 others.fits }))
+pub each_takes : {A : Type 0} (value : List ℕ → Option A) (text : A → List ℕ) (Fits : A → Type 0) → ((s : List ℕ) (a : A) → value s ≡ Some a → (s ≡ text a) × Fits a)
+    → (fs : List (List ℕ)) (xs : List A) → each_in value fs ≡ Some xs → Spelled text Fits fs xs
+unfolding each_in
+each_takes {A} value text Fits takes [] xs e = let none : ◌≡◌ {A = List A} [] xs = cc in subst (Spelled text Fits []) none (record { are = refl; fit = All-nil Fits })
+each_takes value text Fits takes (f ∷ fs) xs e =
+    option_and_then_some _ _ xs e (λ x is h.
+    let here = takes f x is in
+    let more = option_map_some (λ xs. x ∷ xs) (each_in value fs) xs h in
+    let others = each_takes value text Fits takes fs more.0 more.1 in
+    subst (Spelled text Fits (f ∷ fs)) more.2 (record { are = ap₂ (λ f fs. f ∷ fs) here.0 others.are; fit = All-cons Fits x more.0 here.1 others.fit }))
 
-pub numbers_clean : (high : ℕ) (ns : List ℕ) → high < 2 ^ 64 → All (λ n. n ≤ high) ns → All IsField (map decimal ns)
-numbers_clean high ns wide fit = All-map IsField decimal ns (All-weaker (λ n. n ≤ high) (λ n. IsField (decimal n)) (λ n small. decimal_field n (omega arith)) ns fit)
+module _ {A : Type 0} {wide : ℕ} {value : List ℕ → Option A} {text : A → List ℕ} {Fits : A → Type 0} (spells : Spells wide value text Fits) where
+  pub each_again : (xs : List A) → All Fits xs → each_in value (map text xs) ≡ Some xs
+  unfolding each_in
+  each_again [] fit = refl
+  each_again (x ∷ xs) fit = rw (spells.again x (All-head Fits x xs fit), each_again xs (All-tail Fits x xs fit)) refl
+
+  pub each_clean : (xs : List A) → All Fits xs → All IsField (map text xs)
+  each_clean xs fit = All-map IsField text xs (All-weaker Fits (λ x. IsField (text x)) spells.clean xs fit)
+
+  -- the same, with the text and the range told otherwise
+  pub told_spells : (t : A → List ℕ) (G : A → Type 0) → ((a : A) → Fits a → (text a ≡ t a) × G a) → ((a : A) → G a → Fits a) → Spells wide value t G
+  told_spells t G forth back = record {
+    takes = λ s a e.
+        let v = spells.takes s a e in
+        let w = forth a v.1 in
+        (v.0 ∙ w.0, w.1);
+    again = λ a fits. let f = back a fits in subst (λ s. value s ≡ Some a) (forth a f).0 (spells.again a f);
+    clean = λ a fits. let f = back a fits in subst IsField (forth a f).0 (spells.clean a f);
+    short = λ a fits. let f = back a fits in omega (arith, ap length (forth a f).0, spells.short a f);
+  }
 
 -- a list of pieces with a byte between each two
 
@@ -171,7 +190,7 @@ split-join c low x (y ∷ ys) lt fit =
     slice_split_at (λ b. b == c) x c (join_with_byte c (y ∷ ys)) (without c low x lt (All-head (All (λ b. low ≤ b)) x (y ∷ ys) fit)) (eq-eqb c c refl)
     ∙ ap (λ (parts : List (List ℕ)). x ∷ parts) (split-join c low y ys lt (All-tail (All (λ b. low ≤ b)) x (y ∷ ys) fit))
 
--- ---- lists of bytes
+-- ---- lists
 
 pub has_parts-bounds : (least most : ℕ) (parts : List (List ℕ)) → has_parts least most parts ≡ true → Within least most (length parts)
 unfolding has_parts
@@ -187,83 +206,127 @@ pub has_parts-true : (least most : ℕ) (parts : List (List ℕ)) → All IsFiel
 unfolding has_parts
 has_parts-true least most parts fit size = rw (are_filled parts fit, le-leb _ _ size.0, le-leb _ _ size.1) refl
 
-numerals : (P : ℕ → Type 0) → ((b : ℕ) → 48 ≤ b → P b) → (ns : List ℕ) → All (λ n. n ≤ 255) ns → All (All P) (map decimal ns)
-numerals P h ns fit = All-map (All P) decimal ns (All-weaker (λ n. n ≤ 255) (λ n. All P (decimal n)) (λ n small. All-weaker (λ b. 48 ≤ b) P h (decimal n) (digits_from n (omega arith)).1) ns fit)
-
--- no digit and no comma is a dash
-abbrev IsInList : ℕ → Type 0
-IsInList b = b ≡ 45 → ⊥
-
-no_dash : (text : List ℕ) → All IsInList text → bytes_eq text (codes "-") ≡ false
-no_dash text fit =
-    elim (bytes_eq text (codes "-")) as (λ t. bytes_eq text (codes "-") ≡ t → t ≡ false) [
-      | true ↦ λ is. absurd (All-head IsInList 45 [] (subst (All IsInList) ((bytes_eq-Decides text (codes "-")).0 is) fit) refl)
-      | false ↦ λ is. refl
-    ] refl
+-- a part of a list: no byte of it is a comma, and it is not just a dash
+abbrev IsPart : List ℕ → Type 0
+IsPart p = All (λ b. 45 ≤ b) p × (p ≡ codes "-" → ⊥)
 
 some_joined : (c : ℕ) (x : List ℕ) (xs : List (List ℕ)) → 0 < length x → 0 < length (join_with_byte c (x ∷ xs))
 some_joined c x [] some = some
 some_joined c x (y ∷ ys) some = omega (arith, length-append x (c ∷ join_with_byte c (y ∷ ys)))
 
-join-list_text : (ns : List ℕ) → 0 < length ns → join_with_byte 44 (map decimal ns) ≡ list_text ns
-join-list_text [] some = absurd (omega arith)
-join-list_text (n ∷ ns) some = refl
+some_parts : (parts : List (List ℕ)) → 0 < length parts → join_with_byte 44 parts ≡ joined_list parts
+some_parts [] some = absurd (omega arith)
+some_parts (x ∷ xs) some = refl
 
-test_some : {A : Type 0} (b : Bool) (x : Option A) (y : A) → cond b x None ≡ Some y → (b ≡ true) × (x ≡ Some y)
-test_some true x y e = (refl, e)
-test_some false x y e = absurd cc
+parts_again : (x : List ℕ) (xs : List (List ℕ)) → All IsPart (x ∷ xs) → slice_split (λ b. b == 44) (join_with_byte 44 (x ∷ xs)) ≡ x ∷ xs
+parts_again x xs fit = split-join 44 45 x xs (omega arith) (All-weaker IsPart (All (λ b. 45 ≤ b)) (λ p h. h.0) (x ∷ xs) fit)
 
-list_takes : (most : ℕ) (text ns : List ℕ) → list_in most text ≡ Some ns → (text ≡ list_text ns) × IsByteList most ns
-unfolding list_in
-list_takes most text ns e =
-    let parts = slice_split (λ b. b == 44) text in
-    elim (bytes_eq text (codes "-")) as (λ t. bytes_eq text (codes "-") ≡ t
-    → cond t (Some []) (cond (has_parts 1 most parts) (naturals_in 0 255 parts) None) ≡ Some ns → (text ≡ list_text ns) × IsByteList most ns) [
+-- no list of parts is spelled as the empty one
+no_dash : (x : List ℕ) (xs : List (List ℕ)) → All IsPart (x ∷ xs) → bytes_eq (join_with_byte 44 (x ∷ xs)) (codes "-") ≡ false
+no_dash x xs fit =
+    let text = join_with_byte 44 (x ∷ xs) in
+    elim (bytes_eq text (codes "-")) as (λ t. bytes_eq text (codes "-") ≡ t → t ≡ false) [
+      | true ↦ λ is.
+          let same : x ∷ xs ≡ codes "-" ∷ [] = sym (parts_again x xs fit) ∙ ap (slice_split (λ b. b == 44)) ((bytes_eq-Decides text (codes "-")).0 is) in
+          absurd ((All-head IsPart (codes "-") [] (subst (All IsPart) same fit)).1 refl)
+      | false ↦ λ is. refl
+    ] refl
+
+list_parts_takes : (most : ℕ) (s : List ℕ) (parts : List (List ℕ)) → list_parts most s ≡ Some parts → (s ≡ joined_list parts) × length parts ≤ most
+unfolding list_parts
+list_parts_takes most s parts e =
+    let split = slice_split (λ b. b == 44) s in
+    elim (bytes_eq s (codes "-")) as (λ t. bytes_eq s (codes "-") ≡ t → cond t (Some []) (cond (has_parts 1 most split) (Some split) None) ≡ Some parts
+    → (s ≡ joined_list parts) × length parts ≤ most) [
       | true ↦ λ is h.
-          let none : ◌≡◌ {A = List ℕ} [] ns = cc in
-          subst (λ ns. (text ≡ list_text ns) × IsByteList most ns) none ((bytes_eq-Decides text (codes "-")).0 is, record { few = omega arith; small = All-nil (λ n. n ≤ 255) })
+          let none : ◌≡◌ {A = List (List ℕ)} [] parts = cc in
+          subst (λ parts. (s ≡ joined_list parts) × length parts ≤ most) none ((bytes_eq-Decides s (codes "-")).0 is, omega arith)
       | false ↦ λ is h.
-          let form = test_some (has_parts 1 most parts) (naturals_in 0 255 parts) ns h in
-          let size = has_parts-bounds 1 most parts form.0 in
-          let numbers = naturals_takes 255 parts ns (omega arith) form.1 in
-          let len : length parts ≡ length ns = ap length numbers.text ∙ length-map ns decimal in (
-            sym (join_with_byte-slice_split 44 text) ∙ ap (join_with_byte 44) numbers.text
-                ∙ join-list_text ns (omega (arith, len, size.0)),
-            record { few = omega (arith, len, size.1); small = numbers.fits },
-          )
+          let form = cond_some (has_parts 1 most split) split parts h in
+          let size = has_parts-bounds 1 most split form.0 in
+          subst (λ parts. (s ≡ joined_list parts) × length parts ≤ most) form.1 (sym (join_with_byte-slice_split 44 s) ∙ some_parts split (omega (arith, size.0)), size.1)
     ] refl e
 
-list_again : (most : ℕ) (ns : List ℕ) → IsByteList most ns → list_in most (list_text ns) ≡ Some ns
-unfolding list_in
-list_again most [] fit = refl
-list_again most (n ∷ ns) fit =
-    let listed = All-join IsInList 44 (map decimal (n ∷ ns)) (omega arith) (numerals IsInList (λ b h e. omega arith) (n ∷ ns) fit.small) in
-    let form = has_parts-true 1 most (map decimal (n ∷ ns)) (numbers_clean 255 (n ∷ ns) (omega arith) fit.small) (omega arith, omega (arith, length-map ns decimal, fit.few)) in
-    rw (no_dash _ listed, split-join 44 48 (decimal n) (map decimal ns) (omega arith) (numerals (λ b. 48 ≤ b) (λ b h. h) (n ∷ ns) fit.small), form)
-    (naturals_again 255 (n ∷ ns) (omega arith) fit.small)
+list_parts_again : (most : ℕ) (parts : List (List ℕ)) → length parts ≤ most → All IsField parts → All IsPart parts → list_parts most (joined_list parts) ≡ Some parts
+unfolding list_parts
+list_parts_again most [] few clean fit = refl
+list_parts_again most (x ∷ xs) few clean fit = rw (no_dash x xs fit, parts_again x xs fit, has_parts-true 1 most (x ∷ xs) clean (omega arith, few)) refl
 
-list_clean : (most : ℕ) (ns : List ℕ) → IsByteList most ns → IsField (list_text ns)
-list_clean most [] fit = clean_word (codes "-") refl
-list_clean most (n ∷ ns) fit = (
-  some_joined 44 (decimal n) (map decimal ns) (digits_from n (omega (arith, All-head (λ n. n ≤ 255) n ns fit.small))).0,
-  All-join (λ b. 33 ≤ b) 44 (map decimal (n ∷ ns)) (omega arith) (numerals (λ b. 33 ≤ b) (λ b h. omega arith) (n ∷ ns) fit.small),
+joined_clean : (parts : List (List ℕ)) → All IsField parts → IsField (joined_list parts)
+joined_clean [] clean = clean_word (codes "-") refl
+joined_clean (x ∷ xs) clean = (
+  some_joined 44 x xs (All-head IsField x xs clean).0,
+  All-join (λ b. 33 ≤ b) 44 (x ∷ xs) (omega arith) (All-weaker IsField (All (λ b. 33 ≤ b)) (λ f h. h.1) (x ∷ xs) clean),
 )
 
-join_short : (n : ℕ) (ns : List ℕ) → All (λ n. n ≤ 255) (n ∷ ns) → length (join_with_byte 44 (map decimal (n ∷ ns))) ≤ length (n ∷ ns) * 4
-join_short n [] fit = let small = All-head (λ n. n ≤ 255) n [] fit in length-decimal-le 4 n (omega arith) (omega arith) (omega arith)
-join_short n (m ∷ ms) fit =
-    let small = All-head (λ n. n ≤ 255) n (m ∷ ms) fit in
+join_short : (x : List ℕ) (xs : List (List ℕ)) → All (λ p. length p ≤ 20) (x ∷ xs) → length (join_with_byte 44 (x ∷ xs)) ≤ length (x ∷ xs) * 21
+join_short x [] fit = omega (arith, All-head (λ p. length p ≤ 20) x [] fit)
+join_short x (y ∷ ys) fit =
     omega (
       arith,
-      length-append (decimal n) (44 ∷ join_with_byte 44 (map decimal (m ∷ ms))),
-      length-decimal-le 3 n (omega arith) (omega arith)
-          (omega arith),
-      join_short m ms (All-tail (λ n. n ≤ 255) n (m ∷ ms) fit),
+      length-append x (44 ∷ join_with_byte 44 (y ∷ ys)),
+      All-head (λ p. length p ≤ 20) x (y ∷ ys) fit,
+      join_short y ys (All-tail (λ p. length p ≤ 20) x (y ∷ ys) fit),
     )
 
-list_short : (most : ℕ) (ns : List ℕ) → IsByteList most ns → length (list_text ns) ≤ most * 4 + 1
-list_short most [] fit = omega arith
-list_short most (n ∷ ns) fit = omega (arith, join_short n ns fit.small, fit.few)
+joined_short : (parts : List (List ℕ)) → All (λ p. length p ≤ 20) parts → length (joined_list parts) ≤ length parts * 21 + 1
+joined_short [] fit = omega arith
+joined_short (x ∷ xs) fit = omega (arith, join_short x xs fit)
 
-pub list_spells : (most : ℕ) → Spells (most * 4 + 1) (list_in most) list_text (IsByteList most)
-list_spells most = record { takes = list_takes most; again = list_again most; clean = list_clean most; short = list_short most }
+pub list_takes : {A : Type 0} (value : List ℕ → Option A) (text : A → List ℕ) (Fits : A → Type 0) → ((s : List ℕ) (a : A) → value s ≡ Some a → (s ≡ text a) × Fits a)
+    → (most : ℕ) (s : List ℕ) (xs : List A) → list_in value most s ≡ Some xs → (s ≡ joined_list (map text xs)) × ((length xs ≤ most) × All Fits xs)
+unfolding list_in
+list_takes value text Fits takes most s xs e =
+    option_and_then_some _ _ xs e (λ parts is h.
+    let p = list_parts_takes most s parts is in
+    let t = each_takes value text Fits takes parts xs h in
+    (p.0 ∙ ap joined_list t.are, (omega (arith, p.1, ap length t.are, length-map xs text), t.fit)))
+
+-- lists of values whose texts are parts
+pub list_law : {A : Type 0} {value : List ℕ → Option A} {text : A → List ℕ} {Fits : A → Type 0} → Spells 20 value text Fits → ((a : A) → Fits a → IsPart (text a))
+    → (most : ℕ) → Spells (most * 21 + 1) (list_in value most) (λ xs. joined_list (map text xs)) (λ xs. (length xs ≤ most) × All Fits xs)
+unfolding list_in
+list_law {value = value} {text} {Fits} spells part most = record {
+  takes = list_takes value text Fits spells.takes most;
+  again = λ xs fits.
+      let parts = All-map IsPart text xs (All-weaker Fits (λ x. IsPart (text x)) part xs fits.1) in
+      rw (list_parts_again most (map text xs) (omega (arith, fits.0, length-map xs text)) (each_clean spells xs fits.1) parts) (each_again spells xs fits.1);
+  clean = λ xs fits. joined_clean (map text xs) (each_clean spells xs fits.1);
+  short = λ xs fits.
+      let short = All-map (λ p. length p ≤ 20) text xs (All-weaker Fits (λ x. length (text x) ≤ 20) spells.short xs fits.1) in
+      omega (arith, joined_short (map text xs) short, length-map xs text, fits.0);
+}
+
+decimal_part : (n : ℕ) → n < 2 ^ 64 → IsPart (decimal n)
+decimal_part n small =
+    let digits = (digits_from n small).1 in
+    (All-weaker (λ b. 48 ≤ b) (λ b. 45 ≤ b) (λ b h. omega arith) (decimal n) digits, λ e. absurd (omega (arith, All-head (λ b. 48 ≤ b) 45 [] (subst (All (λ b. 48 ≤ b)) e digits))))
+
+signed_part : (z : ℤ) → unsigned_abs z < 2 ^ 63 → IsPart (signed_decimal z)
+signed_part (pos n) small = decimal_part n (omega arith)
+signed_part (negsuc n) small = (
+  All-cons (λ b. 45 ≤ b) 45 (decimal (suc n)) (omega arith) (decimal_part (suc n) (omega arith)).0,
+  λ e. omega (arith, ap length e, (digits_from (suc n) (omega arith)).0),
+)
+
+bytes_text : (ns : List ℕ) → joined_list (map decimal ns) ≡ list_text ns
+bytes_text [] = refl
+bytes_text (n ∷ ns) = refl
+
+pub list_spells : (most : ℕ) → Spells (most * 21 + 1) (list_in (natural_in 0 255) most) list_text (IsByteList most)
+list_spells most =
+    told_spells (list_law (natural_spells 0 255 (omega arith)) (λ n h. decimal_part n (omega (arith, h.1))) most) list_text (IsByteList most)
+    (λ ns fits. (bytes_text ns, record { few = fits.0; small = All-weaker (Within 0 255) (λ n. n ≤ 255) (λ n h. h.1) ns fits.1 }))
+    (λ ns fits. (fits.few, All-weaker (λ n. n ≤ 255) (Within 0 255) (λ n h. (omega arith, h)) ns fits.small))
+
+pub numbers_take : (low high : ℤ) (most : ℕ) (s : List ℕ) (zs : List ℤ) → list_in (integer_in low high) most s ≡ Some zs → IsNumberList low high most zs
+numbers_take low high most s zs e =
+    let t = list_takes (integer_in low high) signed_decimal (Between low high) (integer_takes low high) most s zs e in
+    record { few = t.1.0; within = t.1.1 }
+
+pub numbers_spells : (low high : ℤ) (most : ℕ) → ((z : ℤ) → Between low high z → unsigned_abs z < 2 ^ 63)
+    → Spells (most * 21 + 1) (list_in (integer_in low high) most) (λ zs. joined_list (map signed_decimal zs)) (IsNumberList low high most)
+numbers_spells low high most small =
+    told_spells (list_law (integer_spells low high small) (λ z fits. signed_part z (small z fits)) most) (λ zs. joined_list (map signed_decimal zs)) (IsNumberList low high most)
+    (λ zs fits. (refl, record { few = fits.0; within = fits.1 }))
+    (λ zs fits. (fits.few, fits.within))

@@ -1,5 +1,5 @@
 -- Reading and writing the values of fields undo each other, whatever the fields.
-use Rattle.std.proofs.Common.{◌≡◌, ℕ, suc, ◌+◌, ◌*◌, ◌^◌, ◌≤◌, ℤ, unsigned_abs, List, [], ◌∷◌, length, map, Bool, true, ◌&&◌, ltb, ltb-true, leb-true, Option, Some, None, IfSome, Ok, All, refl, sym, ap, ap₂, subst, ◌∙◌, arith}
+use Rattle.std.proofs.Common.{◌≡◌, ℕ, suc, ◌+◌, ◌*◌, ◌^◌, ◌<◌, ◌≤◌, ℤ, unsigned_abs, List, [], ◌∷◌, length, map, Bool, true, ◌&&◌, ltb, ltb-true, leb-true, Option, Some, None, IfSome, Ok, All, refl, sym, ap, ap₂, subst, ◌∙◌, arith}
 use Rattle.std.specs.Fmt.{signed_decimal}
 use Rattle.std.proofs.lemmas.Int.{ints}
 use Rattle.std.proofs.lemmas.Bool.{and_parts}
@@ -12,37 +12,40 @@ use Rattle.certificate.specs.declared.fields.Word.{Word}
 use Rattle.certificate.specs.declared.fields.Word.TheVariants.{Margin, Win, Regret, Linear}
 use Rattle.certificate.specs.declared.fields.Choices.{Choices}
 use Rattle.certificate.specs.declared.fields.FieldKind.{FieldKind}
-use Rattle.certificate.specs.declared.fields.FieldKind.TheVariants.{Number, List as ListOf, Word as WordOf}
+use Rattle.certificate.specs.declared.fields.FieldKind.TheVariants.{Number, List as ListOf, Numbers as NumbersOf, Word as WordOf}
 use Rattle.certificate.specs.declared.fields.Value.{Value}
 use Rattle.certificate.specs.declared.fields.Value.TheVariants as holds
 use Rattle.certificate.specs.Unread.{Unread}
-use Rattle.certificate.specs.Numbers.{integer_in, Between, IsByteList}
+use Rattle.certificate.specs.Numbers.{natural_in, integer_in, Between, IsByteList, IsNumberList}
 use Rattle.certificate.specs.Readers.{list_in}
 use Rattle.certificate.specs.Fields.{spelling, choices_of, word_in, has_word, Fits, AllFit, value_text, value_in}
 use Rattle.certificate.specs.Positions.{have_words, value, values, line_values}
-use Rattle.certificate.proofs.Spelling.{IsField, Spells, is_word, clean_word, find_passes, option_map_some, integer_spells, list_spells}
+use Rattle.certificate.proofs.Spelling.{IsField, Spells, is_word, clean_word, find_passes, option_map_some, integer_takes, integer_spells, list_spells, numbers_take, numbers_spells}
 use Rattle.certificate.proofs.FieldLaws.{FieldLaw, line_more, bind_ok, test_ok, ok_is, spelled_takes, spelled_again}
 
 -- ---- one value
 
 -- the ends of a range of numbers have a text
+abbrev have_texts : ℤ → ℤ → Bool
+have_texts low high = ltb (unsigned_abs low) (2 ^ 63) && ltb (unsigned_abs high) (2 ^ 63)
+
 abbrev pub is_small : FieldKind → Bool
-is_small (Number low high) = ltb (unsigned_abs low) (2 ^ 63) && ltb (unsigned_abs high) (2 ^ 63)
+is_small (Number low high) = have_texts low high
 is_small (ListOf most) = true
+is_small (NumbersOf low high most) = have_texts low high
 is_small (WordOf choices) = true
 
 -- the most bytes of a value's text
 abbrev pub longest : FieldKind → ℕ
 longest (Number low high) = 20
-longest (ListOf most) = most * 4 + 1
+longest (ListOf most) = most * 21 + 1
+longest (NumbersOf low high most) = most * 21 + 1
 longest (WordOf choices) = 20
 
-number_spells : (low high : ℤ) → is_small (Number low high) ≡ true → Spells 20 (integer_in low high) signed_decimal (Between low high)
-number_spells low high small =
+are_near : (low high : ℤ) → have_texts low high ≡ true → (z : ℤ) → Between low high z → unsigned_abs z < 2 ^ 63
+are_near low high small z fits =
     let ends = and_parts (ltb (unsigned_abs low) (2 ^ 63)) (ltb (unsigned_abs high) (2 ^ 63)) small in
-    let l = ltb-true _ _ ends.0 in
-    let h = ltb-true _ _ ends.1 in
-    integer_spells low high (λ z fits. omega (arith, ints, fits.0, fits.1, l, h))
+    omega (arith, ints, fits.0, fits.1, ltb-true _ _ ends.0, ltb-true _ _ ends.1)
 
 word_is : (choices : Choices) (text : List ℕ) (w : Word) → word_in choices text ≡ Some w → text ≡ spelling w
 word_is choices text w e = (bytes_eq-Decides text (spelling w)).0 (find_passes _ (choices_of choices) w e)
@@ -53,8 +56,11 @@ word_fits choices text None e = tt
 word_fits choices text (Some w) e = subst (λ t. word_in choices t ≡ Some w) (word_is choices text w (sym e)) (sym e)
 
 -- a list that was read fits
-pub list_fits : (most : ℕ) (text ns : List ℕ) → Some ns ≡ list_in most text → IsByteList most ns
+pub list_fits : (most : ℕ) (text ns : List ℕ) → Some ns ≡ list_in (natural_in 0 255) most text → IsByteList most ns
 list_fits most text ns e = ((list_spells most).takes text ns (sym e)).1
+
+pub numbers_fit : (low high : ℤ) (most : ℕ) (text : List ℕ) (zs : List ℤ) → Some zs ≡ list_in (integer_in low high) most text → IsNumberList low high most zs
+numbers_fit low high most text zs e = numbers_take low high most text zs (sym e)
 
 word_clean : (w : Word) → is_word (spelling w) ≡ true
 word_clean Margin = refl
@@ -65,10 +71,13 @@ word_clean Linear = refl
 value_takes : (k : FieldKind) (text : List ℕ) (v : Value) → is_small k ≡ true → value_in k text ≡ Some v → (text ≡ value_text v) × Fits k v
 value_takes (Number low high) text v small e =
     let m = option_map_some (λ z. holds.Number z) (integer_in low high text) v e in
-    subst (λ v. (text ≡ value_text v) × Fits (Number low high) v) m.2 ((number_spells low high small).takes text m.0 m.1)
+    subst (λ v. (text ≡ value_text v) × Fits (Number low high) v) m.2 (integer_takes low high text m.0 m.1)
 value_takes (ListOf most) text v small e =
-    let m = option_map_some (λ ns. holds.List ns) (list_in most text) v e in
+    let m = option_map_some (λ ns. holds.List ns) (list_in (natural_in 0 255) most text) v e in
     subst (λ v. (text ≡ value_text v) × Fits (ListOf most) v) m.2 ((list_spells most).takes text m.0 m.1)
+value_takes (NumbersOf low high most) text v small e =
+    let m = option_map_some (λ zs. holds.Numbers zs) (list_in (integer_in low high) most text) v e in
+    subst (λ v. (text ≡ value_text v) × Fits (NumbersOf low high most) v) m.2 ((numbers_spells low high most (are_near low high small)).takes text m.0 m.1)
 value_takes (WordOf choices) text v small e =
     let m = option_map_some (λ w. holds.Word w) (word_in choices text) v e in
     let same = word_is choices text m.0 m.1 in
@@ -83,20 +92,18 @@ record Writes (k : FieldKind) (v : Value) : Type 0 where
 
 writes : (k : FieldKind) (v : Value) → is_small k ≡ true → Fits k v → Writes k v
 writes (Number low high) (holds.Number z) small fits =
-    let law = number_spells low high small in
+    let law = integer_spells low high (are_near low high small) in
     record { again = rw (law.again z fits) refl; word = refl; clean = law.clean z fits; short = law.short z fits }
-writes (Number low high) (holds.List ns) small fits = absurd fits
-writes (Number low high) (holds.Word w) small fits = absurd fits
-writes (ListOf most) (holds.Number z) small fits = absurd fits
 writes (ListOf most) (holds.List ns) small fits =
     let law = list_spells most in
     record { again = rw (law.again ns fits) refl; word = refl; clean = law.clean ns fits; short = law.short ns fits }
-writes (ListOf most) (holds.Word w) small fits = absurd fits
-writes (WordOf choices) (holds.Number z) small fits = absurd fits
-writes (WordOf choices) (holds.List ns) small fits = absurd fits
+writes (NumbersOf low high most) (holds.Numbers zs) small fits =
+    let law = numbers_spells low high most (are_near low high small) in
+    record { again = rw (law.again zs fits) refl; word = refl; clean = law.clean zs fits; short = law.short zs fits }
 writes (WordOf choices) (holds.Word w) small fits =
     let parts = and_parts _ _ (word_clean w) in
     record { again = rw fits refl; word = rw fits refl; clean = clean_word (spelling w) parts.0; short = leb-true _ _ parts.1 }
+writes k v small fits = absurd fits
 
 -- ---- all values of a line
 

@@ -30,3 +30,8 @@ Between low high z = low ≤ℤ z × z ≤ℤ high
 pub record IsByteList (most : ℕ) (ns : List ℕ) : Type 0 where
   pub few : length ns ≤ most
   pub small : All (λ n. n ≤ 255) ns
+
+-- at most so many whole numbers from low to high
+pub record IsNumberList (low high : ℤ) (most : ℕ) (zs : List ℤ) : Type 0 where
+  pub few : length zs ≤ most
+  pub within : All (Between low high) zs

@@ -9,13 +9,13 @@ use Rattle.certificate.specs.declared.fields.Value.{Value}
 use Rattle.certificate.specs.declared.fields.Value.TheVariants as values_are
 use Rattle.certificate.specs.declared.fields.Word.{Word}
 use Rattle.certificate.specs.declared.fields.Word.TheVariants as words
-use Rattle.certificate.specs.declared.positions.TheConstants.{GAMES, GOOFSPIEL, OSHI_ZUMO, TRON, PURSUIT}
+use Rattle.certificate.specs.declared.positions.TheConstants.{GAMES, GOOFSPIEL, OSHI_ZUMO, TRON, PURSUIT, TABLE}
 use Rattle.certificate.specs.declared.positions.PositionText.{PositionText}
 use Rattle.certificate.specs.declared.positions.PositionText.TheVariants as texts
 use Rattle.certificate.specs.declared.positions.Shown.{Shown}
 use Rattle.certificate.specs.declared.positions.Shown.TheVariants as shown
 use Rattle.certificate.specs.declared.positions.GameKind.{GameKind}
-use Rattle.certificate.specs.declared.positions.GameKind.TheVariants.{Goofspiel, OshiZumo, Tron, GoofspielDrawn, Pursuit}
+use Rattle.certificate.specs.declared.positions.GameKind.TheVariants.{Goofspiel, OshiZumo, Tron, GoofspielDrawn, Pursuit, Table}
 use Rattle.certificate.specs.Fields.{FieldRow, AllFit, value_text, value_in, has_word}
 use Rattle.certificate.specs.Readers.{◌>>=◌, Reads, spelled}
 
@@ -26,6 +26,7 @@ game_word OshiZumo = codes "oshi_zumo"
 game_word Tron = codes "tron"
 game_word GoofspielDrawn = codes "goofspiel_drawn"
 game_word Pursuit = codes "pursuit"
+game_word Table = codes "table"
 
 -- the version of the reports of the game
 abbrev pub game_version : GameKind → ℕ
@@ -34,6 +35,7 @@ game_version OshiZumo = 1
 game_version Tron = 1
 game_version GoofspielDrawn = 2
 game_version Pursuit = 2
+game_version Table = 2
 
 -- versions are numbered from 1
 abbrev pub newest_version : ℕ
@@ -46,6 +48,7 @@ fields_of OshiZumo = OSHI_ZUMO
 fields_of Tron = TRON
 fields_of GoofspielDrawn = GOOFSPIEL
 fields_of Pursuit = PURSUIT
+fields_of Table = TABLE
 
 abbrev pub kinds_of : GameKind → List FieldKind
 kinds_of game = map (λ (row : FieldRow). row.1) (fields_of game)
@@ -56,6 +59,7 @@ kind_of (texts.OshiZumo size one two least place) = OshiZumo
 kind_of (texts.Tron height width walls one two) = Tron
 kind_of (texts.GoofspielDrawn one two prizes score pay) = GoofspielDrawn
 kind_of (texts.Pursuit nodes edges one two rounds) = Pursuit
+kind_of (texts.Table ranks moves values cells draws) = Table
 
 abbrev pub version_of : PositionText → ℕ
 version_of text = game_version (kind_of text)
@@ -78,6 +82,7 @@ values_of (texts.OshiZumo size one two least place) = whole size ∷ whole one �
 values_of (texts.Tron height width walls one two) = whole height ∷ whole width ∷ values_are.List walls ∷ whole one ∷ whole two ∷ []
 values_of (texts.GoofspielDrawn one two prizes score pay) = values_are.List one ∷ values_are.List two ∷ values_are.List prizes ∷ values_are.Number score ∷ values_are.Word (pay_word pay) ∷ []
 values_of (texts.Pursuit nodes edges one two rounds) = whole nodes ∷ values_are.List edges ∷ whole one ∷ whole two ∷ whole rounds ∷ []
+values_of (texts.Table ranks moves values cells draws) = values_are.Numbers ranks ∷ values_are.Numbers moves ∷ values_are.Numbers values ∷ values_are.Numbers cells ∷ values_are.Numbers draws ∷ []
 
 abbrev pub number_in_value : Value → ℤ
 number_in_value (values_are.Number z) = z
@@ -86,6 +91,10 @@ number_in_value v = pos 0
 abbrev pub list_in_value : Value → List ℕ
 list_in_value (values_are.List ns) = ns
 list_in_value v = []
+
+abbrev pub numbers_in_value : Value → List ℤ
+numbers_in_value (values_are.Numbers zs) = zs
+numbers_in_value v = []
 
 abbrev pub word_in_value : Value → Word
 word_in_value (values_are.Word w) = w
@@ -101,6 +110,9 @@ count_at i vs = unsigned_abs (number_at i vs)
 abbrev pub list_at : ℕ → List Value → List ℕ
 list_at i vs = list_in_value (get_or vs i (whole 0))
 
+abbrev pub numbers_at : ℕ → List Value → List ℤ
+numbers_at i vs = numbers_in_value (get_or vs i (whole 0))
+
 abbrev pub word_value_at : ℕ → List Value → Word
 word_value_at i vs = word_in_value (get_or vs i (whole 0))
 
@@ -111,6 +123,7 @@ position_with OshiZumo vs = texts.OshiZumo (count_at 0 vs) (count_at 1 vs) (coun
 position_with Tron vs = texts.Tron (count_at 0 vs) (count_at 1 vs) (list_at 2 vs) (count_at 3 vs) (count_at 4 vs)
 position_with GoofspielDrawn vs = texts.GoofspielDrawn (list_at 0 vs) (list_at 1 vs) (list_at 2 vs) (number_at 3 vs) (pay_named (word_value_at 4 vs))
 position_with Pursuit vs = texts.Pursuit (count_at 0 vs) (list_at 1 vs) (count_at 2 vs) (count_at 3 vs) (count_at 4 vs)
+position_with Table vs = texts.Table (numbers_at 0 vs) (numbers_at 1 vs) (numbers_at 2 vs) (numbers_at 3 vs) (numbers_at 4 vs)
 
 -- the positions that have a line: each value fits its field
 abbrev pub IsPositionInRange : PositionText → Type 0
@@ -120,6 +133,7 @@ IsPositionInRange text = AllFit (kinds_of (kind_of text)) (values_of text)
 abbrev pub shown_value : Shown → Value
 shown_value (shown.Number z) = values_are.Number z
 shown_value (shown.List ns) = values_are.List ns.now
+shown_value (shown.Numbers zs) = values_are.Numbers zs.now
 shown_value (shown.Word w) = values_are.Word w
 
 abbrev pub position_numbers : PositionText → List (List ℕ)

@@ -62,9 +62,13 @@ natural low high = spelled errors.Number (natural_in low high)
 unfoldable pub integer : ℤ → ℤ → Reads ℤ
 integer low high = spelled errors.Number (integer_in low high)
 
-unfoldable pub naturals_in : ℕ → ℕ → List (List ℕ) → Option (List ℕ)
-naturals_in low high [] = Some []
-naturals_in low high (f ∷ fs) = option_and_then (λ n. option_map (λ ns. n ∷ ns) (naturals_in low high fs)) (natural_in low high f)
+-- the values that all fields spell
+unfoldable pub each_in : {A : Type 0} → (List ℕ → Option A) → List (List ℕ) → Option (List A)
+each_in value [] = Some []
+each_in value (f ∷ fs) = option_and_then (λ x. option_map (λ xs. x ∷ xs) (each_in value fs)) (value f)
+
+abbrev pub naturals_in : ℕ → ℕ → List (List ℕ) → Option (List ℕ)
+naturals_in low high fs = each_in (natural_in low high) fs
 
 -- the numbers that all further fields spell
 unfoldable pub naturals : ℕ → ℕ → Reads (List ℕ)
@@ -76,11 +80,15 @@ naturals low high u = do
 unfoldable pub has_parts : ℕ → ℕ → List (List ℕ) → Bool
 has_parts least most parts = list_all (λ part. not (length part == 0)) parts && (nat_le least (length parts) && nat_le (length parts) most)
 
--- at most so many numbers from 0 to 255, with a comma between each two, or a dash for none
-unfoldable pub list_in : ℕ → List ℕ → Option (List ℕ)
-list_in most text =
+-- the parts of a list: at most so many with a comma between each two, or a dash for none
+unfoldable pub list_parts : ℕ → List ℕ → Option (List (List ℕ))
+list_parts most text =
     let parts = slice_split (λ b. b == 44) text in
-    if bytes_eq text (codes "-") then Some [] else (if has_parts 1 most parts then naturals_in 0 255 parts else None)
+    if bytes_eq text (codes "-") then Some [] else (if has_parts 1 most parts then Some parts else None)
+
+-- the values of a list
+unfoldable pub list_in : {A : Type 0} → (List ℕ → Option A) → ℕ → List ℕ → Option (List A)
+list_in value most text = option_and_then (λ parts. each_in value parts) (list_parts most text)
 
 -- this word stands next
 unfoldable pub expected_word : List ℕ → Reads (Unit {0})

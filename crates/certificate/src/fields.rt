@@ -25,6 +25,7 @@ pub enum Field {
     Nodes,
     Edges,
     Rounds,
+    States,
     Gap,
     Weight,
     Turns,
@@ -55,6 +56,7 @@ impl Field {
             Field::Nodes => "nodes",
             Field::Edges => "edges",
             Field::Rounds => "rounds",
+            Field::States => "states",
             Field::Gap => "gap",
             Field::Weight => "weight",
             Field::Turns => "turns",
@@ -134,6 +136,8 @@ pub enum FieldKind {
     Number(i64, i64),
     /// At most so many numbers from 0 to 255.
     List(usize),
+    /// At most so many whole numbers from the first to the second.
+    Numbers(i32, i32, usize),
     Word(Choices),
 }
 
@@ -142,6 +146,7 @@ pub enum FieldKind {
 pub enum Value {
     Number(i64),
     List(Seq<u8>),
+    Numbers(Seq<i32>),
     Word(Word),
 }
 
@@ -161,7 +166,7 @@ pub type AskRow = (Field, FieldKind, Absent);
 
 impl FieldKind {
     /// The value that a field of a line spells.
-    #[tactic(auto, using(crate::proofs::ValueLaws::list_fits))]
+    #[tactic(auto, using(crate::proofs::ValueLaws::list_fits, crate::proofs::ValueLaws::numbers_fit))]
     pub(crate) fn read(self, alloc: Global, text: &[u8]) -> Result<Option<Value>, AllocError>
         ensures exact { IfOk result (λ o. o ≡ value_in self text.now) }
         ensures fits { IfOk result (λ o. IfSome o (Fits self)) }
@@ -173,6 +178,12 @@ impl FieldKind {
             },
             FieldKind::List(most) => match lists::list(alloc, text, most)? {
                 Some(ns) => Ok(Some(Value::List(ns))),
+                None => Ok(None),
+            },
+            FieldKind::Numbers(low, high, most) => match lists::numbers(
+                alloc, text, low, high, most,
+            )? {
+                Some(zs) => Ok(Some(Value::Numbers(zs))),
                 None => Ok(None),
             },
             FieldKind::Word(choices) => match choices.word(text) {

@@ -1,9 +1,10 @@
 //! Lists of numbers.
 
 ghost use Rattle.std.specs.Prelude.{◌≡◌, [], IfOk, IfSome};
-ghost use Rattle.certificate.specs.Readers.{naturals_in, list_in};
+ghost use Rattle.certificate.specs.Numbers.{natural_in, integer_in};
+ghost use Rattle.certificate.specs.Readers.{each_in, naturals_in, list_parts, list_in};
 
-use crate::numbers::natural;
+use crate::numbers::{natural, short_integer};
 use crate::parts::{Parts, has_parts};
 use seq::Seq;
 use std::alloc::{AllocError, Global};
@@ -51,16 +52,63 @@ pub(crate) fn turns(alloc: Global, parts: &mut Parts) -> Result<Option<Seq<u64>>
     Ok(Some(Seq::from_vec(numbers)))
 }
 
-/// At most `most` numbers with a comma between each two, or a dash for none.
-#[tactic(auto, unfolding(crate::specs::Readers::list_in))]
-pub(crate) fn list(alloc: Global, text: &[u8], most: usize) -> Result<Option<Seq<u8>>, AllocError>
-    ensures { IfOk result (λ o. o ≡ list_in most text.now) }
+/// The whole numbers from `low` to `high` that all parts spell.
+fn integers(
+    alloc: Global,
+    parts: &mut Parts,
+    low: i32,
+    high: i32,
+) -> Result<Option<Seq<i32>>, AllocError>
+    ensures { IfOk result (λ o. o ≡ each_in (integer_in low high) parts.old) }
+{
+    let mut numbers = Vec::new(alloc);
+    'parts: while let Some(part) = parts.next() {
+        let Some(z) = short_integer(part, low, high) else {
+            return Ok(None);
+        };
+        numbers.push(z)?;
+    }
+    Ok(Some(Seq::from_vec(numbers)))
+}
+
+/// The parts of a list: at most `most` with a comma between each two, or a dash for none.
+#[tactic(auto, unfolding(crate::specs::Readers::list_parts))]
+fn list_parts(text: &[u8], most: usize) -> Option<Parts<'_>>
+    ensures { result ≡ list_parts most text.now }
 {
     if text == b"-".as_slice() {
-        return Ok(Some(Seq::from_vec(Vec::new(alloc))));
+        return Some(Parts::none());
     }
     if !has_parts(text, b',', 1, most) {
-        return Ok(None);
+        return None;
     }
-    bytes(alloc, &mut Parts::new(text, b','))
+    Some(Parts::new(text, b','))
+}
+
+/// A list of at most `most` numbers from 0 to 255.
+#[tactic(auto, unfolding(crate::specs::Readers::list_in))]
+pub(crate) fn list(alloc: Global, text: &[u8], most: usize) -> Result<Option<Seq<u8>>, AllocError>
+    ensures { IfOk result (λ o. o ≡ list_in (natural_in 0 255) most text.now) }
+{
+    match list_parts(text, most) {
+        Some(mut parts) => bytes(alloc, &mut parts),
+        None => Ok(None),
+    }
+}
+
+/// A list of at most `most` whole numbers from `low` to `high`.
+#[tactic(auto, unfolding(crate::specs::Readers::list_in))]
+pub(crate) fn numbers(
+    alloc: Global,
+    text: &[u8],
+    low: i32,
+    high: i32,
+    most: usize,
+) -> Result<Option<Seq<i32>>, AllocError>
+    ensures { IfOk result (λ o. o ≡ list_in (integer_in low high) most text.now) }
+{
+    match list_parts(text, most) {
+        Some(mut parts) => integers(alloc, &mut parts, low, high),
+        None => Ok(None),
+    }
 }

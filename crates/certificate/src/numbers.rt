@@ -88,3 +88,11 @@ pub(crate) fn integer(text: &[u8], low: i64, high: i64) -> Option<i64>
     }
     Some(z)
 }
+
+/// The same, of numbers that fit 32 bits.
+pub(crate) fn short_integer(text: &[u8], low: i32, high: i32) -> Option<i32>
+    ensures { result ≡ integer_in low high text.now }
+{
+    let z = integer(text, i64::from(low), i64::from(high))?;
+    Some(z as i32)
+}

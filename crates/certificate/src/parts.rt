@@ -33,6 +33,13 @@ impl<'a> Parts<'a> {
         }
     }
 
+    /// No part.
+    pub(crate) fn none() -> Parts<'a>
+        ensures { result ≡ [] }
+    {
+        Parts { rest: None, at: 0 }
+    }
+
     pub(crate) fn next(&mut self) -> Option<&'a [u8]>
         ensures { MatchOption result ((self.old ≡ []) × (self.new ≡ [])) (λ part. self.old ≡ part.now ∷ self.new) }
     {

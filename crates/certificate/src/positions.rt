@@ -1,10 +1,11 @@
 //! The games, one by one: their words, their fields, and positions as values of these fields. Then the line of a
 //! position, which is read and written by the fields of its game, whatever the game.
 
-ghost use Rattle.std.specs.Prelude.{◌≡◌, ℕ, pos, ◌∷◌, codes, drop, flat_map, map, IfOk, OnOk};
+ghost use Rattle.std.specs.Prelude.{◌≡◌, ℕ, ℤ, pos, ◌∷◌, codes, drop, flat_map, map, IfOk, OnOk};
+ghost use Rattle.std.specs.Fmt.{signed_decimal};
 ghost use Rattle.text.specs.Texts.{Adds, line_text};
 ghost use Rattle.certificate.specs.Readers.{Gives};
-ghost use Rattle.certificate.specs.Fields.{spelling, Fits, AllFit, value_text};
+ghost use Rattle.certificate.specs.Fields.{spelling, Fits, AllFit, joined_list, value_text};
 ghost use Rattle.certificate.specs.Positions.{game_word, game_version, fields_of, kinds_of, kind_of, version_of, pay_word, shown_value, values_of, position_with, IsPositionInRange, game_of, game_in, game, first_has_word, have_words, value, values, line_values, position, position_fields};
 ghost use Rattle.certificate.specs.Reading.{game_line};
 ghost use Rattle.certificate.specs.declared.positions.TheConstants.{BYTE, SCORE, PLACE};
@@ -64,6 +65,20 @@ pub const PURSUIT: [FieldRow; FIELDS] = [
     (Field::Rounds, BYTE),
 ];
 
+pub const TABLE: [FieldRow; FIELDS] = [
+    (Field::States, FieldKind::Numbers(0, 524_288, 524_288)),
+    (Field::States, FieldKind::Numbers(0, 255, 1_048_576)),
+    (
+        Field::States,
+        FieldKind::Numbers(-1_000_000, 1_000_000, 524_288),
+    ),
+    (
+        Field::States,
+        FieldKind::Numbers(-1_048_576, 1_048_575, 524_288),
+    ),
+    (Field::States, FieldKind::Numbers(0, 1_048_575, 524_288)),
+];
+
 /// The kinds of games.
 #[derive(Clone, Copy, Debug, PartialEq, Eq)]
 pub enum GameKind {
@@ -72,14 +87,16 @@ pub enum GameKind {
     Tron,
     GoofspielDrawn,
     Pursuit,
+    Table,
 }
 
-const GAMES: [GameKind; 5] = [
+const GAMES: [GameKind; 6] = [
     GameKind::Goofspiel,
     GameKind::OshiZumo,
     GameKind::Tron,
     GameKind::GoofspielDrawn,
     GameKind::Pursuit,
+    GameKind::Table,
 ];
 
 impl GameKind {
@@ -93,6 +110,7 @@ impl GameKind {
             GameKind::Tron => b"tron",
             GameKind::GoofspielDrawn => b"goofspiel_drawn",
             GameKind::Pursuit => b"pursuit",
+            GameKind::Table => b"table",
         }
     }
 
@@ -114,6 +132,7 @@ impl GameKind {
             GameKind::Tron => 1,
             GameKind::GoofspielDrawn => 2,
             GameKind::Pursuit => 2,
+            GameKind::Table => 2,
         }
     }
 
@@ -127,6 +146,7 @@ impl GameKind {
             GameKind::Tron => &TRON,
             GameKind::GoofspielDrawn => &GOOFSPIEL,
             GameKind::Pursuit => &PURSUIT,
+            GameKind::Table => &TABLE,
         }
     }
 
@@ -211,6 +231,20 @@ pub enum PositionText {
         /// How many rounds are left.
         rounds: u8,
     },
+    /// A game told state by state. Places in a list are numbered from 0.
+    Table {
+        /// For each state how many turns the longest way from it takes, 0 for an end.
+        ranks: Seq<i32>,
+        /// For each state how many moves One has, then how many Two has; 0 and 0 for an end.
+        moves: Seq<i32>,
+        /// For each state the payoff of an end, or else the place of its first cell in `cells`.
+        values: Seq<i32>,
+        /// The cells of all states, state by state and row by row: each the state that follows for certain, or -1 less
+        /// the number of its first draw.
+        cells: Seq<i32>,
+        /// The draws of all cells, each by the state that can follow and its weight.
+        draws: Seq<i32>,
+    },
 }
 
 /// A value of a position that is to be written.
@@ -218,6 +252,7 @@ pub enum PositionText {
 pub(crate) enum Shown<'a> {
     Number(i64),
     List(&'a [u8]),
+    Numbers(&'a [i32]),
     Word(Word),
 }
 
@@ -271,6 +306,16 @@ impl Value {
         }
     }
 
+    fn numbers(self) -> Seq<i32>
+        requires { (low : ℤ) × (high : ℤ) × (most : ℕ) × Fits (FieldKind.Numbers low high most) self }
+        ensures { self ≡ Value.Numbers result }
+    {
+        match self {
+            Value::Numbers(zs) => zs,
+            _ => unreachable!(),
+        }
+    }
+
     fn pay(self) -> Pay
         requires { Fits (FieldKind.Word Choices.Pay) self }
         ensures { self ≡ Value.Word (pay_word result) }
@@ -281,6 +326,15 @@ impl Value {
             _ => unreachable!(),
         }
     }
+}
+
+/// The same list again.
+fn copy_of<T: Copy>(alloc: Global, list: &Seq<T>) -> Result<Seq<T>, NoMemory>
+    ensures { IfOk result (λ s. s ≡ list.now) }
+{
+    let mut items = Vec::new(alloc);
+    items.extend_from_slice(list.as_slice())?;
+    Ok(Seq::from_vec(items))
 }
 
 impl PositionText {
@@ -326,6 +380,13 @@ impl PositionText {
                 one: c.byte(),
                 two: d.byte(),
                 rounds: e.byte(),
+            },
+            GameKind::Table => PositionText::Table {
+                ranks: a.numbers(),
+                moves: b.numbers(),
+                values: c.numbers(),
+                cells: d.numbers(),
+                draws: e.numbers(),
             },
         }
     }
@@ -400,6 +461,19 @@ impl PositionText {
                 Shown::Number(i64::from(*two)),
                 Shown::Number(i64::from(*rounds)),
             ],
+            PositionText::Table {
+                ranks,
+                moves,
+                values,
+                cells,
+                draws,
+            } => [
+                Shown::Numbers(ranks.as_slice()),
+                Shown::Numbers(moves.as_slice()),
+                Shown::Numbers(values.as_slice()),
+                Shown::Numbers(cells.as_slice()),
+                Shown::Numbers(draws.as_slice()),
+            ],
         }
     }
 
@@ -412,7 +486,94 @@ impl PositionText {
             PositionText::Tron { .. } => GameKind::Tron,
             PositionText::GoofspielDrawn { .. } => GameKind::GoofspielDrawn,
             PositionText::Pursuit { .. } => GameKind::Pursuit,
+            PositionText::Table { .. } => GameKind::Table,
         }
+    }
+
+    /// The same position again.
+    pub fn try_clone(&self, alloc: Global) -> Result<PositionText, NoMemory>
+        ensures { IfOk result (λ t. t ≡ self.now) }
+    {
+        Ok(match self {
+            PositionText::Goofspiel {
+                one,
+                two,
+                prizes,
+                score,
+                pay,
+            } => PositionText::Goofspiel {
+                one: copy_of(alloc, one)?,
+                two: copy_of(alloc, two)?,
+                prizes: copy_of(alloc, prizes)?,
+                score: *score,
+                pay: *pay,
+            },
+            PositionText::OshiZumo {
+                size,
+                one,
+                two,
+                least,
+                place,
+            } => PositionText::OshiZumo {
+                size: *size,
+                one: *one,
+                two: *two,
+                least: *least,
+                place: *place,
+            },
+            PositionText::Tron {
+                height,
+                width,
+                walls,
+                one,
+                two,
+            } => PositionText::Tron {
+                height: *height,
+                width: *width,
+                walls: copy_of(alloc, walls)?,
+                one: *one,
+                two: *two,
+            },
+            PositionText::GoofspielDrawn {
+                one,
+                two,
+                prizes,
+                score,
+                pay,
+            } => PositionText::GoofspielDrawn {
+                one: copy_of(alloc, one)?,
+                two: copy_of(alloc, two)?,
+                prizes: copy_of(alloc, prizes)?,
+                score: *score,
+                pay: *pay,
+            },
+            PositionText::Pursuit {
+                nodes,
+                edges,
+                one,
+                two,
+                rounds,
+            } => PositionText::Pursuit {
+                nodes: *nodes,
+                edges: copy_of(alloc, edges)?,
+                one: *one,
+                two: *two,
+                rounds: *rounds,
+            },
+            PositionText::Table {
+                ranks,
+                moves,
+                values,
+                cells,
+                draws,
+            } => PositionText::Table {
+                ranks: copy_of(alloc, ranks)?,
+                moves: copy_of(alloc, moves)?,
+                values: copy_of(alloc, values)?,
+                cells: copy_of(alloc, cells)?,
+                draws: copy_of(alloc, draws)?,
+            },
+        })
     }
 
     /// The version of the reports of the position.
@@ -532,7 +693,21 @@ fn add_value(text: &mut Text, value: &Shown) -> Result<(), NoMemory>
     match value {
         Shown::Number(z) => text.next(z),
         Shown::List(ns) => text.next_list(ns),
+        Shown::Numbers(zs) => add_numbers(text, zs),
         Shown::Word(word) => add_word(text, *word),
+    }
+}
+
+/// A space and a list: numbers with a comma between each two, or a dash for none.
+fn add_numbers(text: &mut Text, zs: &[i32]) -> Result<(), NoMemory>
+    ensures { OnOk result (Adds text.old text.new (32 ∷ joined_list (map signed_decimal zs.now))) }
+{
+    match zs {
+        [] => text.word(b" -"),
+        [first, rest @ ..] => {
+            text.next(first)?;
+            text.each(b",", rest)
+        }
     }
 }
 

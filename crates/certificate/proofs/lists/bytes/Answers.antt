@@ -1,11 +1,12 @@
-use Rattle.certificate.proofs.ListLemmas.{number_more, number_none, numbers_done}
+use Rattle.certificate.specs.Numbers.{natural_in}
+use Rattle.certificate.proofs.ListLemmas.{value_more, value_none, values_done}
 use Rattle.certificate.proofs.lists.bytes.Goals as goal
 
 pub returns-in_default-natural : goal.returns-in_default-natural
-returns-in_default-natural c = number_none 0 255 c.parts.numbers.items _ _ _ _ c.in-Some.ensures c.in_default-natural.ensures.exact c.parts.invariant
+returns-in_default-natural c = value_none (natural_in 0 255) c.parts.numbers.items _ _ _ _ c.in-Some.ensures c.in_default-natural.ensures.exact c.parts.invariant
 
 pub parts-preserved : goal.parts-preserved
-parts-preserved c = rw c.in_ok-push.ensures.items (number_more 0 255 c.parts.numbers.items _ _ _ _ _ c.in-Some.ensures c.in-Some-natural.ensures.exact c.parts.invariant)
+parts-preserved c = rw c.in_ok-push.ensures.items (value_more (natural_in 0 255) c.parts.numbers.items _ _ _ _ _ c.in-Some.ensures c.in-Some-natural.ensures.exact c.parts.invariant)
 
 pub returns : goal.returns
-returns c = rw c.from_vec.ensures (numbers_done 0 255 c.parts.numbers.items _ _ c.in_default.ensures.0 c.parts.invariant)
+returns c = rw c.from_vec.ensures (values_done (natural_in 0 255) c.parts.numbers.items _ _ c.in_default.ensures.0 c.parts.invariant)

@@ -29,7 +29,7 @@ fn solve_any<R: Threads + Sync, T: Gate + Sync>(
 ) -> Result<Solved, NoMemory>
     requires ask { IsAskInRange ask.now }
     requires position { IsPositionInRange position }
-    ensures { OfSame game (λ S m. IfOk result (IsSolvedGame m position ask.now)) }
+    ensures { OfSame game.entry (λ S m. IfOk result (IsSolvedGame m position ask.now)) }
 {
     with_game!(game, g => solve(rt, alloc, g, position, ask, gate))
 }
@@ -44,10 +44,14 @@ pub(crate) fn solved<R: Threads + Sync, T: Gate + Sync>(
     ensures { IfOk result (λ a. IsSolved bytes.now a.status a.text) }
 {
     match position(alloc, bytes) {
-        Ok(task) => match solve_any(rt, alloc, task.game(), task.text, &task.ask, gate) {
-            Ok(solved) => reported(alloc, &solved.report),
-            Err(_) => Err(NoMemory),
-        },
+        Ok(task) => {
+            // The game borrows from the text, and the report keeps a text.
+            let text = task.text.try_clone(alloc)?;
+            match solve_any(rt, alloc, task.game(), text, &task.ask, gate) {
+                Ok(solved) => reported(alloc, &solved.report),
+                Err(_) => Err(NoMemory),
+            }
+        }
         Err(error) => refused(alloc, error),
     }
 }

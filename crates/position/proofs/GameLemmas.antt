@@ -1,5 +1,5 @@
 -- The games, one by one: what was built, and that a position has one game.
-use Rattle.std.proofs.Common.{sym, subst}
+use Rattle.std.proofs.Common.{sym, ◌∙◌, subst}
 use Rattle.sim_game.specs.Model.{GameModel, IsGame}
 use Rattle.goofspiel.specs.Laws.{goofspiel_is_game}
 use Rattle.goofspiel.specs.Rules.{goofspiel_game}
@@ -15,10 +15,13 @@ use Rattle.tron.proofs.PositionLemmas as tron_position
 use Rattle.pursuit.specs.Laws.{pursuit_is_game}
 use Rattle.pursuit.specs.Rules.{pursuit_game}
 use Rattle.pursuit.proofs.PositionLemmas as pursuit_position
+use Rattle.table.specs.Laws.{table_is_game}
+use Rattle.table.specs.Rules.{table_game}
+use Rattle.table.specs.Setting.{lists_of}
 use Rattle.certificate.specs.declared.positions.PositionText.{PositionText}
 use Rattle.certificate.specs.declared.positions.PositionText.TheVariants as texts
 use Rattle.position.specs.declared.games.AnyGame.{AnyGame}
-use Rattle.position.specs.declared.games.AnyGame.TheVariants.{Goofspiel, OshiZumo, Tron, GoofspielDrawn, Pursuit}
+use Rattle.position.specs.declared.games.AnyGame.TheVariants.{Goofspiel, OshiZumo, Tron, GoofspielDrawn, Pursuit, Table}
 use Rattle.position.specs.Games.{IsGameOf, state_type, model_of, OfSame, OfGame, IsSameGame}
 
 pub one_game : (text : PositionText) (g h : AnyGame) → IsGameOf text g → IsGameOf text h → IsSameGame g h
@@ -27,6 +30,7 @@ one_game (texts.OshiZumo size one two least place) g h (a, g_is, p) (b, h_is, q)
 one_game (texts.Tron height width walls one two) g h (a, g_is, p) (b, h_is, q) = rw g_is (b, h_is, tron_position.one_setting height width walls one two a.setting b.setting p q)
 one_game (texts.GoofspielDrawn one two prizes score pay) g h (a, g_is, p) (b, h_is, q) = rw g_is (b, h_is, goofspiel_position.one_setting one two prizes score pay a.setting b.setting p q)
 one_game (texts.Pursuit nodes edges one two rounds) g h (a, g_is, p) (b, h_is, q) = rw g_is (b, h_is, pursuit_position.one_setting nodes edges one two rounds a.setting b.setting p q)
+one_game (texts.Table ranks moves values cells draws) g h (a, g_is, p) (b, h_is, q) = rw g_is (b, h_is, p ∙ sym q)
 
 -- a property of the model of one is one of that of the other
 pub of_same : (P : (S : Type 0) → GameModel S → Type 0) (g h : AnyGame) → IsSameGame g h → P (state_type g) (model_of g) → P (state_type h) (model_of h)
@@ -35,6 +39,7 @@ of_same P (OshiZumo g) h (other, is, same) p = rw is (subst (λ s. P _ (oshi_zum
 of_same P (Tron g) h (other, is, same) p = rw is (subst (λ s. P _ (tron_game s)) same p)
 of_same P (GoofspielDrawn g) h (other, is, same) p = rw is (subst (λ s. P _ (drawn_game s)) same p)
 of_same P (Pursuit g) h (other, is, same) p = rw is (subst (λ s. P _ (pursuit_game s)) same p)
+of_same P (Table g) h (other, is, same) p = rw is (subst (λ l. P _ (table_game l)) same p)
 
 -- what holds of a game that this is holds of this
 pub of_this : (P : (S : Type 0) → GameModel S → Type 0) (any : AnyGame) → OfSame any P → P (state_type any) (model_of any)
@@ -46,6 +51,7 @@ is_game (OshiZumo g) = oshi_zumo_is_game g.setting g.valid
 is_game (Tron g) = tron_is_game g.setting g.valid
 is_game (GoofspielDrawn g) = drawn_is_game g.setting g.valid
 is_game (Pursuit g) = pursuit_is_game g.setting g.valid
+is_game (Table g) = table_is_game (lists_of g.setting) g.valid
 
 -- what follows from a property of the game
 pub of_game_weaker : (text : PositionText) (P Q : (S : Type 0) → GameModel S → Type 0) → ((S : Type 0) (m : GameModel S) → P S m → Q S m) → OfGame text P → OfGame text Q

@@ -1,6 +1,6 @@
 -- The games, one by one: the position that an object gives, the first rule that it breaks, what is told of it, and the
 -- model of its game.
-use Rattle.std.specs.Prelude.{◌≡◌, ℕ, List, [], ◌++◌, codes, Option, option_map, Result, Ok}
+use Rattle.std.specs.Prelude.{◌≡◌, ℕ, Bool, true, false, if◌then◌else◌, List, [], ◌++◌, codes, Option, option_map, Result, Ok}
 use Rattle.serde_json.specs.Data.{Data}
 use Rattle.sim_game.specs.Model.{GameModel}
 use Rattle.goofspiel.specs.declared.Goofspiel.{Goofspiel as GoofspielGame}
@@ -26,7 +26,15 @@ use Rattle.pursuit.specs.declared.State.{State as PursuitState}
 use Rattle.pursuit.specs.Position as pursuit
 use Rattle.pursuit.specs.Refusals as pursuit_refusals
 use Rattle.pursuit.specs.Rules.{pursuit_game}
+use Rattle.table.specs.declared.Table.{Table as TableGame}
+use Rattle.table.specs.declared.State.{State as TableState}
+use Rattle.table.specs.Faults as table
+use Rattle.table.specs.Lists.{lists_from}
+use Rattle.table.specs.Refusals as table_refusals
+use Rattle.table.specs.Rules.{table_game}
+use Rattle.table.specs.Setting.{lists_of, IsSettingOf}
 use Rattle.certificate.specs.declared.positions.GameKind.{GameKind}
+use Rattle.certificate.specs.declared.positions.GameKind.TheVariants as kinds
 use Rattle.certificate.specs.declared.positions.PositionText.{PositionText}
 use Rattle.certificate.specs.declared.positions.PositionText.TheVariants as texts
 use Rattle.certificate.specs.Fields.{name_of}
@@ -34,11 +42,17 @@ use Rattle.certificate.specs.Positions.{fields_of, position_with}
 use Rattle.position.specs.declared.games.InputError.{InputError}
 use Rattle.position.specs.declared.games.InputError.TheVariants as errors
 use Rattle.position.specs.declared.games.AnyGame.{AnyGame}
-use Rattle.position.specs.declared.games.AnyGame.TheVariants.{Goofspiel, OshiZumo, Tron, GoofspielDrawn, Pursuit}
+use Rattle.position.specs.declared.games.AnyGame.TheVariants.{Goofspiel, OshiZumo, Tron, GoofspielDrawn, Pursuit, Table}
 use Rattle.position.specs.Objects.{◌>>=◌, values_at}
+use Rattle.position.specs.States.{table_text_in}
+
+-- a table tells its states, and each other game its fields
+abbrev pub is_table : GameKind → Bool
+is_table kinds.Table = true
+is_table game = false
 
 unfoldable pub position_text_in : GameKind → Data → Result PositionText InputError
-position_text_in game d = do
+position_text_in game d = if is_table game then table_text_in d else do
   vs ← values_at (fields_of game) d
   Ok (position_with game vs)
 
@@ -56,6 +70,7 @@ code_of (errors.Goofspiel e) = goofspiel_refusals.number_of e
 code_of (errors.OshiZumo e) = oshi_zumo_refusals.number_of e
 code_of (errors.Tron e) = tron_refusals.number_of e
 code_of (errors.Pursuit e) = pursuit_refusals.number_of e
+code_of (errors.Table e) = table_refusals.number_of e
 code_of errors.TooLong = 50
 code_of errors.NoMemory = 0
 
@@ -71,6 +86,7 @@ words_of (errors.Goofspiel e) = goofspiel_refusals.words_of e
 words_of (errors.OshiZumo e) = oshi_zumo_refusals.words_of e
 words_of (errors.Tron e) = tron_refusals.words_of e
 words_of (errors.Pursuit e) = pursuit_refusals.words_of e
+words_of (errors.Table e) = table_refusals.words_of e
 words_of errors.TooLong = codes "too long"
 words_of errors.NoMemory = []
 
@@ -82,6 +98,7 @@ fault_of (texts.OshiZumo size one two least place) = option_map errors.OshiZumo 
 fault_of (texts.Tron height width walls one two) = option_map errors.Tron (tron.first_fault height width walls one two)
 fault_of (texts.GoofspielDrawn one two prizes score pay) = option_map errors.Goofspiel (goofspiel.first_fault one two prizes score)
 fault_of (texts.Pursuit nodes edges one two rounds) = option_map errors.Pursuit (pursuit.first_fault nodes edges one two rounds)
+fault_of (texts.Table ranks moves values cells draws) = option_map errors.Table (table.first_fault (lists_from ranks moves values cells draws))
 
 -- the game is of the same kind, and its setting is that of the position
 abbrev pub IsGameOf : PositionText → AnyGame → Type 0
@@ -90,6 +107,7 @@ IsGameOf (texts.OshiZumo size one two least place) game = (g : OshiZumoGame) × 
 IsGameOf (texts.Tron height width walls one two) game = (g : TronGame) × (game ≡ Tron g) × tron.IsSettingOf height width walls one two g.setting
 IsGameOf (texts.GoofspielDrawn one two prizes score pay) game = (g : DrawnGame) × (game ≡ GoofspielDrawn g) × goofspiel.IsSettingOf one two prizes score pay g.setting
 IsGameOf (texts.Pursuit nodes edges one two rounds) game = (g : PursuitGame) × (game ≡ Pursuit g) × pursuit.IsSettingOf nodes edges one two rounds g.setting
+IsGameOf (texts.Table ranks moves values cells draws) game = (g : TableGame) × (game ≡ Table g) × IsSettingOf ranks moves values cells draws g.setting
 
 -- ---- its model
 -- the states of the game
@@ -99,6 +117,7 @@ state_type (OshiZumo g) = OshiZumoState
 state_type (Tron g) = TronState
 state_type (GoofspielDrawn g) = DrawnState
 state_type (Pursuit g) = PursuitState
+state_type (Table g) = TableState
 
 abbrev pub model_of : (g : AnyGame) → GameModel (state_type g)
 model_of (Goofspiel g) = goofspiel_game g.setting
@@ -106,6 +125,7 @@ model_of (OshiZumo g) = oshi_zumo_game g.setting
 model_of (Tron g) = tron_game g.setting
 model_of (GoofspielDrawn g) = drawn_game g.setting
 model_of (Pursuit g) = pursuit_game g.setting
+model_of (Table g) = table_game (lists_of g.setting)
 
 -- the property holds of a game that this is
 abbrev pub OfSame : AnyGame → ((S : Type 0) → GameModel S → Type 0) → Type 0
@@ -122,3 +142,4 @@ IsSameGame (OshiZumo g) other = (h : OshiZumoGame) × (other ≡ OshiZumo h) × 
 IsSameGame (Tron g) other = (h : TronGame) × (other ≡ Tron h) × (g.setting ≡ h.setting)
 IsSameGame (GoofspielDrawn g) other = (h : DrawnGame) × (other ≡ GoofspielDrawn h) × (g.setting ≡ h.setting)
 IsSameGame (Pursuit g) other = (h : PursuitGame) × (other ≡ Pursuit h) × (g.setting ≡ h.setting)
+IsSameGame (Table g) other = (h : TableGame) × (other ≡ Table h) × (lists_of g.setting ≡ lists_of h.setting)

@@ -135,6 +135,8 @@ value_at field (holds.Number low high) d = do
 value_at field (holds.List most) d = do
   ns ← bytes_at field most d
   Ok (values.List ns)
+-- reports alone have such lists
+value_at field (holds.Numbers low high most) d = Err (errors.Kind field)
 value_at field (holds.Word choices) d = do
   text ← text_at field d
   w ← or_refuse (word_in choices text) (errors.Range field)

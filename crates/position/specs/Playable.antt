@@ -19,14 +19,10 @@ pub record IsPlayable (text : PositionText) : Type 0 where
 -- ---- one proof of each
 Fits-prop : (kind : FieldKind) (v : Value) → IsProp (Fits kind v)
 Fits-prop (holds.Number low high) (values.Number z) = hlevel props
-Fits-prop (holds.Number low high) (values.List ns) = hlevel props
-Fits-prop (holds.Number low high) (values.Word w) = hlevel props
-Fits-prop (holds.List most) (values.Number z) = hlevel props
 Fits-prop (holds.List most) (values.List ns) = hlevel props
-Fits-prop (holds.List most) (values.Word w) = hlevel props
-Fits-prop (holds.Word choices) (values.Number z) = hlevel props
-Fits-prop (holds.Word choices) (values.List ns) = hlevel props
+Fits-prop (holds.Numbers low high most) (values.Numbers zs) = hlevel props
 Fits-prop (holds.Word choices) (values.Word w) = hlevel props
+Fits-prop kind v = hlevel props
 
 AllFit-prop : (kinds : List FieldKind) (vs : List Value) → IsProp (AllFit kinds vs)
 AllFit-prop [] [] = hlevel props

@@ -9,10 +9,11 @@ ghost use Rattle.certificate.specs.declared.positions.PositionText.{PositionText
 ghost use Rattle.certificate.specs.Ranges.{IsPositionInRange};
 ghost use Rattle.position.specs.declared.games.AnyGame.{AnyGame};
 ghost use Rattle.position.specs.Objects.{Gives};
-ghost use Rattle.position.specs.Games.{code_of, words_of, position_text_in, fault_of, IsGameOf, model_of, OfSame, IsSameGame};
+ghost use Rattle.position.specs.Games.{code_of, words_of, is_table, position_text_in, fault_of, IsGameOf, model_of, OfSame, IsSameGame};
 ghost use Rattle.position.specs.Playable.{IsPlayable};
 
 use crate::object::values;
+use crate::states::table_text;
 use certificate::{Field, GameKind, PositionText};
 use goofspiel::{Goofspiel, GoofspielDrawn, GoofspielError};
 use oshi_zumo::{OshiError, OshiZumo};
@@ -20,18 +21,20 @@ use pursuit::{Pursuit, PursuitError};
 use serde_json::Value;
 use sim_game::{Game, NoMemory};
 use std::alloc::Global;
+use table::{Table, TableError};
 use text::Text;
 use thiserror::Error;
 use tron::{Tron, TronError};
 
 /// A game of any kind.
 #[derive(Clone, Copy, Debug, PartialEq, Eq)]
-pub enum AnyGame {
+pub enum AnyGame<'a> {
     Goofspiel(Goofspiel),
     OshiZumo(OshiZumo),
     Tron(Tron),
     GoofspielDrawn(GoofspielDrawn),
     Pursuit(Pursuit),
+    Table(Table<'a>),
 }
 
 /// The first refusal of the bytes.
@@ -67,6 +70,8 @@ pub enum InputError {
     Tron(TronError),
     #[error(transparent)]
     Pursuit(PursuitError),
+    #[error(transparent)]
+    Table(TableError),
     /// There are more bytes than a position may have.
     #[error("too long")]
     TooLong,
@@ -92,6 +97,7 @@ impl InputError {
             InputError::OshiZumo(error) => error.number(),
             InputError::Tron(error) => error.number(),
             InputError::Pursuit(error) => error.number(),
+            InputError::Table(error) => error.number(),
             InputError::TooLong => 50,
             InputError::NoMemory => 0,
         }
@@ -113,6 +119,7 @@ impl InputError {
             InputError::OshiZumo(error) => error.tell(text),
             InputError::Tron(error) => error.tell(text),
             InputError::Pursuit(error) => error.tell(text),
+            InputError::Table(error) => error.tell(text),
             InputError::TooLong => text.word(b"too long"),
             InputError::NoMemory => text.word(b""),
         }
@@ -153,22 +160,23 @@ macro_rules! with_game {
             $crate::AnyGame::Tron($game) => $then,
             $crate::AnyGame::GoofspielDrawn($game) => $then,
             $crate::AnyGame::Pursuit($game) => $then,
+            $crate::AnyGame::Table($game) => $then,
         }
     };
 }
 
-impl AnyGame {
+impl<'a> AnyGame<'a> {
     /// Hands the game to the visitor.
     pub fn accept<V: GameVisitor>(self, visitor: V) -> V::Answer
         requires { V.can_visit visitor }
-        ensures { V.says visitor _ (model_of self) result }
+        ensures { V.says visitor _ (model_of self.entry) result }
     {
         self.hand_to(visitor)
     }
 
     fn hand_to<V: GameVisitor>(self, visitor: V) -> V::Answer
         requires { V.can_visit visitor }
-        ensures { OfSame self (λ S m. V.says visitor S m result) }
+        ensures { OfSame self.entry (λ S m. V.says visitor S m result) }
     {
         with_game!(self, game => visitor.visit(game))
     }
@@ -244,6 +252,22 @@ pub fn build(text: &PositionText) -> Result<AnyGame, InputError>
             Ok(game) => Ok(AnyGame::Pursuit(game)),
             Err(fault) => Err(InputError::Pursuit(fault)),
         },
+        PositionText::Table {
+            ranks,
+            moves,
+            values,
+            cells,
+            draws,
+        } => match Table::new(
+            ranks.as_slice(),
+            moves.as_slice(),
+            values.as_slice(),
+            cells.as_slice(),
+            draws.as_slice(),
+        ) {
+            Ok(game) => Ok(AnyGame::Table(game)),
+            Err(fault) => Err(InputError::Table(fault)),
+        },
     }
 }
 
@@ -265,6 +289,12 @@ pub fn position_has_one_game()
         → IsSameGame g h }
 {}
 
+fn is_table(game: GameKind) -> bool
+    ensures { result ≡ is_table game }
+{
+    matches!(game, GameKind::Table)
+}
+
 /// The position of the game, where each of its fields is in range.
 #[tactic(auto, unfolding(crate::specs::Games::position_text_in))]
 pub(crate) fn position_text(
@@ -275,6 +305,9 @@ pub(crate) fn position_text(
     ensures exact { Gives (λ t. t) result (position_text_in game (view object.now)) }
     ensures in_range { IfOk result IsPositionInRange }
 {
+    if is_table(game) {
+        return table_text(alloc, object);
+    }
     let values = values(alloc, game.fields(), object)?;
     Ok(PositionText::with_values(game, values))
 }

@@ -12,6 +12,7 @@ mod reading;
 mod sink;
 mod source;
 mod standard;
+mod states;
 mod task;
 
 pub use certificate::Field;

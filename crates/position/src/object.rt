@@ -210,6 +210,8 @@ fn value(
             let ns = byte_list(alloc, field, most, object)?;
             Ok(FieldValue::List(ns))
         }
+        // Reports alone have such lists: an object tells those of a table by its states.
+        FieldKind::Numbers(..) => Err(InputError::Kind { field }),
         FieldKind::Word(choices) => {
             let text = text(field, object)?;
             let word = choices

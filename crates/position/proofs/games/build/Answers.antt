@@ -15,3 +15,6 @@ returns-in-Ok-new-3 c = rw c.in-GoofspielDrawn.is (search rules, (c.in-Ok-new-3.
 
 pub returns-in-Ok-new-4 : goal.returns-in-Ok-new-4
 returns-in-Ok-new-4 c = rw c.in-Pursuit.is (search rules, (c.in-Ok-new-4.game, refl, search rules))
+
+pub returns-in-Ok-new-5 : goal.returns-in-Ok-new-5
+returns-in-Ok-new-5 c = rw c.in-Table.is (search rules, (c.in-Ok-new-5.game, refl, search rules))

@@ -12,6 +12,7 @@ mod reading;
 mod sink;
 mod source;
 mod standard;
+mod states;
 
 pub use certificate::Field;
 pub use error::InputError;

@@ -76,23 +76,27 @@ cells_in_rows most vs = capped_parts most (λ v. length (row_form_of (view v))) 
 pub cells_in_states : (most : ℕ) (vs : List Value)
     → fold (λ n v. min (n + min (length (given_cells (state_form_of (view v)))) most) most) 0 vs ≡ min (length (flat_map (λ v. given_cells (state_form_of (view v))) vs)) most
 cells_in_states most vs =
-    capped_parts most (λ v. min (length (given_cells (state_form_of (view v)))) most) (λ v. given_cells (state_form_of (view v))) (λ cells. length cells) refl (λ xs ys. length-append xs ys) (λ v. capped_twice (length (given_cells (state_form_of (view v)))) most) vs
+    capped_parts most (λ v. min (length (given_cells (state_form_of (view v)))) most) (λ v. given_cells (state_form_of (view v))) (λ cells. length cells) refl (λ xs ys. length-append xs ys)
+        (λ v. capped_twice (length (given_cells (state_form_of (view v)))) most) vs
 
 pub draws_in_cells : (most : ℕ) (vs : List Value)
     → fold (λ n v. min (n + length (draws_of_form (cell_form_of (view v)))) most) 0 vs ≡ min (draw_count_of (map (λ v. cell_form_of (view v)) vs)) most
 draws_in_cells most vs =
-    capped_parts most (λ v. length (draws_of_form (cell_form_of (view v)))) (λ v. cell_form_of (view v) ∷ []) draw_count_of refl draw_count_append (λ v. ap (λ (n : ℕ). min n most) (sym (zero-add (length (draws_of_form (cell_form_of (view v))))))) vs
+    capped_parts most (λ v. length (draws_of_form (cell_form_of (view v)))) (λ v. cell_form_of (view v) ∷ []) draw_count_of refl draw_count_append
+        (λ v. ap (λ (n : ℕ). min n most) (sym (zero-add (length (draws_of_form (cell_form_of (view v))))))) vs
     ∙ ap (λ (cells : List CellForm). min (draw_count_of cells) most) (single_cells (λ v. cell_form_of (view v)) vs)
 
 pub draws_in_rows : (most : ℕ) (vs : List Value)
     → fold (λ n v. min (n + min (draw_count_of (row_form_of (view v))) most) most) 0 vs ≡ min (draw_count_of (flat_map (λ v. row_form_of (view v)) vs)) most
 draws_in_rows most vs =
-    capped_parts most (λ v. min (draw_count_of (row_form_of (view v))) most) (λ v. row_form_of (view v)) draw_count_of refl draw_count_append (λ v. capped_twice (draw_count_of (row_form_of (view v))) most) vs
+    capped_parts most (λ v. min (draw_count_of (row_form_of (view v))) most) (λ v. row_form_of (view v)) draw_count_of refl draw_count_append
+        (λ v. capped_twice (draw_count_of (row_form_of (view v))) most) vs
 
 pub draws_in_states : (most : ℕ) (vs : List Value)
     → fold (λ n v. min (n + min (draw_count_of (given_cells (state_form_of (view v)))) most) most) 0 vs ≡ min (draw_count_of (flat_map (λ v. given_cells (state_form_of (view v))) vs)) most
 draws_in_states most vs =
-    capped_parts most (λ v. min (draw_count_of (given_cells (state_form_of (view v)))) most) (λ v. given_cells (state_form_of (view v))) draw_count_of refl draw_count_append (λ v. capped_twice (draw_count_of (given_cells (state_form_of (view v)))) most) vs
+    capped_parts most (λ v. min (draw_count_of (given_cells (state_form_of (view v)))) most) (λ v. given_cells (state_form_of (view v))) draw_count_of refl draw_count_append
+        (λ v. capped_twice (draw_count_of (given_cells (state_form_of (view v)))) most) vs
 
 -- ---- all of the range
 in_range_parts : (vs : List Value) → are_in_range (map (λ v. state_form_of (view v)) vs) ≡ (list_all (λ v. state_in_range (state_form_of (view v))) vs && (leb (length vs) 524288
@@ -101,7 +105,8 @@ in_range_parts vs =
     rw (list_all-map state_in_range (λ v. state_form_of (view v)) vs, length-map vs (λ v. state_form_of (view v)), flat_map-map given_cells (λ v. state_form_of (view v)) vs) refl
 
 pub in_range_is : (vs : List Value) (all few : Bool) → all ≡ list_all (λ v. state_in_range (state_form_of (view v))) vs
-    → few ≡ (leb (length vs) 524288 && (leb (length (flat_map (λ v. given_cells (state_form_of (view v))) vs)) 524288 && leb (draw_count_of (flat_map (λ v. given_cells (state_form_of (view v))) vs)) 262144))
+    → few ≡ (leb (length vs) 524288 &&
+        (leb (length (flat_map (λ v. given_cells (state_form_of (view v))) vs)) 524288 && leb (draw_count_of (flat_map (λ v. given_cells (state_form_of (view v))) vs)) 262144))
     → (all && few) ≡ are_in_range (map (λ v. state_form_of (view v)) vs)
 in_range_is vs all few a f = rw (a, f) (sym (in_range_parts vs))
 

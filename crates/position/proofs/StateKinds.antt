@@ -26,7 +26,8 @@ pub all_elements : (test : Data → Bool) (vs : List Value) (d : Data) → map v
 all_elements test vs d is = sym (list_all-map test view vs) ∙ ap (λ (ds : List Data). list_all test ds) is
 
 -- a list whose elements were tested
-pub list_from : (test : Data → Bool) (vs : List Value) (d : Data) (all is_list : Bool) → map view vs ≡ elements_of d → is_list ≡ is_some (as_array d) → is_list ≡ true → all ≡ list_all (λ v. test (view v)) vs → all ≡ is_list_of test d
+pub list_from : (test : Data → Bool) (vs : List Value) (d : Data) (all is_list : Bool) → map view vs ≡ elements_of d → is_list ≡ is_some (as_array d) → is_list ≡ true
+    → all ≡ list_all (λ v. test (view v)) vs → all ≡ is_list_of test d
 list_from test vs d all is_list is l t h = rw (sym l ∙ t) (h ∙ all_elements test vs d is)
 
 -- their forms, with a test of how many there are
@@ -48,6 +49,7 @@ pub state_list : (d : Data) → is_whole d ≡ false → state_form_of d ≡ Row
 state_list d is = rw is refl
 
 -- the same, where a whole number would do
-pub whole_or_list : (test : Data → Bool) (vs : List Value) (d : Data) (all is_list whole : Bool) → map view vs ≡ elements_of d → is_list ≡ is_some (as_array d) → is_list ≡ true → all ≡ list_all (λ v. test (view v)) vs
+pub whole_or_list : (test : Data → Bool) (vs : List Value) (d : Data) (all is_list whole : Bool) → map view vs ≡ elements_of d → is_list ≡ is_some (as_array d) → is_list ≡ true
+    → all ≡ list_all (λ v. test (view v)) vs
     → whole ≡ is_whole d → whole ≡ false → all ≡ (is_whole d || is_list_of test d)
 whole_or_list test vs d all is_list whole is l t h w f = rw (sym w ∙ f) (list_from test vs d all is_list is l t h)

@@ -90,7 +90,8 @@ pub adds_then : (old mid new : Cells) (xs ys : List CellForm) → AddsCells old 
 adds_then old mid new xs ys first second = record {
   numbers = appends_then old.numbers.items mid.numbers.items new.numbers.items (cells_told old.count xs) (cells_told mid.count ys) (cells_told old.count (xs ++ ys)) first.numbers second.numbers
       (cells_told-append old.count xs ys ∙ ap (λ (n : ℕ). cells_told old.count xs ++ cells_told n ys) (sym first.count));
-  draws = appends_then old.draws.items mid.draws.items new.draws.items (flat_map draws_told xs) (flat_map draws_told ys) (flat_map draws_told (xs ++ ys)) first.draws second.draws (flat_map-append draws_told xs ys);
+  draws = appends_then old.draws.items mid.draws.items new.draws.items (flat_map draws_told xs) (flat_map draws_told ys) (flat_map draws_told (xs ++ ys)) first.draws second.draws
+      (flat_map-append draws_told xs ys);
   count = omega (arith, first.count, second.count, draw_count_append xs ys);
 }
 
@@ -120,7 +121,8 @@ columns_first (x ∷ xs) first n long some is at test = rw test (sym (columns_ar
 
 kept_are : (d : Data) → kept_cells (state_form_of d) ≡ cond (eqb (columns_in (map row_form_of (elements_of d))) 0) [] (flat_map row_form_of (elements_of d))
 kept_are d =
-    elim (is_whole d) as (λ b. is_whole d ≡ b → kept_cells (cond b (End (whole_of d)) (Rows (map row_form_of (elements_of d)))) ≡ cond (eqb (columns_in (map row_form_of (elements_of d))) 0) [] (flat_map row_form_of (elements_of d))) [
+    elim (is_whole d) as (λ b. is_whole d ≡ b → kept_cells (cond b (End (whole_of d)) (Rows (map row_form_of (elements_of d))))
+        ≡ cond (eqb (columns_in (map row_form_of (elements_of d))) 0) [] (flat_map row_form_of (elements_of d))) [
       | true ↦ λ is. sym (ap (λ (es : List Data). cond (eqb (columns_in (map row_form_of es)) 0) [] (flat_map row_form_of es)) (whole_has_none d is))
       | false ↦ λ is. ap (λ (cells : List CellForm). cond (eqb (columns_in (map row_form_of (elements_of d))) 0) [] cells) (flat_map-map (λ row. row) row_form_of (elements_of d))
     ] refl
@@ -129,7 +131,8 @@ kept_are d =
 pub kept_is : (vs : List Value) (d : Data) (n : ℕ) → map view vs ≡ elements_of d → n ≡ columns_in (map (λ v. row_form_of (view v)) vs)
     → cond (eqb n 0) [] (flat_map (λ v. row_form_of (view v)) vs) ≡ kept_cells (state_form_of d)
 kept_is vs d n is count =
-    rw (count, forms_are row_form_of vs d is) (ap (λ (cells : List CellForm). cond (eqb (columns_in (map row_form_of (elements_of d))) 0) [] cells) (sym (flat_map-map row_form_of view vs) ∙ ap (flat_map row_form_of) is) ∙ sym (kept_are d))
+    rw (count, forms_are row_form_of vs d is) (ap (λ (cells : List CellForm). cond (eqb (columns_in (map row_form_of (elements_of d))) 0) [] cells) (sym (flat_map-map row_form_of view vs)
+        ∙ ap (flat_map row_form_of) is) ∙ sym (kept_are d))
 
 -- the cells of a row
 pub row_cells : (vs : List Value) (d : Data) → map view vs ≡ elements_of d → flat_map (λ v. cell_form_of (view v) ∷ []) vs ≡ row_form_of d
@@ -185,11 +188,14 @@ lists_more xs form mid new before here =
     record {
       moves = here.moves ∙ ap (λ (zs : List ℤ). zs ++ moves_told form) before.moves
           ∙ sym (flat_map-append moves_told xs (form ∷ []) ∙ ap (λ (zs : List ℤ). flat_map moves_told xs ++ zs) (append-nil (moves_told form)));
-      values = here.values ∙ ap (λ (zs : List ℤ). zs ++ values_told (length mid.cells.numbers.items) (form ∷ [])) before.values ∙ ap (λ (n : ℕ). values_told 0 xs ++ values_told n (form ∷ [])) (count ∙ sym (zero-add _))
+      values = here.values ∙ ap (λ (zs : List ℤ). zs ++ values_told (length mid.cells.numbers.items) (form ∷ [])) before.values
+          ∙ ap (λ (n : ℕ). values_told 0 xs ++ values_told n (form ∷ [])) (count ∙ sym (zero-add _))
           ∙ sym (values_told-append 0 xs (form ∷ []));
       cells = here.cells.numbers ∙ ap (λ (zs : List ℤ). zs ++ cells_told mid.cells.count (kept_cells form)) before.cells
-          ∙ ap (λ (n : ℕ). cells_told 0 (flat_map kept_cells xs) ++ cells_told n (kept_cells form)) (before.count ∙ told) ∙ sym (cells_told-append 0 (flat_map kept_cells xs) (kept_cells form)) ∙ ap (cells_told 0) (sym kept);
-      draws = here.cells.draws ∙ ap (λ (zs : List ℤ). zs ++ flat_map draws_told (kept_cells form)) before.draws ∙ sym (flat_map-append draws_told (flat_map kept_cells xs) (kept_cells form)) ∙ ap (flat_map draws_told) (sym kept);
+          ∙ ap (λ (n : ℕ). cells_told 0 (flat_map kept_cells xs) ++ cells_told n (kept_cells form)) (before.count ∙ told) ∙ sym (cells_told-append 0 (flat_map kept_cells xs) (kept_cells form))
+              ∙ ap (cells_told 0) (sym kept);
+      draws = here.cells.draws ∙ ap (λ (zs : List ℤ). zs ++ flat_map draws_told (kept_cells form)) before.draws ∙ sym (flat_map-append draws_told (flat_map kept_cells xs) (kept_cells form))
+          ∙ ap (flat_map draws_told) (sym kept);
       count = omega (arith, here.cells.count, before.count, draw_count_append (flat_map kept_cells xs) (kept_cells form), ap draw_count_of kept);
     }
 

@@ -38,7 +38,8 @@ ranks_low s [] = All-nil (λ r. r ≤ 0)
 ranks_low s (form ∷ forms) =
     let behind = ranks_told (suc s) forms in
     let low = ranks_low (suc s) forms in
-    All-cons (λ r. r ≤ suc (length forms)) (rank_told s behind form) behind (rank_low (length forms) s behind form low) (All-weaker (λ r. r ≤ length forms) (λ r. r ≤ suc (length forms)) (λ r h. omega arith) behind low)
+    All-cons (λ r. r ≤ suc (length forms)) (rank_told s behind form) behind (rank_low (length forms) s behind form low)
+        (All-weaker (λ r. r ≤ length forms) (λ r. r ≤ suc (length forms)) (λ r h. omega arith) behind low)
 
 -- ---- the greatest
 greatest_append : (xs ys : List ℕ) → greatest_in (xs ++ ys) ≡ max (greatest_in xs) (greatest_in ys)
@@ -60,7 +61,8 @@ pub greatest_draw : (ranks : List ℤ) (vs : List Value) → fold (λ n v. max n
     ≡ greatest_in (map (rank_in ranks) (named_by (Draws (map (λ v. draw_form_of (view v)) vs))))
 greatest_draw ranks vs =
     greatest_of_parts (λ (v : Value). get_or (draw_form_of (view v)) 0 (pos 0) ∷ []) (rank_in ranks) (λ v. rank_in ranks (get_or (draw_form_of (view v)) 0 (pos 0))) (λ v. omega arith) 0 vs
-    ∙ max_zero _ ∙ ap (λ (zs : List ℤ). greatest_in (map (rank_in ranks) zs)) (flat_map_single (λ (v : Value). get_or (draw_form_of (view v)) 0 (pos 0)) vs ∙ sym (map-map (λ (draw : List ℤ). get_or draw 0 (pos 0)) (λ (v : Value). draw_form_of (view v)) vs))
+    ∙ max_zero _ ∙ ap (λ (zs : List ℤ). greatest_in (map (rank_in ranks) zs)) (flat_map_single (λ (v : Value). get_or (draw_form_of (view v)) 0 (pos 0)) vs
+        ∙ sym (map-map (λ (draw : List ℤ). get_or draw 0 (pos 0)) (λ (v : Value). draw_form_of (view v)) vs))
 
 pub greatest_cell : (ranks : List ℤ) (vs : List Value) → fold (λ n v. max n (greatest_in (map (rank_in ranks) (named_by (cell_form_of (view v)))))) 0 vs
     ≡ greatest_in (map (rank_in ranks) (flat_map named_by (map (λ v. cell_form_of (view v)) vs)))
@@ -119,7 +121,8 @@ same_map {A} {B} f g (x ∷ xs) h = ap (λ (y : B). y ∷ map f xs) (h x) ∙ ap
 
 pub rank_is : (s : ℕ) (behind : List ℕ) (form : StateForm) → rank_among (ranks_from (suc s) behind) form ≡ rank_told s behind form
 rank_is s behind (End payoff) = refl
-rank_is s behind (Rows rows) = ap (λ (ns : List ℕ). suc (greatest_in ns)) (same_map (rank_in (ranks_from (suc s) behind)) (rank_behind s behind) (flat_map named_by (kept_cells (Rows rows))) (read_behind s behind))
+rank_is s behind (Rows rows) = ap (λ (ns : List ℕ). suc (greatest_in ns))
+    (same_map (rank_in (ranks_from (suc s) behind)) (rank_behind s behind) (flat_map named_by (kept_cells (Rows rows))) (read_behind s behind))
 
 -- ---- the loop
 -- the ranks of the states from this one on are told, and those before are 0
@@ -134,7 +137,9 @@ zeros_are (x ∷ xs) = ap (λ (zs : List ℤ). pos 0 ∷ zs) (zeros_are xs)
 pub ranks_none : (vs : List Value) (ranks : List ℤ) → ranks ≡ map (λ _. pos 0) vs → AreRanksFrom (length vs) vs ranks
 ranks_none vs ranks is = record {
   within = omega arith;
-  told = is ∙ zeros_are vs ∙ sym (ap (λ (rest : List Value). ranks_from (length vs) (ranks_told (length vs) (map (λ v. state_form_of (view v)) rest))) (drop_all (length vs) vs (omega arith)) ∙ append-nil (replicate (length vs) (pos 0)));
+  told = is ∙ zeros_are vs
+      ∙ sym (ap (λ (rest : List Value). ranks_from (length vs) (ranks_told (length vs) (map (λ v. state_form_of (view v)) rest))) (drop_all (length vs) vs (omega arith))
+          ∙ append-nil (replicate (length vs) (pos 0)));
 }
 
 pub ranks_done : (vs : List Value) (ranks : List ℤ) (s : ℕ) → s ≡ 0 → AreRanksFrom s vs ranks → ranks ≡ map pos (ranks_told 0 (map (λ v. state_form_of (view v)) vs))
@@ -151,10 +156,12 @@ numbers_low most zs low (pos n) = elim (cases_lt n (length zs)) [
 pub all_low : (s : ℕ) (vs : List Value) (ranks : List ℤ) → AreRanksFrom s vs ranks → length vs ≤ 524288 → (z : ℤ) → rank_in ranks z ≤ 524288
 all_low s vs ranks h few =
     let rest = map (λ (v : Value). state_form_of (view v)) (drop s vs) in
-    let low = All-weaker (λ r. r ≤ length rest) (λ r. r ≤ 524288) (λ r k. omega (arith, length-map (drop s vs) (λ (v : Value). state_form_of (view v)), length-drop s vs)) (ranks_told s rest) (ranks_low s rest) in
+    let low = All-weaker (λ r. r ≤ length rest) (λ r. r ≤ 524288) (λ r k. omega (arith, length-map (drop s vs) (λ (v : Value). state_form_of (view v)), length-drop s vs)) (ranks_told s rest)
+        (ranks_low s rest) in
     numbers_low 524288 ranks
     (subst (All (λ z. unsigned_abs z ≤ 524288)) (sym h.told)
-    (All-append (λ z. unsigned_abs z ≤ 524288) (replicate s (pos 0)) (map pos (ranks_told s rest)) (All-replicate (λ z. unsigned_abs z ≤ 524288) s (pos 0) (omega arith)) (All-map (λ z. unsigned_abs z ≤ 524288) pos (ranks_told s rest) low)))
+    (All-append (λ z. unsigned_abs z ≤ 524288) (replicate s (pos 0)) (map pos (ranks_told s rest)) (All-replicate (λ z. unsigned_abs z ≤ 524288) s (pos 0) (omega arith))
+        (All-map (λ z. unsigned_abs z ≤ 524288) pos (ranks_told s rest) low)))
 
 -- one state before
 pub ranks_more : (s left : ℕ) (vs : List Value) (v : Value) (ranks : List ℤ) (rank : ℕ) → left ≡ s + 1 → s < length vs → v ≡ get_or vs s v → AreRanksFrom left vs ranks

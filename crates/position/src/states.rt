@@ -26,7 +26,8 @@ use std::alloc::{AllocError, Global};
 /// The text of a table of the states, which are in range.
 fn text_of_states(alloc: Global, states: &[Value]) -> Result<PositionText, AllocError>
     requires { are_in_range (map (λ v. state_form_of (view v)) states.now) ≡ true }
-    ensures exact { IfOk result (λ t. t ≡ table_text_of (lists_of_states (map (λ v. state_form_of (view v)) states.now))) }
+    ensures exact { IfOk result
+        (λ t. t ≡ table_text_of (lists_of_states (map (λ v. state_form_of (view v)) states.now))) }
 {
     let lists = Lists::of_states(alloc, states)?;
     let ranks = ranks(alloc, states)?;

@@ -34,7 +34,8 @@ fn all_name_states(values: &[Value]) -> bool
 }
 
 fn are_two(values: &[Value]) -> bool
-    ensures { result ≡ ((length values.now == 2) && list_all (λ v. names_state (whole_of (view v))) values.now) }
+    ensures { result ≡ ((length values.now == 2)
+        && list_all (λ v. names_state (whole_of (view v))) values.now) }
 {
     values.len() == 2 && all_name_states(values)
 }
@@ -52,7 +53,8 @@ fn all_draws(values: &[Value]) -> bool
 }
 
 fn are_draws(values: &[Value]) -> bool
-    ensures { result ≡ (nat_le (length values.now) 255 && list_all (λ v. draw_in_range (draw_form_of (view v))) values.now) }
+    ensures { result ≡ (nat_le (length values.now) 255
+        && list_all (λ v. draw_in_range (draw_form_of (view v))) values.now) }
 {
     values.len() <= 255 && all_draws(values)
 }
@@ -74,7 +76,8 @@ fn all_cells(values: &[Value]) -> bool
 }
 
 fn are_cells(values: &[Value]) -> bool
-    ensures { result ≡ (nat_le (length values.now) 255 && list_all (λ v. cell_in_range (cell_form_of (view v))) values.now) }
+    ensures { result ≡ (nat_le (length values.now) 255
+        && list_all (λ v. cell_in_range (cell_form_of (view v))) values.now) }
 {
     values.len() <= 255 && all_cells(values)
 }
@@ -92,7 +95,8 @@ fn all_rows(values: &[Value]) -> bool
 }
 
 fn are_rows(values: &[Value]) -> bool
-    ensures { result ≡ (nat_le (length values.now) 255 && list_all (λ v. row_in_range (row_form_of (view v))) values.now) }
+    ensures { result ≡ (nat_le (length values.now) 255
+        && list_all (λ v. row_in_range (row_form_of (view v))) values.now) }
 {
     values.len() <= 255 && all_rows(values)
 }
@@ -153,7 +157,8 @@ fn draws_of_state(state: &Value) -> usize
 }
 
 fn draws_of_states(states: &[Value]) -> usize
-    ensures { result ≡ min (draw_count_of (flat_map (λ v. given_cells (state_form_of (view v))) states.now)) (2 ^ 64 - 1) }
+    ensures { result ≡ min (draw_count_of (flat_map (λ v. given_cells (state_form_of (view v))) states.now))
+        (2 ^ 64 - 1) }
 {
     states.iter().fold(
         0,

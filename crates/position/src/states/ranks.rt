@@ -44,7 +44,8 @@ fn draw_rank(draw: &Value, ranks: &[i32]) -> u32
 
 /// The greatest rank of the states that the draws name.
 fn draws_rank(draws: &[Value], ranks: &[i32]) -> u32
-    ensures { result ≡ greatest_in (map (rank_in ranks.now) (named_by (Draws (map (λ v. draw_form_of (view v)) draws.now)))) }
+    ensures { result
+        ≡ greatest_in (map (rank_in ranks.now) (named_by (Draws (map (λ v. draw_form_of (view v)) draws.now)))) }
 {
     draws
         .iter()
@@ -62,7 +63,8 @@ fn cell_rank(cell: &Value, ranks: &[i32]) -> u32
 }
 
 fn cells_rank(cells: &[Value], ranks: &[i32]) -> u32
-    ensures { result ≡ greatest_in (map (rank_in ranks.now) (flat_map named_by (map (λ v. cell_form_of (view v)) cells.now))) }
+    ensures { result
+        ≡ greatest_in (map (rank_in ranks.now) (flat_map named_by (map (λ v. cell_form_of (view v)) cells.now))) }
 {
     cells
         .iter()
@@ -76,7 +78,8 @@ fn row_rank(row: &Value, ranks: &[i32]) -> u32
 }
 
 fn rows_rank(rows: &[Value], ranks: &[i32]) -> u32
-    ensures { result ≡ greatest_in (map (rank_in ranks.now) (flat_map named_by (flat_map (λ v. row_form_of (view v)) rows.now))) }
+    ensures { result
+        ≡ greatest_in (map (rank_in ranks.now) (flat_map named_by (flat_map (λ v. row_form_of (view v)) rows.now))) }
 {
     rows.iter()
         .fold(0, |rank, row| rank.max(row_rank(row, ranks)))

@@ -23,5 +23,6 @@ loop-left-preserved c =
     let v = c.index-states-left.result in
     let rank = c.rank-rank.ensures.exact ∙ ap (λ (zs : List ℤ). rank_among zs (state_form_of (view v))) c.as_slice.ensures.value in
     subst (λ (z : ℤ). AreRanksFrom s c.args.states.now (set c.loop-left.ranks.items s z)) (sym (to_z_pos w32 c.rank-rank.result (omega (arith, c.rank-rank.ensures.low))))
-    (ranks_more s c.loop-left.left c.args.states.now v c.loop-left.ranks.items c.rank-rank.result (omega (arith, c.loop-left-test.true)) (omega (arith, c.loop-left-test.true, c.loop-left.invariant.within)) c.index-states-left.is
+    (ranks_more s c.loop-left.left c.args.states.now v c.loop-left.ranks.items c.rank-rank.result (omega (arith, c.loop-left-test.true))
+        (omega (arith, c.loop-left-test.true, c.loop-left.invariant.within)) c.index-states-left.is
     c.loop-left.invariant rank)

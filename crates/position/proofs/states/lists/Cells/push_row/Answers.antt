@@ -15,5 +15,6 @@ push_cell-requires-clause-room c =
 
 pub loop-cell-preserved : goal.loop-cell-preserved
 loop-cell-preserved c =
-    adds_more (λ (v : Value). cell_form_of (view v) ∷ []) c.args.self.now c.loop-cell.self c.push_cell.new.self c.args.cells.now c.loop-cell.cell-index c.cell-item.result c.loop-cell-test.true c.cell-item.is
+    adds_more (λ (v : Value). cell_form_of (view v) ∷ []) c.args.self.now c.loop-cell.self c.push_cell.new.self c.args.cells.now c.loop-cell.cell-index c.cell-item.result
+    c.loop-cell-test.true c.cell-item.is
     c.loop-cell.invariant c.in_ok-push_cell.ensures

@@ -24,7 +24,8 @@ returns c =
     let rows = c.elements-rows.result.now in
     let count : c.len.result ≡ length c.args.self.now.cells.numbers.items = search rules in
     record {
-      moves = appends_then c.args.self.now.moves.items c.push_count.new.list.items c.push_count-2.new.list.items (pos (length rows) ∷ []) (pos c.columns.result ∷ []) (moves_told (state_form_of (view c.args.state.now)))
+      moves = appends_then c.args.self.now.moves.items c.push_count.new.list.items c.push_count-2.new.list.items (pos (length rows) ∷ []) (pos c.columns.result ∷ [])
+          (moves_told (state_form_of (view c.args.state.now)))
           c.in_ok-push_count.ensures c.in_ok-push_count-2.ensures (moves_are rows (view c.args.state.now) c.columns.result c.elements-rows.ensures c.requires.kind c.columns.ensures);
       values = c.in_ok-push_count-3.ensures ∙ ap (λ (n : ℕ). c.args.self.now.values.items ++ pos n ∷ []) count
           ∙ ap (λ (zs : List ℤ). c.args.self.now.values.items ++ zs) (sym (values_are (length c.args.self.now.cells.numbers.items) (view c.args.state.now) c.requires.kind));

@@ -1,5 +1,7 @@
 -- Reading and writing the line of a position undo each other.
-use Rattle.std.proofs.Common.{◌≡◌, ℕ, ◌≤◌, ℤ, pos, negsuc, unsigned_abs, List, [], ◌∷◌, ◌++◌, codes, flat_map, length, map, Bool, true, ◌&&◌, ◌==◌, leb, leb-true, Some, refl, sym, ap, ap₂, subst, ◌∙◌, arith, eqb-true}
+use Rattle.std.proofs.Common.{◌≡◌, ℕ, ◌<◌, ◌≤◌, get_or, drop, append-nil, ℤ, pos, negsuc, unsigned_abs, List, [], ◌∷◌, ◌++◌, codes, flat_map, length, map, Bool, true, ◌&&◌, ◌==◌, leb, leb-true, Some, refl, sym, ap, ap₂, subst, ◌∙◌, arith, eqb-true}
+use Rattle.std.specs.Fmt.{signed_decimal}
+use Rattle.std.specs.List.{join_with_byte}
 use Rattle.std.proofs.lemmas.Int.{ints}
 use Rattle.std.proofs.lemmas.Option.{cond_some, option_and_then_some}
 use Rattle.std.proofs.lemmas.Bool.{and_parts, eq-eqb}
@@ -23,8 +25,8 @@ use Rattle.certificate.specs.declared.positions.Shown.{Shown}
 use Rattle.certificate.specs.declared.positions.GameKind.{GameKind}
 use Rattle.certificate.specs.declared.positions.GameKind.TheVariants.{Goofspiel, OshiZumo, Tron, GoofspielDrawn, Pursuit, Table}
 use Rattle.certificate.specs.Numbers.{Within}
-use Rattle.certificate.specs.Fields.{Fits, AllFit, value_text}
-use Rattle.certificate.specs.Positions.{newest_version, game_word, game_version, kinds_of, kind_of, version_of, pay_named, pay_word, number_in_value, list_in_value, numbers_in_value, word_in_value, shown_value, values_of, position_with, IsPositionInRange, position_numbers, position_fields, game_of, game_in, game, line_values, position}
+use Rattle.certificate.specs.Fields.{Fits, AllFit, joined_list, value_text}
+use Rattle.certificate.specs.Positions.{newest_version, game_word, game_version, kinds_of, kind_of, version_of, pay_named, pay_word, number_in_value, list_in_value, numbers_in_value, HoldsNumbers, word_in_value, shown_value, values_of, position_with, IsPositionInRange, position_numbers, position_fields, game_of, game_in, game, line_values, position}
 use Rattle.certificate.proofs.Spelling.{IsField, Spells, is_word, word_spells}
 use Rattle.certificate.proofs.FieldLaws.{FieldLaw, line_more, bind_ok, ok_is, spelled_takes, spelled_again}
 use Rattle.certificate.proofs.ValueLaws.{are_small, longest_line, as_many, values_law}
@@ -49,6 +51,10 @@ known_game Table = (refl, refl)
 list_is : (most : ℕ) (v : Value) → Fits (ListOf most) v → Bytes (list_in_value v) ≡ v
 list_is most (Bytes ns) fits = refl
 list_is most v fits = absurd fits
+
+pub holds_numbers : (low high : ℤ) (most : ℕ) (v : Value) → Fits (NumbersOf low high most) v → HoldsNumbers v
+holds_numbers low high most (Numbers zs) fits = tt
+holds_numbers low high most v fits = absurd fits
 
 numbers_are : (low high : ℤ) (most : ℕ) (v : Value) → Fits (NumbersOf low high most) v → Numbers (numbers_in_value v) ≡ v
 numbers_are low high most (Numbers zs) fits = refl
@@ -116,6 +122,15 @@ made_again (texts.Pursuit nodes edges one two rounds) = refl
 made_again (texts.Table ranks moves values cells draws) = refl
 
 -- ---- what is written of a position
+
+join_more : (x : List ℕ) (zs : List ℤ) → join_with_byte 44 (x ∷ map signed_decimal zs) ≡ x ++ flat_map (λ z. 44 ∷ signed_decimal z) zs
+join_more x [] = sym (append-nil x)
+join_more x (z ∷ zs) = ap (λ (t : List ℕ). x ++ (44 ∷ t)) (join_more (signed_decimal z) zs)
+
+-- the first number of a list, and the others
+pub numbers_written : (zs : List ℤ) → 0 < length zs → signed_decimal (get_or zs 0 (pos 0)) ++ flat_map (λ z. 44 ∷ signed_decimal z) (drop 1 zs) ≡ joined_list (map signed_decimal zs)
+numbers_written [] some = absurd (omega arith)
+numbers_written (z ∷ zs) some = sym (join_more (signed_decimal z) zs)
 
 texts_of : (vs : List Shown) → map (λ v. value_text (shown_value v)) vs ≡ map value_text (map shown_value vs)
 texts_of [] = refl

@@ -96,6 +96,10 @@ abbrev pub numbers_in_value : Value → List ℤ
 numbers_in_value (values_are.Numbers zs) = zs
 numbers_in_value v = []
 
+abbrev pub HoldsNumbers : Value → Type 0
+HoldsNumbers (values_are.Numbers zs) = Unit {0}
+HoldsNumbers v = ⊥
+
 abbrev pub word_in_value : Value → Word
 word_in_value (values_are.Word w) = w
 word_in_value v = words.Margin

@@ -1,12 +1,12 @@
 //! The games, one by one: their words, their fields, and positions as values of these fields. Then the line of a
 //! position, which is read and written by the fields of its game, whatever the game.
 
-ghost use Rattle.std.specs.Prelude.{◌≡◌, ℕ, ℤ, pos, ◌∷◌, codes, drop, flat_map, map, IfOk, OnOk};
+ghost use Rattle.std.specs.Prelude.{◌≡◌, ℕ, pos, ◌∷◌, codes, drop, flat_map, map, IfOk, OnOk};
 ghost use Rattle.std.specs.Fmt.{signed_decimal};
 ghost use Rattle.text.specs.Texts.{Adds, line_text};
 ghost use Rattle.certificate.specs.Readers.{Gives};
 ghost use Rattle.certificate.specs.Fields.{spelling, Fits, AllFit, joined_list, value_text};
-ghost use Rattle.certificate.specs.Positions.{game_word, game_version, fields_of, kinds_of, kind_of, version_of, pay_word, shown_value, values_of, position_with, IsPositionInRange, game_of, game_in, game, first_has_word, have_words, value, values, line_values, position, position_fields};
+ghost use Rattle.certificate.specs.Positions.{game_word, game_version, fields_of, kinds_of, kind_of, version_of, pay_word, HoldsNumbers, shown_value, values_of, position_with, IsPositionInRange, game_of, game_in, game, first_has_word, have_words, value, values, line_values, position, position_fields};
 ghost use Rattle.certificate.specs.Reading.{game_line};
 ghost use Rattle.certificate.specs.declared.positions.TheConstants.{BYTE, SCORE, PLACE};
 
@@ -307,7 +307,7 @@ impl Value {
     }
 
     fn numbers(self) -> Seq<i32>
-        requires { (low : ℤ) × (high : ℤ) × (most : ℕ) × Fits (FieldKind.Numbers low high most) self }
+        requires { HoldsNumbers self }
         ensures { self ≡ Value.Numbers result }
     {
         match self {
@@ -339,6 +339,7 @@ fn copy_of<T: Copy>(alloc: Global, list: &Seq<T>) -> Result<Seq<T>, NoMemory>
 
 impl PositionText {
     /// The position of the game that has these values in its fields.
+    #[tactic(auto, using(crate::proofs::PositionLaws::holds_numbers))]
     pub fn with_values(game: GameKind, values: [Value; FIELDS]) -> PositionText
         requires { AllFit (kinds_of game) values }
         ensures exact { result ≡ position_with game values }

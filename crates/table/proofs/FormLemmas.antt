@@ -70,7 +70,8 @@ cell_told first (Follows state ∷ cells) zero h = refl
 cell_told first (Draws draws ∷ cells) zero h = ap negsuc (omega arith)
 cell_told first (Follows state ∷ cells) (suc k) h = cell_told first cells k (omega arith)
 cell_told first (Draws draws ∷ cells) (suc k) h =
-    let same : first + length draws + before draws_of_form cells k ≡ first + before draws_of_form (Draws draws ∷ cells) (suc k) = omega (arith, length-append draws (flat_map draws_of_form (take k cells))) in
+    let same : first + length draws + before draws_of_form cells k ≡ first + before draws_of_form (Draws draws ∷ cells) (suc k) =
+        omega (arith, length-append draws (flat_map draws_of_form (take k cells))) in
     cell_told (first + length draws) cells k (omega arith) ∙ ap (λ (n : ℕ). number_told n (get_or cells k (Follows (pos 0)))) same
 
 -- where the draws end of the cells, before which there are so many

@@ -17,11 +17,12 @@ use Rattle.table.specs.declared.rules.CellRule.TheVariants as CellRule
 use Rattle.table.specs.declared.rules.Rule.TheVariants as Rule
 use Rattle.table.specs.Below.{first_below}
 use Rattle.table.specs.BelowLemmas.{all_from, greatest_high, or_none, or_there}
-use Rattle.table.specs.Faults.{cell_fits, fault_at, is_rank, count_fault, first_fault, lists_fault, rule_fault, do_draws_fit, do_fit, do_states_fit, have_counts, state_fits}
+use Rattle.text.specs.Faults.{first_some}
+use Rattle.table.specs.Faults.{AreOrdered, cell_fits, fault_at, is_rank, count_fault, first_fault, lists_fault, rule_fault, do_draws_fit, do_fit, do_states_fit, have_counts, state_fits}
 use Rattle.table.specs.Laws.{pair_below}
 use Rattle.table.specs.Lists.{Lists, cell_rank, next_rank, cells_of, count_in, count_of, draw_state, draw_total, draw_weight, draws_end, draws_at, end_at, first_draw, place_at, state_count, table_cell, table_moves, table_rank, table_state, table_value, table_weight}
 use Rattle.table.specs.Nested.{CellForm, Follows, Draws, StateForm, End, Rows, are_in_range, cell_in_range, columns_in, draw_in_range, draws_of_form, greatest_in, kept_cells, lists_of_states, named_by, rank_behind, rank_told, ranks_told, state_in_range}
-use Rattle.table.specs.NestedGame.{cell_chance, cell_draws, cell_follows, form_at, form_cell, form_moves, rows_in, AreMoves, IsNestedGame}
+use Rattle.table.specs.NestedGame.{cell_chance, cell_draws, cell_follows, form_at, form_cell, form_moves, rows_in, HaveMoves, IsNestedGame}
 use Rattle.table.specs.NestedRanks.{HaveLongestWays}
 use Rattle.table.specs.Rules.{place_of, table_game}
 use Rattle.table.proofs.PositionLemmas.{moves_from, rank_no_higher}
@@ -200,7 +201,7 @@ module _ (forms : List StateForm) (fine : list_all state_in_range forms ≡ true
   abbrev ranks : List ℕ
   ranks = ranks_told 0 forms
 
-  module _ (order : rule_fault (Rule.Each CellRule.Order) l ≡ None) (s : ℕ) (rows : List (List CellForm)) (here : s < length forms) (e : form_at forms s ≡ Rows rows) where
+  module _ (order : AreOrdered l) (s : ℕ) (rows : List (List CellForm)) (here : s < length forms) (e : form_at forms s ≡ Rows rows) where
     abbrev kept : List CellForm
     kept = kept_cells (Rows rows)
 
@@ -254,11 +255,17 @@ module _ (forms : List StateForm) (fine : list_all state_in_range forms ≡ true
 
   -- ---- the game
   module _ (none : first_fault l ≡ None) where
+    abbrev cell_faults : List (Option TableError)
+    cell_faults = rule_fault (Rule.Each CellRule.Draws) l ∷ rule_fault (Rule.Each CellRule.Weights) l ∷ rule_fault (Rule.Each CellRule.Order) l ∷ rule_fault Rule.Turns l ∷ []
+
+    after_payoffs : first_some (rule_fault Rule.Rows l ∷ rule_fault Rule.Cells l ∷ cell_faults) ≡ None
+    after_payoffs = (or_none (rule_fault Rule.Payoff l) _ (or_none (count_fault l) _ (or_none (lists_fault l) _ none).1).1).1
+
     rows_none : rule_fault Rule.Rows l ≡ None
-    rows_none = (or_none (rule_fault Rule.Rows l) _ (or_none (rule_fault Rule.Payoff l) _ (or_none (count_fault l) _ (or_none (lists_fault l) _ none).1).1).1).0
+    rows_none = (or_none (rule_fault Rule.Rows l) _ after_payoffs).0
 
     columns_none : rule_fault Rule.Cells l ≡ None
-    columns_none = (or_none (rule_fault Rule.Cells l) _ (or_none (rule_fault Rule.Rows l) _ (or_none (rule_fault Rule.Payoff l) _ (or_none (count_fault l) _ (or_none (lists_fault l) _ none).1).1).1).1).0
+    columns_none = (or_none (rule_fault Rule.Cells l) _ (or_none (rule_fault Rule.Rows l) _ after_payoffs).1).0
 
     columns_some : (s : ℕ) (rows : List (List CellForm)) → s < length forms → form_at forms s ≡ Rows rows → 1 ≤ columns_in rows
     columns_some s rows here e =
@@ -284,7 +291,7 @@ module _ (forms : List StateForm) (fine : list_all state_in_range forms ≡ true
         let cell = cell_of_state s (a * columns + b) rows here e within in
         (omega (arith, place, cell.0), ap at place ∙ cell.1 ∙ kept_cell rows a b some one low)
 
-    module _ (s : State) (a b : ℕ) (m : AreMoves forms s a b) where
+    module _ (s : State) (a b : ℕ) (m : HaveMoves forms s a b) where
       abbrev cell : CellForm
       cell = form_cell (form_at forms s.number) a b
 
@@ -334,7 +341,7 @@ turns_told : (b : Bool) (s : ℕ) (fault : TableError) → cond b None (Some (er
 turns_told true s fault h = absurd (cc)
 turns_told false s fault h = (refl, cc)
 
-module _ (forms : List StateForm) (fine : list_all state_in_range forms ≡ true) (order : rule_fault (Rule.Each CellRule.Order) (lists_of_states forms) ≡ None) where
+module _ (forms : List StateForm) (fine : list_all state_in_range forms ≡ true) (order : AreOrdered (lists_of_states forms)) where
   abbrev lists : Lists
   lists = lists_of_states forms
 
@@ -376,5 +383,5 @@ forms_fit forms h = nested_fits forms (states_in_range forms h)
 pub forms_tell_game : (forms : List StateForm) → are_in_range forms ≡ true → first_fault (lists_of_states forms) ≡ None → IsNestedGame forms (table_game (lists_of_states forms))
 forms_tell_game forms h none = nested_game forms (states_in_range forms h) none
 
-pub forms_have_longest_ways : (forms : List StateForm) → are_in_range forms ≡ true → rule_fault (Rule.Each CellRule.Order) (lists_of_states forms) ≡ None → HaveLongestWays (lists_of_states forms)
+pub forms_have_longest_ways : (forms : List StateForm) → are_in_range forms ≡ true → AreOrdered (lists_of_states forms) → HaveLongestWays (lists_of_states forms)
 forms_have_longest_ways forms h order = ways_told forms (states_in_range forms h) order

@@ -61,7 +61,8 @@ module _ (l : Lists) where
     cell_from s k here inner below =
         let place = place_at l s k in
         let few = and_parts (leb 1 (draws_at l place)) (leb (draws_at l place) 13) (keeps_all Draws l s k draws here below) in
-        let sum = and_parts (all_below (draws_at l place) (is_weight l place)) (eqb (count_below (draws_at l place) (table_weight l place)) whole_chance) (keeps_all Weights l s k weights here below) in
+        let sum = and_parts (all_below (draws_at l place) (is_weight l place)) (eqb (count_below (draws_at l place) (table_weight l place)) whole_chance)
+            (keeps_all Weights l s k weights here below) in
         let on = keeps_all Order l s k order here below in
         record {
           draws_low = leb-true 1 (draws_at l place) few.0;

@@ -63,7 +63,8 @@ leads_behind l s place d h below =
 
 pub leads_there : (l : Lists) (s place d : ℕ) → leads_on l s place ≡ true → d < draws_at l place → table_state l place d < state_count l
 leads_there l s place d h below =
-    ltb-true (table_state l place d) (state_count l) (and_parts (ltb s (table_state l place d)) (ltb (table_state l place d) (state_count l)) (all_at (draws_at l place) (draw_leads_on l s place) d h below)).1
+    ltb-true (table_state l place d) (state_count l)
+    (and_parts (ltb s (table_state l place d)) (ltb (table_state l place d) (state_count l)) (all_at (draws_at l place) (draw_leads_on l s place) d h below)).1
 
 pub cells_few : (l : Lists) (s : ℕ) → AreFitting l → s < state_count l → cells_of l s ≤ length l.cells
 cells_few l s fits here = omega (arith, fits.cells_count, count_up_to (state_count l) s (cells_of l) here)

@@ -1,5 +1,5 @@
 -- The rules that the lists of a table keep, and the first that is broken.
-use Rattle.std.specs.Prelude.{ℕ, ◌+◌, ◌*◌, ◌/◌, ◌%◌, ℤ, pos, neg_ℤ, int_lt, Bool, not, ◌||◌, ◌&&◌, ◌==◌, nat_lt, nat_le, if◌then◌else◌, [], ◌∷◌, length, Option, Some, None}
+use Rattle.std.specs.Prelude.{◌≡◌, ℕ, ◌+◌, ◌*◌, ◌/◌, ◌%◌, ℤ, pos, neg_ℤ, int_lt, Bool, not, ◌||◌, ◌&&◌, ◌==◌, nat_lt, nat_le, if◌then◌else◌, [], ◌∷◌, length, Option, Some, None}
 use Rattle.std.specs.Ordering.{int_eq}
 use Rattle.sums.specs.Sums.{count_below}
 use Rattle.sim_game.specs.declared.Side.TheVariants.{One, Two}
@@ -97,6 +97,10 @@ fault_at rules.Turns l s = if is_rank l s then None else Some (errors.Turns s)
 -- what is said of the first state that breaks the rule
 abbrev pub rule_fault : Rule → Lists → Option TableError
 rule_fault rule l = first_below (state_count l) (fault_at rule l)
+
+-- each cell leads to later states that are there
+abbrev pub AreOrdered : Lists → Type 0
+AreOrdered l = rule_fault (rules.Each Order) l ≡ None
 
 abbrev pub lists_fault : Lists → Option TableError
 lists_fault l = if do_fit l then None else Some errors.Lists

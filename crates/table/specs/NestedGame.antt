@@ -39,7 +39,7 @@ cell_follows (Draws draws) d = count_in (slice_index_or draws d []) 0
 
 -- ---- the game
 -- the sides have these moves at a state of the form
-pub record AreMoves (forms : List StateForm) (s : State) (a b : ℕ) : Type 0 where
+pub record HaveMoves (forms : List StateForm) (s : State) (a b : ℕ) : Type 0 where
   pub here : s.number < length forms
   pub one : a < form_moves One (form_at forms s.number)
   pub two : b < form_moves Two (form_at forms s.number)
@@ -50,10 +50,10 @@ pub record IsNestedGame (forms : List StateForm) (m : GameModel State) : Type 0 
   pub key : (s : State) → m.key s ≡ s.number
   pub label : (side : Side) (s : State) (i : ℕ) → m.label side s i ≡ i
   pub moves : (side : Side) (s : State) → s.number < length forms → m.moves side s ≡ form_moves side (form_at forms s.number)
-  pub draws : (s : State) (a b : ℕ) → AreMoves forms s a b → m.draws s a b ≡ cell_draws (form_cell (form_at forms s.number) a b)
-  pub chance : (s : State) (a b d : ℕ) → AreMoves forms s a b → d < cell_draws (form_cell (form_at forms s.number) a b)
+  pub draws : (s : State) (a b : ℕ) → HaveMoves forms s a b → m.draws s a b ≡ cell_draws (form_cell (form_at forms s.number) a b)
+  pub chance : (s : State) (a b d : ℕ) → HaveMoves forms s a b → d < cell_draws (form_cell (form_at forms s.number) a b)
       → m.chance s a b d ≡ cell_chance (form_cell (form_at forms s.number) a b) d
-  pub drawn : (s : State) (a b d : ℕ) → AreMoves forms s a b → d < cell_draws (form_cell (form_at forms s.number) a b)
+  pub drawn : (s : State) (a b d : ℕ) → HaveMoves forms s a b → d < cell_draws (form_cell (form_at forms s.number) a b)
       → m.drawn s a b d ≡ record { number = cell_follows (form_cell (form_at forms s.number) a b) d }
   pub ends : (s : State) (payoff : ℤ) → s.number < length forms → form_at forms s.number ≡ End payoff → IsEnd m s × (m.payoff s ≡ payoff)
   pub inner : (s : State) (rows : List (List CellForm)) → s.number < length forms → form_at forms s.number ≡ Rows rows → 1 ≤ m.rank s

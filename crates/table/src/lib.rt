@@ -130,7 +130,7 @@ impl<'a> Table<'a> {
         requires here { s < state_count (lists_of self.now.setting) }
         requires one { a < table_moves (lists_of self.now.setting) One s }
         requires two { b < table_moves (lists_of self.now.setting) Two s }
-        ensures { table_cell (lists_of self.now.setting) (place_of (lists_of self.now.setting) s a b) ≡ cell_number result }
+        ensures { let l = lists_of self.now.setting in table_cell l (place_of l s a b) ≡ cell_number result }
     {
         let columns = self.setting.moves(Side::Two, s) as usize;
         let first = self.setting.value(s) as usize;

@@ -1,9 +1,7 @@
 //! Laws on the nested form of a position's states, from which the five lists are made.
 
 ghost use Rattle.std.specs.Prelude.{◌≡◌, List, None, true};
-ghost use Rattle.table.specs.declared.rules.CellRule.TheVariants as CellRule;
-ghost use Rattle.table.specs.declared.rules.Rule.TheVariants as Rule;
-ghost use Rattle.table.specs.Faults.{do_fit, first_fault, rule_fault};
+ghost use Rattle.table.specs.Faults.{do_fit, first_fault, AreOrdered};
 ghost use Rattle.table.specs.Nested.{are_in_range, lists_of_states, StateForm};
 ghost use Rattle.table.specs.NestedGame.{IsNestedGame};
 ghost use Rattle.table.specs.NestedRanks.{HaveLongestWays};
@@ -30,6 +28,6 @@ pub fn states_have_one_game()
 /// last rule refuses nothing but ways of more than 31 turns.
 pub fn states_have_longest_ways()
     ensures { (forms : List StateForm) → are_in_range forms ≡ true
-        → rule_fault (Rule.Each CellRule.Order) (lists_of_states forms) ≡ None
+        → AreOrdered (lists_of_states forms)
         → HaveLongestWays (lists_of_states forms) }
 {}

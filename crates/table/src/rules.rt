@@ -1,7 +1,7 @@
 //! The rules that lists which fit each other keep, tried one by one.
 
 ghost use Rattle.std.specs.Prelude.{◌≡◌, ℕ, ◌<◌, ◌≤◌, length, MatchResult, None, Some};
-ghost use Rattle.table.specs.Faults.{are_moves, are_weights, cell_error, cell_fault, fault_at, is_payoff, is_rank, keeps, leads_on, rule_fault};
+ghost use Rattle.table.specs.Faults.{are_moves, are_weights, cell_error, cell_fault, fault_at, is_payoff, is_rank, keeps, leads_on, rule_fault, AreOrdered};
 ghost use Rattle.table.specs.Setting.{lists_of};
 ghost use Rattle.table.specs.Lists.{cell_rank, cells_of, draws_at, next_rank, place_at, table_rank, table_state, state_count};
 ghost use Rattle.table.specs.Position.{AreFitting};
@@ -150,7 +150,7 @@ impl Fitting<'_> {
     fn next_rank(&self, s: u32) -> u32
         requires here { s < state_count (lists_of self.now.setting) }
         requires inner { 1 ≤ table_rank (lists_of self.now.setting) s }
-        requires ordered { rule_fault (Rule.Each CellRule.Order) (lists_of self.now.setting) ≡ None }
+        requires ordered { AreOrdered (lists_of self.now.setting) }
         ensures { result ≡ next_rank (lists_of self.now.setting) s }
     {
         let (count, first) = self.cells_of(s);
@@ -164,7 +164,7 @@ impl Fitting<'_> {
     /// Whether the rank of a state is at most 31, and that of the longest way.
     fn is_rank(&self, s: u32) -> bool
         requires here { s < state_count (lists_of self.now.setting) }
-        requires ordered { rule_fault (Rule.Each CellRule.Order) (lists_of self.now.setting) ≡ None }
+        requires ordered { AreOrdered (lists_of self.now.setting) }
         ensures { result ≡ is_rank (lists_of self.now.setting) s }
     {
         let rank = self.setting.rank(s);
@@ -195,7 +195,7 @@ impl Fitting<'_> {
     /// What is said of the state where it breaks the rule.
     fn fault_at(&self, rule: Rule, s: u32) -> Option<TableError>
         requires here { s < state_count (lists_of self.now.setting) }
-        requires ordered { rule ≡ Rule.Turns → rule_fault (Rule.Each CellRule.Order) (lists_of self.now.setting) ≡ None }
+        requires ordered { rule ≡ Rule.Turns → AreOrdered (lists_of self.now.setting) }
         ensures { result ≡ fault_at rule (lists_of self.now.setting) s }
     {
         let is_end = self.setting.rank(s) == 0;
@@ -214,7 +214,7 @@ impl Fitting<'_> {
 
     /// Refuses lists in which a state breaks the rule.
     pub(crate) fn check(&self, rule: Rule) -> Result<(), TableError>
-        requires { rule ≡ Rule.Turns → rule_fault (Rule.Each CellRule.Order) (lists_of self.now.setting) ≡ None }
+        requires { rule ≡ Rule.Turns → AreOrdered (lists_of self.now.setting) }
         ensures { MatchResult result
             (λ _. rule_fault rule (lists_of self.now.setting) ≡ None)
             (λ fault. rule_fault rule (lists_of self.now.setting) ≡ Some fault) }

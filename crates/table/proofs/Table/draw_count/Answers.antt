@@ -4,7 +4,13 @@ use Rattle.table.proofs.DrawLemmas.{counted_more, weight_left}
 use Rattle.table.proofs.Table.draw_count.Goals as goal
 
 pub overflow_sub-left : goal.overflow_sub-left
-overflow_sub-left c = omega (arith, weight_left (lists_of c.args.self.now.setting) c.args.first c.loop-left.count c.loop-left.left c.loop-left.invariant c.requires.0 c.requires.1 (omega arith), c.weight-left.ensures)
+overflow_sub-left c =
+    let l = lists_of c.args.self.now.setting in
+    let left = c.loop-left in
+    omega (arith, weight_left l c.args.first left.count left.left left.invariant c.requires.0 c.requires.1 (omega arith), c.weight-left.ensures)
 
 pub loop-left-preserved : goal.loop-left-preserved
-loop-left-preserved c = counted_more (lists_of c.args.self.now.setting) c.args.first c.loop-left.count c.loop-left.left c.loop-left.invariant c.requires.0 c.weight-left.result c.requires.1 (omega arith) c.weight-left.ensures
+loop-left-preserved c =
+    let l = lists_of c.args.self.now.setting in
+    let left = c.loop-left in
+    counted_more l c.args.first left.count left.left left.invariant c.requires.0 c.weight-left.result c.requires.1 (omega arith) c.weight-left.ensures

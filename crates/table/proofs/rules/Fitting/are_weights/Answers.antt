@@ -7,10 +7,11 @@ use Rattle.table.proofs.rules.Fitting.are_weights.Goals as goal
 
 pub returns-then-weight-eq0 : goal.returns-then-weight-eq0
 returns-then-weight-eq0 c =
-    let told = told_weight (lists_of c.args.self.now.setting) c.args.place c.loop-d.d c.weight-weight.result (cell_number c.cell-cell.result) c.cell-cell.ensures c.weight-weight.ensures in
+    let l = lists_of c.args.self.now.setting in
+    let told = told_weight l c.args.place c.loop-d.d c.weight-weight.result (cell_number c.cell-cell.result) c.cell-cell.ensures c.weight-weight.ensures in
     elim c.then-weight-eq0.branch [
-      | then-weight-eq0-via-then-weight-eq0 w ↦ sym (weight_is_none (lists_of c.args.self.now.setting) c.args.place c.loop-d.d (omega arith) (omega (arith, told)))
-      | then-weight-eq0-via-else-weight-eq0+then-weight-left w ↦ sym (weight_is_more (lists_of c.args.self.now.setting) c.args.place c.loop-d.d c.loop-d.left c.loop-d.invariant (omega arith) (omega (arith, told)))
+      | then-weight-eq0-via-then-weight-eq0 w ↦ sym (weight_is_none l c.args.place c.loop-d.d (omega arith) (omega (arith, told)))
+      | then-weight-eq0-via-else-weight-eq0+then-weight-left w ↦ sym (weight_is_more l c.args.place c.loop-d.d c.loop-d.left c.loop-d.invariant (omega arith) (omega (arith, told)))
     ]
 
 pub weight-weight-requires : goal.weight-weight-requires

@@ -4,4 +4,6 @@ use Rattle.table.proofs.RuleLemmas.{cells_few}
 use Rattle.table.proofs.rules.Fitting.cells_of.Goals as goal
 
 pub overflow_mul-count : goal.overflow_mul-count
-overflow_mul-count c = rw (c.moves.ensures, c.moves-2.ensures) (omega (arith, cells_few (lists_of c.args.self.now.setting) c.args.s c.args.self.now.fits c.requires.here, c.args.self.now.setting.few_cells))
+overflow_mul-count c =
+    let few = cells_few (lists_of c.args.self.now.setting) c.args.s c.args.self.now.fits c.requires.here in
+    rw (c.moves.ensures, c.moves-2.ensures) (omega (arith, few, c.args.self.now.setting.few_cells))

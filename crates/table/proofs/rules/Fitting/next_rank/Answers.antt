@@ -7,10 +7,13 @@ use Rattle.table.proofs.RuleLemmas.{keeps_all, leads_there}
 use Rattle.table.proofs.rules.Fitting.next_rank.Goals as goal
 
 pub overflow_add-first : goal.overflow_add-first
-overflow_add-first c = omega (arith, place_within (lists_of c.args.self.now.setting) c.args.s c.loop-k.k c.args.self.now.fits c.requires.here c.requires.inner (omega arith), c.args.self.now.setting.few_cells)
+overflow_add-first c =
+    let within = place_within (lists_of c.args.self.now.setting) c.args.s c.loop-k.k c.args.self.now.fits c.requires.here c.requires.inner (omega arith) in
+    omega (arith, within, c.args.self.now.setting.few_cells)
 
 pub cell_rank-requires-clause-place : goal.cell_rank-requires-clause-place
-cell_rank-requires-clause-place c = omega (arith, place_within (lists_of c.args.self.now.setting) c.args.s c.loop-k.k c.args.self.now.fits c.requires.here c.requires.inner (omega arith))
+cell_rank-requires-clause-place c =
+    omega (arith, place_within (lists_of c.args.self.now.setting) c.args.s c.loop-k.k c.args.self.now.fits c.requires.here c.requires.inner (omega arith))
 
 pub cell_rank-requires-clause-there : goal.cell_rank-requires-clause-there
 cell_rank-requires-clause-there c = λ d below.

@@ -5,5 +5,5 @@ pub mod GameLemmas
 pub mod StateKinds
 pub mod StateCounts
 pub mod StateLists
-pub mod StateRanges
 pub mod StateRanks
+pub mod StateTexts

@@ -1,0 +1,20 @@
+use Rattle.std.proofs.Common.{◌≡◌, ℕ, ◌+◌, ◌≤◌, List, [], ◌∷◌, ◌++◌, ◌∙◌, ap, sym, subst, map, take, length, arith, leb, eqb, true}
+use Rattle.std.specs.List.{flat_map}
+use Rattle.serde_json.specs.View.{view}
+use Rattle.serde_json.specs.declared.value.Value.{Value}
+use Rattle.table.specs.Nested.{CellForm, StateForm, Draws, names_state, draw_in_range, cell_in_range, row_in_range, state_in_range, draw_count_of}
+use Rattle.position.specs.States.{whole_of, draw_form_of, cell_form_of, row_form_of, state_form_of, AddsCells}
+use Rattle.position.proofs.StateKinds.{cell_list}
+use Rattle.position.proofs.StateLists.{values_pass, forms_are}
+use Rattle.position.proofs.states.lists.Cells.push_cell.Goals as goal
+
+pub push_draws-requires-clause-range : goal.push_draws-requires-clause-range
+push_draws-requires-clause-range c =
+    values_pass (λ n. leb n 255) draw_in_range draw_form_of c.elements.result.now (view c.args.cell.now) c.elements.ensures
+    (sym (ap cell_in_range (cell_list (view c.args.cell.now) (sym c.is_whole.ensures ∙ c.if-is_whole.false))) ∙ c.requires.range)
+
+pub returns-in_ok-push_draws : goal.returns-in_ok-push_draws
+returns-in_ok-push_draws c =
+    subst (λ (cell : CellForm). AddsCells c.args.self.now c.push_draws.new.self (cell ∷ []))
+    (ap Draws (forms_are draw_form_of c.elements.result.now (view c.args.cell.now) c.elements.ensures) ∙ sym (cell_list (view c.args.cell.now) (sym c.is_whole.ensures ∙ c.if-is_whole.false)))
+    c.in_ok-push_draws.ensures

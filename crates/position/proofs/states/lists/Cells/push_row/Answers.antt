@@ -1,0 +1,20 @@
+use Rattle.std.proofs.Common.{◌≡◌, ℕ, ◌+◌, ◌≤◌, List, [], ◌∷◌, ◌++◌, ◌∙◌, ap, sym, subst, map, take, length, arith, leb, eqb, true}
+use Rattle.std.specs.List.{flat_map}
+use Rattle.serde_json.specs.View.{view}
+use Rattle.serde_json.specs.declared.value.Value.{Value}
+use Rattle.table.specs.Nested.{CellForm, StateForm, Draws, names_state, draw_in_range, cell_in_range, row_in_range, state_in_range, draw_count_of}
+use Rattle.position.specs.States.{whole_of, draw_form_of, cell_form_of, row_form_of, state_form_of, AddsCells}
+use Rattle.position.proofs.StateKinds.{cell_list}
+use Rattle.position.proofs.StateLists.{room_more, adds_more}
+use Rattle.position.proofs.states.lists.Cells.push_row.Goals as goal
+
+pub push_cell-requires-clause-room : goal.push_cell-requires-clause-room
+push_cell-requires-clause-room c =
+    room_more (λ (v : Value). cell_form_of (view v) ∷ []) 262144 c.args.self.now c.loop-cell.self c.args.cells.now c.loop-cell.cell-index c.cell-item.result c.loop-cell-test.true c.cell-item.is
+    c.loop-cell.invariant c.requires.room
+
+pub loop-cell-preserved : goal.loop-cell-preserved
+loop-cell-preserved c =
+    adds_more (λ (v : Value). cell_form_of (view v) ∷ []) c.args.self.now c.loop-cell.self c.push_cell.new.self c.args.cells.now c.loop-cell.cell-index c.cell-item.result
+    c.loop-cell-test.true c.cell-item.is
+    c.loop-cell.invariant c.in_ok-push_cell.ensures

@@ -1,0 +1,24 @@
+use Rattle.std.proofs.Common.{◌≡◌, ℕ, ◌+◌, ◌≤◌, List, [], ◌∷◌, ◌++◌, ◌∙◌, ap, sym, subst, map, take, length, arith, leb, eqb, true}
+use Rattle.std.specs.List.{flat_map}
+use Rattle.serde_json.specs.View.{view}
+use Rattle.serde_json.specs.declared.value.Value.{Value}
+use Rattle.table.specs.Nested.{CellForm, StateForm, Draws, names_state, draw_in_range, cell_in_range, row_in_range, state_in_range, draw_count_of}
+use Rattle.position.specs.States.{whole_of, draw_form_of, cell_form_of, row_form_of, state_form_of, AddsCells}
+use Rattle.position.proofs.StateKinds.{cell_list}
+use Rattle.std.proofs.Common.{ℤ}
+use Rattle.position.proofs.StateLists.{values_pass, all_read, appends_then, parts_more, forms_are}
+use Rattle.position.proofs.states.lists.push_draws.Goals as goal
+
+pub push_draw-requires : goal.push_draw-requires
+push_draw-requires c =
+    values_pass (λ n. eqb n 2) names_state whole_of c.elements.result.now (view c.draw-item.result) c.elements.ensures
+    (all_read (λ v. draw_in_range (draw_form_of (view v))) c.args.draws.now c.loop-draw.draw-index c.draw-item.result c.loop-draw-test.true c.draw-item.is c.requires)
+
+pub loop-draw-preserved : goal.loop-draw-preserved
+loop-draw-preserved c =
+    let before = flat_map (λ (v : Value). draw_form_of (view v)) (take c.loop-draw.draw-index c.args.draws.now) in
+    let here = map (λ (v : Value). whole_of (view v)) c.elements.result.now in
+    appends_then c.args.list.now.items c.loop-draw.list.items c.push_draw.new.list.items before here (flat_map (λ v. draw_form_of (view v)) (take (c.loop-draw.draw-index + 1) c.args.draws.now))
+    c.loop-draw.invariant c.in_ok-push_draw.ensures
+    (parts_more (λ (v : Value). draw_form_of (view v)) c.args.draws.now c.loop-draw.draw-index c.draw-item.result c.loop-draw-test.true c.draw-item.is
+    ∙ ap (λ (zs : List ℤ). before ++ zs) (sym (forms_are whole_of c.elements.result.now (view c.draw-item.result) c.elements.ensures)))

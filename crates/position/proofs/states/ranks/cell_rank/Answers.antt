@@ -1,0 +1,15 @@
+use Rattle.std.proofs.Common.{◌≡◌, ℕ, ℤ, pos, ◌+◌, ◌-◌, ◌≤◌, List, [], ◌∷◌, ◌∙◌, ap, sym, subst, map, set, get_or, length, arith, w32}
+use Rattle.std.specs.List.{flat_map}
+use Rattle.serde_json.specs.View.{view}
+use Rattle.serde_json.specs.declared.value.Value.{Value}
+use Rattle.table.specs.Nested.{CellForm, Draws, greatest_in, named_by}
+use Rattle.position.specs.States.{whole_of, draw_form_of, cell_form_of, row_form_of, state_form_of, rank_in, rank_among}
+use Rattle.position.proofs.StateKinds.{cell_list}
+use Rattle.position.proofs.StateLists.{forms_are}
+use Rattle.position.proofs.states.ranks.cell_rank.Goals as goal
+
+pub returns-else-is_whole : goal.returns-else-is_whole
+returns-else-is_whole c =
+    c.draws_rank.ensures
+    ∙ ap (λ (draws : List (List ℤ)). greatest_in (map (rank_in c.args.ranks.now) (named_by (Draws draws)))) (forms_are draw_form_of c.elements.result.now (view c.args.cell.now) c.elements.ensures)
+    ∙ ap (λ (cell : CellForm). greatest_in (map (rank_in c.args.ranks.now) (named_by cell))) (sym (cell_list (view c.args.cell.now) (sym c.is_whole.ensures ∙ c.if-is_whole.false)))

@@ -5,7 +5,7 @@ ghost use Rattle.std.specs.declared.result.Result.TheVariants.{Ok, Err};
 ghost use Rattle.certificate.specs.Ranges.{IsInRange};
 ghost use Rattle.checker.specs.Verdicts.{IsVerdict};
 ghost use Rattle.position.specs.Games.{IsGameOf};
-ghost use Rattle.position.specs.Playable.{IsPlayable, IsPlayable-prop};
+ghost use Rattle.position.specs.HasGame.{HasGame, HasGame-prop};
 ghost use Rattle.commands.specs.Reports.{accepted_text, fault_text};
 ghost use Rattle.commands.specs.Checks.{most_report, report_in, IsChecked};
 
@@ -23,7 +23,7 @@ use text::Text;
 #[derive(Drop)]
 pub(crate) struct ReportedGame {
     pub(crate) report: Report,
-    ghost playable: { IsPlayable report.position } by { IsPlayable-prop report.position },
+    ghost has_game: { HasGame report.position } by { HasGame-prop report.position },
 }
 
 impl ReportedGame {
@@ -35,7 +35,7 @@ impl ReportedGame {
     }
 }
 
-/// The report of the bytes, which are not too many, where its position can be played; or what is wrong first.
+/// The report of the bytes, which are not too many, where its position has a game; or what is wrong first.
 #[tactic(auto, unfolding(crate::specs::Checks::report_in))]
 pub(crate) fn report_in(alloc: Global, bytes: &[u8]) -> Result<ReportedGame, ReportFault>
     requires { length bytes.now ≤ most_report }

@@ -10,7 +10,7 @@ ghost use Rattle.certificate.specs.Ranges.{IsPositionInRange};
 ghost use Rattle.position.specs.declared.games.AnyGame.{AnyGame};
 ghost use Rattle.position.specs.Objects.{Gives};
 ghost use Rattle.position.specs.Games.{code_of, words_of, is_table, position_text_in, fault_of, IsGameOf, model_of, OfSame, IsSameGame};
-ghost use Rattle.position.specs.Playable.{IsPlayable};
+ghost use Rattle.position.specs.HasGame.{HasGame};
 
 use crate::object::values;
 use crate::states::table_text;
@@ -273,7 +273,7 @@ pub fn build(text: &PositionText) -> Result<AnyGame, InputError>
 
 /// The game of a position that breaks no rule of it.
 pub fn game_of(text: &PositionText) -> AnyGame
-    requires { IsPlayable text.now }
+    requires { HasGame text.now }
     ensures { IsGameOf text.now result }
 {
     match build(text) {

@@ -1,6 +1,6 @@
-//! A position that can be played, and what is asked of the search.
+//! A position that has a game, and what is asked of the search.
 
-ghost use Rattle.position.specs.Playable.{IsPlayable, IsPlayable-prop};
+ghost use Rattle.position.specs.HasGame.{HasGame, HasGame-prop};
 
 use crate::{AnyGame, game_of};
 use certificate::{Ask, PositionText};
@@ -10,7 +10,7 @@ use certificate::{Ask, PositionText};
 pub struct Task {
     pub text: PositionText,
     pub ask: Ask,
-    pub ghost playable: { IsPlayable text } by { IsPlayable-prop text },
+    pub ghost has_game: { HasGame text } by { HasGame-prop text },
 }
 
 impl Task {

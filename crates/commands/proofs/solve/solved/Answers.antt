@@ -1,4 +1,6 @@
+use Rattle.std.proofs.Common.{subst}
 use Rattle.certificate.specs.Texts.{report_text}
+use Rattle.position.specs.Games.{model_of}
 use Rattle.lazy_workers.specs.Solutions.{IsSolution}
 use Rattle.commands.specs.Runs.{status_of, IsSolved}
 use Rattle.commands.specs.Texts.{input_text}
@@ -8,7 +10,9 @@ use Rattle.commands.proofs.solve.solved.Goals as goal
 pub returns-in-Ok-solve_any : goal.returns-in-Ok-solve_any
 returns-in-Ok-solve_any g c =
     let bytes = c.args.bytes.now in let task = c.in-Ok.task in let r = c.in-Ok-solve_any.solved.report in
-    let is = of_position task.text c.game.result (λ S m. IsSolution m task.text task.ask r) c.game.ensures (c.in-Ok-solve_any.ensures.0, c.in-Ok-solve_any.ensures.1, c.in-Ok-solve_any.ensures.2.solution) in
+    let found = c.in-Ok-solve_any.ensures in
+    let solution = subst (λ t. IsSolution (model_of found.0) t task.ask r) c.in_ok-text.ensures found.2.solution in
+    let is = of_position task.text c.game.result (λ S m. IsSolution m task.text task.ask r) c.game.ensures (found.0, found.1, solution) in
     answers_where (IsSolved bytes) _ (status_of r.outcome) (report_text r) c.reported.result
     (λ again. IsSolved.reported (record { text = task.text; ask = task.ask }) r c.in-Ok.ensures.exact is again) c.reported.ensures
 

@@ -1,4 +1,4 @@
--- The positions that can be played.
+-- The positions that have a game.
 use Rattle.std.specs.Prelude.{◌≡◌, List, [], ◌∷◌, false, is_some}
 use Rattle.std.proofs.Props.{props}
 use Rattle.certificate.specs.declared.fields.FieldKind.{FieldKind}
@@ -11,8 +11,8 @@ use Rattle.certificate.specs.Positions.{kind_of, kinds_of, values_of}
 use Rattle.certificate.specs.Ranges.{IsPositionInRange}
 use Rattle.position.specs.Games.{fault_of}
 
--- the position has a line, and breaks no rule of its game
-pub record IsPlayable (text : PositionText) : Type 0 where
+-- the position has a line and breaks no rule, so that a game is built of it
+pub record HasGame (text : PositionText) : Type 0 where
   pub in_range : IsPositionInRange text
   pub builds : is_some (fault_of text) ≡ false
 
@@ -30,5 +30,5 @@ AllFit-prop [] (v ∷ vs) = hlevel props
 AllFit-prop (k ∷ ks) [] = hlevel props
 AllFit-prop (k ∷ ks) (v ∷ vs) = hlevel (Fits-prop k v, AllFit-prop ks vs)
 
-pub IsPlayable-prop : (text : PositionText) → IsProp (IsPlayable text)
-IsPlayable-prop text = hlevel (props, AllFit-prop (kinds_of (kind_of text)) (values_of text))
+pub HasGame-prop : (text : PositionText) → IsProp (HasGame text)
+HasGame-prop text = hlevel (props, AllFit-prop (kinds_of (kind_of text)) (values_of text))

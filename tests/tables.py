@@ -95,11 +95,15 @@ def chain(turns):
     return [[[state + 1]] for state in range(turns)] + [0]
 
 
+def are_draws(cell):
+    return isinstance(cell, list) and cell != [] and all(isinstance(draw, list) and [type(number) for number in draw] == [int, int] for draw in cell)
+
+
 def changed_cell(r, old, count):
     """A cell with a fault, or none: of a table with so many states."""
     if isinstance(old, int) and r.random() < 0.5:
         old = [[old, CHANCE // 2], [old, CHANCE // 2]]
-    if isinstance(old, list) and old and r.random() < 0.8:
+    if are_draws(old) and r.random() < 0.8:
         draws = copy.deepcopy(old)
         place = r.randrange(len(draws))
         kind = r.randrange(8)

@@ -12,11 +12,13 @@ from pathlib import Path
 
 TOP = Path(__file__).resolve().parent.parent
 NUMBER = "(?:0|[1-9][0-9]*)"
+WHOLE = "(?:0|-?[1-9][0-9]*)"
 SPELLINGS = {
     "number": NUMBER,
-    "whole number": "(?:0|-?[1-9][0-9]*)",
+    "whole number": WHOLE,
     "numbers": f"{NUMBER}(?: {NUMBER})*",
     "list": f"(?:-|{NUMBER}(?:,{NUMBER})*)",
+    "whole list": f"(?:-|{WHOLE}(?:,{WHOLE})*)",
 }
 # Those of every command: standard input failed, standard output failed, want of memory.
 FAILED, CUT_OFF, NO_MEMORY = 6, 7, 8

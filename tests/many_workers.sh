@@ -1,5 +1,5 @@
 #!/usr/bin/env bash
-# many_workers.sh PROGRAM [RUNS [OTHER]]: solves three games RUNS times (200) by 2, 4 and 16 workers each, and two larger ones
+# many_workers.sh PROGRAM [RUNS [OTHER]]: solves four games RUNS times (200) by 2, 4 and 16 workers each, and two larger ones
 # a tenth as often. Each report is checked: by the program's `check`, and by `OTHER verify`, which works out what both plans
 # are worth, where another program is given; and its gap is at most one and a half times that of one worker. The schedule is
 # another one in each run, so this is no part of the gate: it looks for what no contract says of threads, as a run that does
@@ -15,11 +15,15 @@ other=
 [ $# -ge 3 ] && { other=$(realpath "$3") || exit 2; }
 report=$(mktemp) || exit 2
 trap 'rm -f "$report"' EXIT
+cases=$(dirname "$(realpath "$0")")/vectors
+# What a case of a table says of its game.
+table() { sed 's/^{\("game":"table",.*\),"gap".*/\1/' "$cases/solve/$1.in"; }
 cards() { echo "\"game\":\"goofspiel\",\"one\":[$1],\"two\":[$1],\"prizes\":[$1],\"score\":0,\"pay\":\"margin\""; }
 small=(
     "$(cards 1,2,3,4)"
     "$(cards 1,2,3,4,5)"
     '"game":"tron","height":4,"width":4,"walls":[],"one":0,"two":15'
+    "$(table table_three_levels_with_draws)"
 )
 large=(
     "$(cards 1,2,3,4,5,6)"

@@ -1,11 +1,12 @@
 #!/usr/bin/env python3
-"""mutated_input.py PROGRAM [OTHER] [SECONDS [SEED]]: gives PROGRAM positions and reports that were changed at random.
+"""mutated_input.py PROGRAM [OTHER] [SECONDS [SEED]] [GAME]: gives PROGRAM positions and reports that were changed at random.
 
-Positions and reports of tests/vectors are changed in bytes, numbers, fields, rows and lines, and given to `solve`, `bounds`,
-`check`, `exploit` and `play` for SECONDS (60). An answer is wrong where docs/FORMATS.md tells no such status or text, where it takes more than
-20 seconds, or where it is not that of OTHER, any program with the same commands. Reports of several workers are not
-compared, since they depend on the schedule, nor are versions of a report that the page does not tell. Each wrong answer is
-shown and its input kept. One seed makes the same inputs again. The last line counts the inputs; no part of the gate.
+Positions and reports of tests/vectors, of all games or of the one that is named, and random tables are changed in bytes,
+numbers, fields, states, rows and lines, and given to `solve`, `bounds`, `check`, `exploit` and `play` for SECONDS (60). An answer
+is wrong where docs/FORMATS.md tells no such status or text, where it takes more than 20 seconds, or where it is not that of
+OTHER, any program with the same commands. Reports of several workers are not compared, since they depend on the schedule, nor
+are versions of a report that the page does not tell. Each wrong answer is shown and its input kept. One seed makes the same
+inputs again. The last line counts the inputs; no part of the gate.
 """
 import json
 import os
@@ -17,7 +18,9 @@ import tempfile
 import time
 from pathlib import Path
 
+import tables
 from formats import TOP, Formats
+from random_positions import GAMES
 
 LIMIT = 20
 EDGES = [-1000001, -1000000, -1001, -1000, -129, -128, -9, -1, 0, 1, 2, 3, 6, 7, 8, 9, 13, 14, 31, 32, 36, 100, 101, 127, 128,
@@ -82,14 +85,25 @@ def changed_list(r, items):
     return items
 
 
+def changed_inside(r, items):
+    """A list of lists with a change at some depth."""
+    lists = [place for place, item in enumerate(items) if isinstance(item, list)]
+    if not lists or r.random() < 0.2:
+        return changed_list(r, items)
+    place = r.choice(lists)
+    return items[:place] + [changed_inside(r, items[place])] + items[place + 1:]
+
+
 def changed_value(r, value):
     if r.random() < 0.15:
         return r.choice(KINDS)
+    if isinstance(value, list) and any(isinstance(item, list) for item in value):
+        return tables.changed(r, value) if r.random() < 0.5 else changed_inside(r, value)
     if isinstance(value, list):
         return r.sample(range(1, 14), len(value)) if len(value) < 14 and r.random() < 0.5 else changed_list(r, value)
     if isinstance(value, int):
         return r.randint(0, 6) if r.random() < 0.5 else changed_number(r, value)
-    return r.choice(KINDS + ["goofspiel", "oshi_zumo", "tron", "goofspiel_drawn", "pursuit", "goofspiel "])
+    return r.choice(KINDS + ["goofspiel", "oshi_zumo", "tron", "goofspiel_drawn", "pursuit", "table", "goofspiel "])
 
 
 def changed_fields(r, fields):
@@ -159,7 +173,9 @@ def bounded(text):
 
 
 def changed_position(r, bases):
-    fields = r.choice(bases)
+    fields = list(r.choice(bases))
+    if fields[0] == ("game", "table") and r.random() < 0.5:
+        fields[1] = ("states", tables.playable(r, 4))
     kind = r.random()
     if kind < 0.02:
         # What is asked at its limits, over a small game.
@@ -223,17 +239,41 @@ def changed_row(r, text):
     return b"\n".join(lines)
 
 
+def changed_lists(r, text):
+    """A number of a list of the game's line changed, taken out, put in or exchanged with another."""
+    lines = text.split(b"\n")
+    words = lines[1].split(b" ")
+    place = r.randrange(2, len(words))
+    numbers = [] if words[place] == b"-" else words[place].split(b",")
+    at, kind = r.randrange(len(numbers) + 1), r.randrange(6)
+    if kind == 0 or at == len(numbers):
+        numbers.insert(at, r.choice(numbers + [b"0", b"1", b"-1", b"360360"]))
+    elif kind == 1:
+        del numbers[at]
+    elif kind == 2:
+        other = r.randrange(len(numbers))
+        numbers[at], numbers[other] = numbers[other], numbers[at]
+    elif kind == 3:
+        numbers[at] = b"%d" % changed_number(r, int(numbers[at]))
+    else:
+        numbers[at] = b"%d" % (int(numbers[at]) + r.choice([-1, 1]))
+    words[place] = b",".join(numbers) or b"-"
+    return b"\n".join(lines[:1] + [b" ".join(words)] + lines[2:])
+
+
 def changed_report(r, bases):
     text = r.choice(bases)
     for _ in range(r.choice([1, 1, 2])):
         try:
-            text = r.choice([changed_bytes, changed_lines, changed_row, changed_row])(r, text)
+            changes = [changed_bytes, changed_lines, changed_row, changed_row]
+            changes += [changed_lists] * (4 if b"\ngame table " in text else 1)
+            text = r.choice(changes)(r, text)
         except (ValueError, IndexError):
             text = changed_bytes(r, text)
     return text
 
 
-def bases():
+def bases(game):
     """The positions of the cases that are JSON objects, as lists of fields, the smallest first, and the reports."""
     vectors = TOP / "tests" / "vectors"
     positions, reports = [], []
@@ -248,18 +288,21 @@ def bases():
                 pass
     reports += [case.read_bytes() for case in sorted(vectors.glob("solve/*.out")) if case.read_bytes().startswith(b"dosolve")]
     small = list(json.loads((TOP / "examples" / "goofspiel_mixed.json").read_bytes()).items())
-    return [small] + [fields for fields in positions if fields], [text for text in reports if 0 < len(text) < 20000]
+    positions = [small] + [fields for fields in positions if fields and (not game or ("game", game) in fields)]
+    reports = [text for text in reports if not game or b"\ngame %s " % game.encode() in text]
+    return positions, [text for text in reports if 0 < len(text) < 20000]
 
 
 def main():
     words = sys.argv[1:]
+    game = words.pop() if words and words[-1] in GAMES else None
     if not words:
-        sys.exit("usage: mutated_input.py PROGRAM [OTHER] [SECONDS [SEED]]")
+        sys.exit("usage: mutated_input.py PROGRAM [OTHER] [SECONDS [SEED]] [GAME]")
     program = os.path.realpath(words.pop(0))
     other = os.path.realpath(words.pop(0)) if words and not words[0].isdigit() else None
     seconds, seed = (int(word) for word in (words + ["60", "1"][len(words):]))
     r, run, formats = random.Random(seed), Runner(), Formats()
-    positions, reports = bases()
+    positions, reports = bases(game)
     # The words of each command that reads, and what makes its input.
     commands = [(["solve"], changed_position, positions), (["bounds"], changed_position, positions)]
     commands += [(words, changed_report, reports) for words in (["check"], ["exploit", "one"], ["exploit", "two"], ["play", "20", "7"])]

@@ -1,12 +1,13 @@
 #!/usr/bin/env python3
-"""random_positions.py PROGRAM [OTHER] [COUNT [SEED]] [linear]: solves random positions, and has every report checked.
+"""random_positions.py PROGRAM [OTHER] [COUNT [SEED]] [linear] [verify] [GAME ..]: solves random positions, and has reports checked.
 
-Each of COUNT positions (500) of the games goes to `solve` and `bounds`, with few or ample turns, visits and rows, so that every
-outcome comes up, also with visits that end inside a search that was done before; every fourth is spoilt first, so that it is
-refused. Each answer has to be one that docs/FORMATS.md tells, `check`
-has to accept each report, and no lower bound may be above an upper one of either command. Where OTHER is given, any program
-with the same commands, bytes and status have to be those of OTHER. With the word `linear` each position asks for linear stages,
-which no other program has to print alike. One seed makes the same positions again. No part of the gate.
+Each of COUNT positions (500) of the games, or of those named, goes to `solve` and `bounds`, with few or ample turns, visits and
+rows, so that every outcome comes up, also with visits that end inside a search that was done before; every fourth is spoilt
+first, so that it is refused. Each answer has to be one that docs/FORMATS.md tells, `check` has to accept each report, the line
+of a table has to be that of its states, and no lower bound may be above an upper one of either command. Where OTHER is given,
+any program with the same commands, bytes and status have to be those of OTHER. With the word `linear` each position asks for
+linear stages, which no other program has to print alike. With the word `verify` OTHER has a command of that name too, which ends
+with 0 where both bounds of a report are guaranteed. One seed makes the same positions again.
 """
 import json
 import os
@@ -15,6 +16,7 @@ import re
 import subprocess
 import sys
 
+import tables
 from formats import Formats
 
 SPOILT = [-1, 0, 1, 7, 255, 256, -129, 128, 1.5, -0.0, "x", "win", [], [1, 1], [300], [1, "a"], [1] * 256, None, True, {},
@@ -59,10 +61,19 @@ def pursuit(r):
                 rounds=r.choice([0, 1, 1, 2, 2, 3, 31 if nodes < 4 else 4]))
 
 
-GAMES = [goofspiel, oshi_zumo, tron, goofspiel_drawn, pursuit]
+def table(r):
+    return dict(game="table", states=tables.playable(r))
 
 
-def position(r, spoil, games=GAMES, stages=None):
+GAMES = {game.__name__: game for game in (goofspiel, oshi_zumo, tron, goofspiel_drawn, pursuit, table)}
+
+
+def named(words):
+    """The games that words name, all where there is none, and the other words."""
+    return [GAMES[word] for word in words if word in GAMES] or list(GAMES.values()), [word for word in words if word not in GAMES]
+
+
+def position(r, spoil, games=tuple(GAMES.values()), stages=None):
     p = r.choice(games)(r)
     p.update(gap=r.choice([0, 0, 1000, 1000000]), weight=r.choice([8192, 8193, 65536, 1048576]),
              turns=r.choice([0, 0, 1, 2, 5, 50, 5000]),
@@ -70,6 +81,14 @@ def position(r, spoil, games=GAMES, stages=None):
              rows=r.choice([1, 2, 5, 20, 200, 65536, 65536]), workers=1)
     if stages:
         p.update(stages=stages)
+    if p["game"] == "table":
+        # The search of a large tree has to be cut, and wide stages at a fine weight take long.
+        p.update(visits=min(p["visits"], 100000) if tables.tree_size(p["states"]) > 100000 else p["visits"])
+        p.update(weight=8192 if tables.width(p["states"]) > 9 else p["weight"])
+    if spoil and p["game"] == "table" and r.random() < 0.8:
+        for _ in range(r.randint(1, 2)):
+            p["states"] = tables.changed(r, p["states"]) if isinstance(p["states"], list) else p["states"]
+        spoil = r.random() < 0.1
     for _ in range(r.randint(1, 2) if spoil else 0):
         name = r.choice(list(p))
         if r.random() < 0.2:
@@ -89,7 +108,19 @@ def ends(text):
     return [int(number) for word in ("lower", "upper") for number in re.findall(rf"^{word} (-?\d+)$", text.decode(), re.M)]
 
 
-def fault(formats, program, other, text):
+def report_fault(program, verifier, text, report):
+    """What is wrong with a report that was printed for a position, or None."""
+    if answer(program, "check", report)[0] != 0:
+        return "the report is not accepted"
+    asked = json.loads(text)
+    if asked["game"] == "table" and report.split(b"\n")[1].decode() != tables.line(asked["states"]):
+        return "the line is not that of the states"
+    if verifier and answer(verifier, "verify", report)[0] != 0:
+        return f"not guaranteed: {answer(verifier, 'verify', report)}"
+    return None
+
+
+def fault(formats, program, other, verifier, text):
     """What is wrong with the answers to a position, or None."""
     solved, bounded = answer(program, "solve", text), answer(program, "bounds", text)
     for command, ours in (("solve", solved), ("bounds", bounded)):
@@ -99,8 +130,9 @@ def fault(formats, program, other, text):
         if other and answer(other, command, text) != ours:
             return f"{command}: {ours} here, {answer(other, command, text)} there"
     if solved[0] in (0, 3, 4, 5):
-        if answer(program, "check", solved[1])[0] != 0:
-            return "the report is not accepted"
+        wrong = report_fault(program, verifier, text, solved[1])
+        if wrong:
+            return wrong
         # Serial bounds and a report's bounds are both guaranteed, so no lower one is above an upper one.
         low, high = zip(ends(solved[1]), ends(bounded[1])) if bounded[0] == 0 else ([0], [0])
         if max(low) > min(high):
@@ -109,17 +141,18 @@ def fault(formats, program, other, text):
 
 
 def main():
-    stages = "linear" if "linear" in sys.argv else None
-    words = [word for word in sys.argv[1:] if word != "linear"]
+    games, words = named(sys.argv[1:])
+    linear, verify = "linear" in words, "verify" in words
+    words = [word for word in words if word not in ("linear", "verify")]
     if not words:
-        sys.exit("usage: random_positions.py PROGRAM [OTHER] [COUNT [SEED]] [linear]")
+        sys.exit("usage: random_positions.py PROGRAM [OTHER] [COUNT [SEED]] [linear] [verify] [GAME ..]")
     program = os.path.realpath(words.pop(0))
     other = os.path.realpath(words.pop(0)) if words and not words[0].isdigit() else None
     count, seed = (int(word) for word in (words + ["500", "1"][len(words):]))
     r, formats, failed = random.Random(seed), Formats(), 0
     for number in range(count):
-        text = position(r, number % 4 == 3, stages=stages)
-        found = fault(formats, program, None if stages else other, text)
+        text = position(r, number % 4 == 3, games, "linear" if linear else None)
+        found = fault(formats, program, None if linear else other, other if verify else None, text)
         if found:
             failed += 1
             print("FAILED", text.decode(), found)

@@ -1,8 +1,8 @@
 #!/usr/bin/env python3
-"""random_reports.py PROGRAM [OTHER] [COUNT [SEED]]: measures and plays the plans of random reports, lawful or not.
+"""random_reports.py PROGRAM [OTHER] [COUNT [SEED]] [GAME ..]: measures and plays the plans of random reports, lawful or not.
 
-Each of COUNT reports (500) is one that OTHER, any program with the same commands, or else PROGRAM prints for a random position:
-as it is, with rows dropped, with weights changed, or with the rows of both sides exchanged. It goes to `exploit one`,
+Each of COUNT reports (500) is one that OTHER, any program with the same commands, or else PROGRAM prints for a random position
+of the games, or of those named: as it is, with rows dropped, with weights changed, or with the rows of both sides exchanged. It goes to `exploit one`,
 `exploit two` and `play`. Each answer has to be one that docs/FORMATS.md tells, and that of OTHER, byte for byte. The worst case
 of a plan of a report as it is must be no worse than its bound, and the payoff of the first game lies between those of all. One
 seed makes the same reports again. No part of the gate.
@@ -14,7 +14,7 @@ import subprocess
 import sys
 
 from formats import Formats
-from random_positions import position
+from random_positions import named, position
 
 
 def run(program, words, text):
@@ -108,15 +108,15 @@ def fault(formats, r, program, other, text, lawful):
 
 
 def main():
-    words = sys.argv[1:]
+    games, words = named(sys.argv[1:])
     if not words:
-        sys.exit("usage: random_reports.py PROGRAM [OTHER] [COUNT [SEED]]")
+        sys.exit("usage: random_reports.py PROGRAM [OTHER] [COUNT [SEED]] [GAME ..]")
     program = os.path.realpath(words.pop(0))
     other = os.path.realpath(words.pop(0)) if words and not words[0].isdigit() else None
     count, seed = (int(word) for word in (words + ["500", "1"][len(words):]))
     r, formats, tried, failed = random.Random(seed), Formats(), 0, 0
     while tried < count:
-        status, report = run(other or program, ["solve"], position(r, False))
+        status, report = run(other or program, ["solve"], position(r, False, games))
         if status not in (0, 3, 4, 5):
             continue
         text, lawful = changed(r, report)

@@ -1,7 +1,7 @@
 #!/usr/bin/env bash
 # refused_memory.sh PROGRAM: refuses each request for memory in turn of `solve` of examples/goofspiel_mixed.json by four
-# workers, of `solve` of a game of four cards by one worker, which keeps searches and matrices, of `bounds` of that game, and
-# of `check`, `exploit one` and `play 3 5` of the report of the example. Each run has to end with status 8 and write nothing,
+# workers, of `solve` of a game of four cards by one worker, which keeps searches and matrices, of `bounds` of that game, of
+# `check`, `exploit one` and `play 3 5` of the report of the example, and of `solve` and `check` of a table. Each run has to end with status 8 and write nothing,
 # or to give the plain answer, where the program can do without what was refused: a thread, a memory of what was found, or
 # room ahead for a list (the kit's lists ask for the room that they expect first, and then for what they need). Needs a C
 # compiler; no part of the gate. Prints for each command how many requests were refused; the last line is
@@ -26,8 +26,11 @@ cp "$work/alone.in" "$work/bounds.in"
 for command in check exploit play; do
     cp "$example.report" "$work/$command.in"
 done
+table=$here/vectors/solve/table_two_stages_with_draws
+cp "$table.in" "$work/table.in"
+cp "$table.out" "$work/told.in"
 # The name of each case, and the words of its command.
-cases=("workers solve" "alone solve" "bounds bounds" "check check" "exploit exploit one" "play play 3 5")
+cases=("workers solve" "alone solve" "bounds bounds" "check check" "exploit exploit one" "play play 3 5" "table solve" "told check")
 
 declare -A plain_status
 for case in "${cases[@]}"; do

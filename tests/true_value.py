@@ -1,11 +1,12 @@
 #!/usr/bin/env python3
-"""true_value.py PROGRAM [COUNT [SEED]]: compares the program's bounds with true values on COUNT (100) tiny positions.
+"""true_value.py PROGRAM [COUNT [SEED]] [regret] [GAME ..]: compares the program's bounds with true values on COUNT (100) tiny positions.
 
 The values come from here alone, and share nothing with the program or its package: rules on plain tuples, backward induction
 over all states in exact fractions, each state's matrix game by a simplex whose answer is checked against both sides. The
 bounds that `solve` prints by regret matching and by linear programs, and those of `bounds`, have to enclose the value, those of
 a closed report whose gap is 0 have to equal it, and `check` has to accept each report.
-Games that docs/FORMATS.md does not tell are left out, and named. One seed makes the same positions again.
+The positions are of the games that docs/FORMATS.md tells, or of those named. With the word `regret` no linear programs are asked
+for. One seed makes the same positions again.
 """
 import json
 import random
@@ -15,12 +16,14 @@ import sys
 from fractions import Fraction
 from pathlib import Path
 
+import tables
+
 FORMATS = Path(__file__).resolve().parent.parent / "docs" / "FORMATS.md"
 SCALE = 1_000_000
 
 
 # A game is its root and three functions: the payoff of an end or None, the moves of both sides, and the states that follow a
-# pair of moves, all equally likely.
+# pair of moves, each with its share of the chance.
 
 def goofspiel(p):
     drawn = p["game"] == "goofspiel_drawn"
@@ -37,8 +40,8 @@ def goofspiel(p):
         hands = tuple(c for c in one if c != a), tuple(c for c in two if c != b), score + won
         left = prizes[1:]
         if not drawn or not left:
-            return [(*hands, left)]
-        return [(*hands, (left[i],) + left[:i] + left[i + 1:]) for i in range(len(left))]
+            return [((*hands, left), 1)]
+        return [((*hands, (left[i],) + left[:i] + left[i + 1:]), 1) for i in range(len(left))]
 
     return (tuple(p["one"]), tuple(p["two"]), p["score"], tuple(p["prizes"])), payoff, moves, after
 
@@ -54,7 +57,7 @@ def oshi_zumo(p):
         return [list(range(least, coins + 1)) or [0] for coins in state[1:]]
 
     def after(state, a, b):
-        return [(state[0] + (a > b) - (a < b), state[1] - a, state[2] - b)]
+        return [((state[0] + (a > b) - (a < b), state[1] - a, state[2] - b), 1)]
 
     return (p["place"], p["one"], p["two"]), payoff, moves, after
 
@@ -74,7 +77,7 @@ def tron(p):
         return free(state[0], state[1]), free(state[0], state[2])
 
     def after(state, a, b):
-        return [(state[0] | {a, b}, a, b)]
+        return [((state[0] | {a, b}, a, b), 1)]
 
     return (frozenset(p["walls"] + [p["one"], p["two"]]), p["one"], p["two"]), payoff, moves, after
 
@@ -93,12 +96,28 @@ def pursuit(p):
         return near(state[2]), near(state[3])
 
     def after(state, a, b):
-        return [(a == b or (a == state[3] and b == state[2]), state[1] - 1, a, b)]
+        return [((a == b or (a == state[3] and b == state[2]), state[1] - 1, a, b), 1)]
 
     return (p["one"] == p["two"], p["rounds"], p["one"], p["two"]), payoff, moves, after
 
 
-RULES = {"goofspiel": goofspiel, "goofspiel_drawn": goofspiel, "oshi_zumo": oshi_zumo, "tron": tron, "pursuit": pursuit}
+def table(p):
+    states = p["states"]
+
+    def payoff(state):
+        return states[state] if isinstance(states[state], int) else None
+
+    def moves(state):
+        return range(len(states[state])), range(len(states[state][0]))
+
+    def after(state, a, b):
+        cell = states[state][a][b]
+        return [(cell, 1)] if isinstance(cell, int) else cell
+
+    return 0, payoff, moves, after
+
+
+RULES = {"goofspiel": goofspiel, "goofspiel_drawn": goofspiel, "oshi_zumo": oshi_zumo, "tron": tron, "pursuit": pursuit, "table": table}
 
 
 def matrix_value(matrix):
@@ -132,6 +151,10 @@ def matrix_value(matrix):
     return value
 
 
+def mean(values, cell):
+    return sum(values[state] * share for state, share in cell) / sum(share for _, share in cell)
+
+
 def true_value(position):
     """The value of a position in payoffs, exactly; None where it has more than 3000 states."""
     root, payoff, moves, after = RULES[position["game"]](position)
@@ -147,13 +170,13 @@ def true_value(position):
             continue
         ones, twos = moves(state)
         cells = [[after(state, a, b) for b in twos] for a in ones]
-        missing = [t for row in cells for cell in row for t in cell if t not in values]
+        missing = [t for row in cells for cell in row for t, _ in cell if t not in values]
         if missing:
             stack += missing
             if len(values) > 3000:
                 return None
         else:
-            values[stack.pop()] = matrix_value([[sum(values[t] for t in cell) / len(cell) for cell in row] for row in cells])
+            values[stack.pop()] = matrix_value([[mean(values, cell) for cell in row] for row in cells])
     return values[root]
 
 
@@ -170,6 +193,8 @@ def tiny_position(r, game):
         height, width = r.choice([(1, 4), (2, 3), (3, 3), (3, 4), (4, 3)])
         one, two, *rest = r.sample(range(height * width), height * width)
         p = dict(height=height, width=width, walls=rest[:r.randint(0, len(rest) // 3)], one=one, two=two)
+    elif game == "table":
+        p = dict(states=tables.playable(r, 6))
     else:
         nodes = r.randint(2, 6)
         p = dict(nodes=nodes, edges=[n for _ in range(r.randint(1, 2 * nodes)) for n in r.sample(range(nodes), 2)],
@@ -187,10 +212,10 @@ def number(text, word):
     return int(re.search(rf"^{word} (-?\d+)$", text, re.M)[1])
 
 
-def fault(program, position, value):
+def fault(program, position, value, linear):
     """What is wrong with the program's bounds of a position with this value, or None; and whether they were exact."""
     exact = False
-    for asked in position, dict(position, stages="linear", weight=1048576):
+    for asked in [position] + [dict(position, stages="linear", weight=1048576)] * linear:
         status, text = answer(program, "solve", json.dumps(asked))
         if status not in (0, 3, 4, 5):
             return f"solve: status {status}, {text}", False
@@ -207,12 +232,16 @@ def fault(program, position, value):
 
 
 def main():
-    words = sys.argv[1:]
+    named = [word for word in sys.argv[1:] if word in RULES]
+    linear = "regret" not in sys.argv
+    words = [word for word in sys.argv[1:] if word not in RULES and word != "regret"]
     if not words:
-        sys.exit("usage: true_value.py PROGRAM [COUNT [SEED]]")
+        sys.exit("usage: true_value.py PROGRAM [COUNT [SEED]] [regret] [GAME ..]")
     program = str(Path(words[0]).resolve())
     count, seed = (int(word) for word in (words[1:] + ["100", "1"][len(words) - 1:]))
     told = re.findall(r"`(\w+)`", re.search(r"^\| each \| `game` \| text \|([^|]*)\|", FORMATS.read_text(), re.M)[1])
+    assert set(told) <= set(RULES), "rules are missing"
+    told = named or told
     r, failed, tried, exact, mixed = random.Random(seed), 0, 0, 0, 0
     while tried < count:
         position = tiny_position(r, told[tried % len(told)])
@@ -220,15 +249,15 @@ def main():
         if value is None:
             continue
         tried += 1
-        found, equal = fault(program, position, value)
+        found, equal = fault(program, position, value, linear)
         exact += equal
         mixed += value.denominator > 1
         if found:
             failed += 1
             print("FAILED", json.dumps(position), "value", value * SCALE, found)
-    left_out = sorted(set(RULES) - set(told))
-    print(f"{tried - failed} passed, {failed} failed, {exact} closed exactly, {mixed} with mixed values; left out: {left_out or 'none'}")
+    print(f"{tried - failed} passed, {failed} failed, {exact} closed exactly, {mixed} with mixed values")
     sys.exit(failed > 0 or exact == 0 or mixed == 0)
 
 
-main()
+if __name__ == "__main__":
+    main()

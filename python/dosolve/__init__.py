@@ -33,9 +33,18 @@ Players:
     live_match(game, one, two)                 games of any players, of histories too
     load_player(path)                          the player of a file
 
+Any finite game:
+
+    Table.from_matrix(payoffs, ones, twos)     a game of one turn
+    Table.repeated(payoffs, rounds)            a matrix played for some rounds
+    Table.from_functions(root, moves, after, payoff)   a game told by functions
+    Table.from_openspiel(game)                 anything with OpenSpiel's calls
+    Table.from_game(game)                      a game of this package, or a subclass of `Game`
+    Table.from_gambit(path)                    a file of Gambit
+
 A `Position` is a game with what is asked, a `Report` has bounds and both plans, a `Sheet` is a
-plan. Games are `Goofspiel`, `GoofspielDrawn`, `OshiZumo`, `Tron` and `Pursuit`; a state has
-`moves(side)`, `play(one=.., two=..)`, `is_end` and `payoff`. Both sides are `SIDES`. Pictures are
+plan. Games are `Goofspiel`, `GoofspielDrawn`, `OshiZumo`, `Tron`, `Pursuit` and `Table`; a state
+has `moves(side)`, `play(one=.., two=..)`, `is_end` and `payoff`. Both sides are `SIDES`. Pictures are
 in `dosolve.pictures`, OpenSpiel's names in `dosolve.openspiel`, limits in `dosolve.limits`.
 Bounds, gaps and resolutions are millionths of a payoff, what One gets; payoffs are whole; moves,
 draws and cells are numbered from 0. `dosolve-py --help` is the same on a command line.
@@ -43,7 +52,7 @@ draws and cells are numbered from 0. `dosolve-py --help` is the same on a comman
 from . import limits, openspiel, pictures
 from .errors import (
     DosolveError, InputRefused, InputRefusedError, Invalid, InvalidError, LimitReached,
-    LimitReachedError, PlayerError, ProgramFailed, ProgramFailedError, ProgramMissing,
+    LimitReachedError, NoTableError, PlayerError, ProgramFailed, ProgramFailedError, ProgramMissing,
     ProgramMissingError, ProgramTimeoutError, Refused, RefusedError, ReportRefused,
     ReportRefusedError,
 )
@@ -63,6 +72,7 @@ from .progress import Bar, Progress, read_progress
 from .pursuit import Pursuit, PursuitState
 from .reports import OUTCOMES, Report
 from .sweeps import Swept, read_positions, sweep
+from .table import Table, TableState
 from .tournaments import Pairing, Tournament, tournament
 from .tron import DIRECTIONS, Tron, TronState
 
@@ -79,15 +89,16 @@ __all__ = [
     "Position", "Report", "Sheet", "Row", "Accepted", "WorstCase", "Match", "Turn", "Measured",
     "BestResponse", "Swept", "Tournament", "Pairing", "Progress", "Bar", "HistoryPlayer",
     # Games.
-    "Goofspiel", "GoofspielDrawn", "OshiZumo", "Tron", "Pursuit", "Game", "State",
+    "Goofspiel", "GoofspielDrawn", "OshiZumo", "Tron", "Pursuit", "Table", "Game", "State",
     "GoofspielState", "GoofspielDrawnState", "OshiZumoState", "TronState", "PursuitState",
+    "TableState",
     # Types and constants.
     "Side", "SIDES", "Move", "Choice", "Player", "SCALE", "CHANCE", "GAMES", "ASKED", "OUTCOMES",
     "DIRECTIONS", "limits", "openspiel", "pictures",
     # Errors.
     "DosolveError", "InvalidError", "PlayerError", "ProgramMissingError", "ProgramFailedError",
     "ProgramTimeoutError", "RefusedError", "InputRefusedError", "ReportRefusedError",
-    "LimitReachedError",
+    "LimitReachedError", "NoTableError",
     # Names of earlier versions.
     "Invalid", "ProgramMissing", "ProgramFailed", "Refused", "InputRefused", "ReportRefused",
     "LimitReached",

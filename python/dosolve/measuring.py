@@ -16,10 +16,10 @@ from .exact import expected_of
 from .game import SIDES, Side, other, side_of
 from .histories import NO_PLAN, HistoryPlayer, takes_history
 from .plans import ASKED_AGAIN, Sheet, plan
-from .positions import FilePath, Position, require_position
+from .positions import Position, require_position
 from .program import Match, Solver, WorstCase
 from .reports import Report
-from .values import as_points
+from .values import FilePath, as_points
 
 Player = Callable[[Side, Any], Any]
 """A function from a side and a state to one probability or weight for each of
@@ -126,7 +126,7 @@ def measure(position: Position, player: Player, side: Side, solved: Report | Non
     mine = plan_of(position, player, side_of(side))
     found = solved or solver.solve(position)
     if (found.game, found.weight) != (position.game, position.weight):
-        raise InvalidError(f"the report is not of this position: {found.game.line()}, weight "
+        raise InvalidError(f"the report is not of this position: {found.game.title()}, weight "
                            f"{found.weight}")
     yours = found.sheet(other(side))
     one, two = (mine, yours) if side == "one" else (yours, mine)

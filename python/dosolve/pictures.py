@@ -17,12 +17,11 @@ from typing import Any
 from .errors import DosolveError, InvalidError
 from .game import CHANCE, SCALE, SIDES, Move, Side, State
 from .plans import Sheet
-from .positions import FilePath
 from .progress import Progress
 from .pursuit import PursuitState
 from .reports import Report
 from .tron import TronState
-from .values import as_points, cut
+from .values import FilePath, as_points, cut
 
 _COLOURS: dict[Side, str] = {"one": "#1f6fb4", "two": "#c8501e"}
 _BOUNDS: tuple[tuple[Side, str], ...] = (("one", "lower"), ("two", "upper"))

@@ -86,7 +86,7 @@ class Sheet:
         return self.total
 
     def __repr__(self) -> str:
-        return (f"<Sheet of player {self.side} in {cut(self.game.line(), 60)}: "
+        return (f"<Sheet of player {self.side} in {cut(self.game.title(), 60)}: "
                 f"{len(self.rows)} rows of weight {self.total}>")
 
     @cached_property
@@ -96,8 +96,8 @@ class Sheet:
     def row(self, state: State) -> Row | None:
         """The row of the state, whether or not it is a good one; None where there is none."""
         if state.game != self.game:
-            raise InvalidError(f"a state of the game {state.game.line()} is none of the plan's "
-                               f"game {self.game.line()}")
+            raise InvalidError(f"a state of the game {state.game.title()} is none of the plan's "
+                               f"game {self.game.title()}")
         return self._by_key.get(state.key)
 
     def weights(self, state: State) -> tuple[int, ...]:
@@ -313,18 +313,18 @@ def _proved(graph: Graph, side: Side, weights: Mapping[int, tuple[int, ...]],
         if state.is_end:
             values[at] = sign * state.payoff * SCALE
             continue
-        row, chances = weights[state.key], state._chances()
+        row = weights[state.key]
         sums: dict[int, int] = {}
         for (one, two), cell in zip(graph.pairs[at], graph.cells[at]):
             move, reply = (one, two) if side == "one" else (two, one)
-            sums[reply] = sums.get(reply, 0) + row[move] * _mean(cell, chances, values)
+            sums[reply] = sums.get(reply, 0) + row[move] * _mean(cell, values)
         values[at] = min(sums.values()) // total
     return {state.key: sign * values[at] for at, state in enumerate(graph.states)
             if not state.is_end}
 
 
-def _mean(cell: Cell, chances: Sequence[int], values: Sequence[int]) -> int:
+def _mean(cell: Cell, values: Sequence[int]) -> int:
     """The mean over the draws of one pair of moves, rounded down."""
     if isinstance(cell, int):
         return values[cell]
-    return sum(chance * values[after] for chance, after in zip(chances, cell)) // CHANCE
+    return sum(chance * values[after] for chance, after in cell) // CHANCE

@@ -23,10 +23,10 @@ from .exact import BestResponse, expected_of, respond
 from .game import SCALE, SIDES, Side, other, side_of
 from .limits import MOST_GAMES, MOST_SEED
 from .plans import Sheet
-from .positions import FilePath, Position, require_position
+from .positions import Position, require_position
 from .progress import Bar, Follower, Listener
 from .reports import Report
-from .values import as_field, cut, require_range, shorten
+from .values import FilePath, as_field, cut, require_range, shorten
 
 BLOCKS = 40
 """The blocks of games of a match, from whose means its standard error is made."""
@@ -183,7 +183,7 @@ class Solver:
             follower = Follower(listener, since, bounds)
         text = self._answer(["solve"], position.text(), {0, 3, 4, 5}, follower, timeout)
         try:
-            return Report.read(text)
+            return Report.read(text, position.game)
         except ReportRefusedError as refusal:
             raise self._unexpected(f"no report ({refusal.text})", text) from None
 

@@ -14,9 +14,10 @@ from pathlib import Path
 from typing import IO, Any
 
 from .errors import DosolveError, InvalidError
-from .positions import FilePath, Position, processors, require_position
+from .positions import Position, processors, require_position
 from .program import Solver
 from .reports import Report
+from .values import FilePath
 
 MOST_WAITING = 256
 """How many positions an executor is handed at once."""

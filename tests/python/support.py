@@ -53,7 +53,7 @@ def children(parent: int) -> list[int]:
 
 
 def _goofspiel(kind: type[dosolve.Game], r: random.Random) -> dosolve.Game:
-    cards = r.choice([1, 2, 3, 3, 4] if kind.chance_free else [1, 2, 3])
+    cards = r.choice([1, 2, 3, 3, 4] if kind is dosolve.Goofspiel else [1, 2, 3])
     hands = [r.sample(range(1, 14), cards) for _ in range(2)]
     return kind(*hands, [r.randint(1, r.choice([3, 100])) for _ in range(cards)], r.randint(-9, 9), r.choice(["margin", "win"]))
 

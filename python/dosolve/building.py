@@ -8,7 +8,6 @@ that is possible.
 """
 from __future__ import annotations
 
-import copy
 import math
 from collections.abc import Callable, Hashable, Iterable, Iterator, Mapping, Sequence
 from dataclasses import dataclass, field
@@ -20,7 +19,7 @@ from typing import Any
 from .errors import NoTableError
 from .game import CHANCE, Game, State
 from .limits import MOST_DRAWS, MOST_MOVES, MOST_PAYOFF, MOST_RANK, MOST_STATES, SUM_ERROR
-from .values import as_plain, cut, shorten
+from .values import as_plain, is_whole, shorten
 
 MOST_DENOMINATOR = 1_000_000
 """The greatest denominator that a float is read as."""
@@ -307,6 +306,8 @@ def of_matrix(payoffs: Any, one: Sequence[Any] | None, two: Sequence[Any] | None
               rounds: int | None) -> Built:
     """The table of a matrix, played once, or for some rounds whose payoffs are summed."""
     matrix = as_plain(payoffs)
+    if rounds is not None and not (is_whole(rounds) and rounds > 0):
+        raise NoTableError(f"rounds is {shorten(rounds)}, and has to be a whole number from 1")
     try:
         rows = [[[(exact(payoff), exact(chance, "chance")) for payoff, chance in cell]
                  if isinstance(cell, (list, tuple)) else [(exact(cell), Fraction(1))]

@@ -169,17 +169,17 @@ class Sheet:
         return state.payoff * SCALE if state.is_end else self.game.opening(self.side)
 
 
-def whole_weights(values: Any, count: int, total: int,
-                  labels: Sequence[int] | None = None) -> tuple[int, ...]:
+def whole_weights(values: Any, count: int, total: int, labels: Sequence[int] | None = None,
+                  names: Sequence[str] = ()) -> tuple[int, ...]:
     """One weight for each of `count` moves, which sum to `total`.
 
-    The values stand in the order of the moves, or in a mapping by their labels, where a label that
-    is left out has none. Whole numbers, and True and False, are weights, whatever their sum; else
+    The values stand in the order of the moves, or in a mapping by their labels or names, where a
+    move that is left out has none. Whole numbers, and True and False, are weights, whatever their sum; else
     the values are probabilities, whose sum has to be 1 within 1e-6. Each value's exact share of
     the total is rounded down; what is missing then goes one each to the largest remainders, the
     earlier move first where two are equal. So whole weights of that sum stay as they are.
     """
-    numbers = [as_plain(number) for number in _listed(values, labels)]
+    numbers = [as_plain(number) for number in _listed(values, labels, names)]
     if len(numbers) != count:
         raise InvalidError(f"{len(numbers)} weights for {count} moves")
     ratios = [_ratio(move, number) for move, number in enumerate(numbers)]
@@ -198,16 +198,18 @@ def whole_weights(values: Any, count: int, total: int,
     return tuple(floors)
 
 
-def _listed(values: Any, labels: Sequence[int] | None) -> list[Any]:
+def _listed(values: Any, labels: Sequence[int] | None, names: Sequence[str]) -> list[Any]:
     """The values in the order of the moves."""
     values = as_plain(values)
     if isinstance(values, Mapping):
         if labels is None:
             raise InvalidError(f"{shorten(values)} is a mapping, and the labels are not known")
-        unknown = [label for label in values if as_plain(label) not in labels]
+        by_name = any(isinstance(label, str) for label in values)
+        known: Sequence[int | str] = names if by_name else labels
+        unknown = [label for label in values if as_plain(label) not in known]
         if unknown:
             raise InvalidError(f"{shorten(unknown[0])} is no label of a move")
-        return [values.get(label, 0) for label in labels]
+        return [values.get(label, 0) for label in known]
     if isinstance(values, Set):
         raise InvalidError(f"{shorten(values)} has no order, so it is no list of weights")
     if isinstance(values, (str, bytes)) or not isinstance(values, Iterable):
@@ -274,9 +276,16 @@ def chosen(choose: Choice, state: State, side: Side, weight: int,
                           f"probabilities instead of a move drawn by them")
     labels = state.moves(side)
     try:
-        return whole_weights(answer, len(labels), weight, labels)
+        return whole_weights(answer, len(labels), weight, labels, state.names(side))
     except InvalidError as fault:
-        raise PlayerError(f"{fault}: player {side} in {state}, whose moves are {labels}") from None
+        raise PlayerError(f"{fault}: player {side} in {state}, whose moves are {labels}"
+                          f"{_named(state, side)}") from None
+
+
+def _named(state: State, side: Side) -> str:
+    """The names of the moves, where these are more than their labels."""
+    names = state.names(side)
+    return "" if names == tuple(map(str, state.moves(side))) else f", named {names}"
 
 
 def _place(fault: Exception) -> str:

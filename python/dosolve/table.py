@@ -133,7 +133,7 @@ class Table(Game):
     scale: Fraction = Fraction(1)
 
     def __post_init__(self) -> None:
-        object.__setattr__(self, "listing", as_field(self.listing))
+        object.__setattr__(self, "listing", _frozen(self.listing))
         self.settings[0].refuse(self.listing)
         fault = self._fault()
         if fault is not None:
@@ -351,6 +351,13 @@ class Table(Game):
         """The game of a file of Gambit: a strategic form (.nfg), or an extensive form (.efg) whose
         players see each other's earlier moves."""
         return cls._of(*of_gambit(Path(path).read_text(encoding="utf-8")))
+
+
+def _frozen(value: Any) -> Any:
+    """Lists as tuples, and numbers as Python's own."""
+    if type(value) is int:
+        return value
+    return tuple(map(_frozen, value)) if type(value) in (list, tuple) else as_field(value)
 
 
 def names_file(path: FilePath) -> Path:

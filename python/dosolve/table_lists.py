@@ -4,14 +4,14 @@
 """
 from __future__ import annotations
 
-from collections.abc import Iterator, Sequence
+from collections.abc import Iterator, Mapping, Sequence
 from dataclasses import dataclass
 from itertools import accumulate
 from typing import Any
 
 from .game import CHANCE, Field
 from .limits import MOST_DRAWS, MOST_MOVES, MOST_PAYOFF, MOST_RANK, MOST_STATES
-from .values import is_whole, shorten
+from .values import shorten
 
 MOST_WIDTH = 255
 """The rows, cells and draws that a text can have in one place."""
@@ -32,6 +32,9 @@ LINE = (
 Fault = tuple[str, str]
 """The number and the words of a refusal, and what is wrong."""
 
+Draws = list[tuple[int, int]]
+"""The states that can follow, with their weights."""
+
 _LIST = (list, tuple)
 
 
@@ -51,21 +54,22 @@ class Lists:
         """The states that are no ends."""
         return (state for state, rank in enumerate(self.ranks) if rank)
 
-    def cells_of(self, state: int) -> Iterator[tuple[int, int, int]]:
-        """The place of each cell of a state in `cells`, with its row and its place there."""
+    def cells_of(self, state: int) -> range:
+        """The places of a state's cells in `cells`."""
         first = self.values[state]
-        ones, twos = self.moves[2 * state:2 * state + 2]
-        for one in range(ones):
-            for two in range(twos):
-                yield first + one * twos + two, one, two
+        return range(first, first + self.moves[2 * state] * self.moves[2 * state + 1])
 
-    def draws_of(self) -> list[list[tuple[int, int]]]:
-        """The draws of each cell, in the order of cells: states with weights."""
-        starts = [-1 - cell for cell in self.cells if cell < 0] + [len(self.draws) // 2]
+    def place(self, at: int) -> tuple[int, int, int]:
+        """The state, the row and the place there of a cell by its place in `cells`."""
+        state = next(state for state in self.inner if at in self.cells_of(state))
+        return state, *divmod(at - self.values[state], self.moves[2 * state + 1])
+
+    def draws_of(self) -> dict[int, Draws]:
+        """The draws of each cell that has any, by its place in `cells`."""
+        drawn = [(at, -1 - cell) for at, cell in enumerate(self.cells) if cell < 0]
+        ends = [first for _, first in drawn[1:]] + [len(self.draws) // 2]
         pairs = list(zip(self.draws[::2], self.draws[1::2]))
-        ends = iter(starts[1:])
-        return [[(cell, CHANCE)] if cell >= 0 else pairs[-1 - cell:next(ends)]
-                for cell in self.cells]
+        return {at: pairs[first:end] for (at, first), end in zip(drawn, ends)}
 
 
 def kind_fault(listing: Any) -> str | None:
@@ -77,13 +81,15 @@ def kind_fault(listing: Any) -> str | None:
 
 def _kind_faults(listing: Sequence[Any]) -> Iterator[str]:
     for state, told in enumerate(listing):
-        if not is_whole(told) and not isinstance(told, _LIST):
+        if type(told) is int:
+            continue
+        if not isinstance(told, _LIST):
             yield _told((state,), told, "a whole number (an end) or a list of rows")
-        for one, row in enumerate(() if is_whole(told) else told):
+        for one, row in enumerate(told):
             if not isinstance(row, _LIST):
                 yield _told((state, one), row, "a list of cells")
             for two, cell in enumerate(row):
-                if not is_whole(cell):
+                if type(cell) is not int:
                     yield from _draw_kinds((state, one, two), cell)
 
 
@@ -91,14 +97,14 @@ def _draw_kinds(place: tuple[int, ...], cell: Any) -> Iterator[str]:
     if not isinstance(cell, _LIST):
         yield _told(place, cell, "the number of a state or a list of draws")
     for number, draw in enumerate(cell):
-        if not isinstance(draw, _LIST) or not all(map(is_whole, draw)):
+        if not isinstance(draw, _LIST) or not all(type(each) is int for each in draw):
             yield _told((*place, number), draw, "a list of two whole numbers, a state and its "
                                                 f"weight out of {CHANCE}")
 
 
 def range_fault(listing: Sequence[Any]) -> str | None:
     """What is out of range in a listing whose kinds are right, the first in order."""
-    cells = sum(len(row) for state in listing if not is_whole(state) for row in state)
+    cells = sum(len(row) for state in listing if type(state) is not int for row in state)
     if len(listing) > MOST_STATES or cells > MOST_STATES:
         return f"{len(listing)} states with {cells} cells are more than {MOST_STATES}"
     return next(_range_faults(listing), None)
@@ -107,7 +113,7 @@ def range_fault(listing: Sequence[Any]) -> str | None:
 def _range_faults(listing: Sequence[Any]) -> Iterator[str]:
     draws = 0
     for state, told in enumerate(listing):
-        if is_whole(told):
+        if type(told) is int:
             if abs(told) > MOST_END:
                 yield _told((state,), told, f"from -{MOST_END} to {MOST_END}")
             continue
@@ -115,17 +121,17 @@ def _range_faults(listing: Sequence[Any]) -> Iterator[str]:
             yield f"states[{state}] has to have at most {MOST_WIDTH} rows and cells of a row"
         for one, row in enumerate(told):
             for two, cell in enumerate(row):
-                draws += 0 if is_whole(cell) else len(cell)
-                yield from _cell_ranges((state, one, two), cell)
+                if type(cell) is int:
+                    if not 0 <= cell <= MOST_NUMBER:
+                        yield _told((state, one, two), cell, f"from 0 to {MOST_NUMBER}")
+                    continue
+                draws += len(cell)
+                yield from _draw_ranges((state, one, two), cell)
     if draws > MOST_STATES // 2:
         yield f"{draws} draws are more than {MOST_STATES // 2}"
 
 
-def _cell_ranges(place: tuple[int, ...], cell: Any) -> Iterator[str]:
-    if is_whole(cell):
-        if not 0 <= cell <= MOST_NUMBER:
-            yield _told(place, cell, f"from 0 to {MOST_NUMBER}")
-        return
+def _draw_ranges(place: tuple[int, ...], cell: Sequence[Any]) -> Iterator[str]:
     if len(cell) > MOST_WIDTH:
         yield f"{_at(place)} has to have at most {MOST_WIDTH} draws"
     for number, draw in enumerate(cell):
@@ -187,10 +193,9 @@ def nested(lists: Lists) -> tuple[Any, ...]:
         if not rank:
             listing.append(lists.values[state])
             continue
-        first, twos = lists.values[state], lists.moves[2 * state + 1]
-        cells = [cell if cell >= 0 else tuple(draws[at])
-                 for at, cell in enumerate(lists.cells[first:first + lists.moves[2 * state] * twos],
-                                           first)]
+        twos = lists.moves[2 * state + 1]
+        cells = [tuple(draws[at]) if at in draws else lists.cells[at]
+                 for at in lists.cells_of(state)]
         listing.append(tuple(tuple(cells[at:at + twos]) for at in range(0, len(cells), twos)))
     return tuple(listing)
 
@@ -235,26 +240,39 @@ def _faults(lists: Lists) -> Iterator[Fault]:
                 yield (f"{rule} range {state}",
                        f"the state {state} has to have 1 to {MOST_MOVES} {about}")
     draws = lists.draws_of()
-    for judge in (_count_fault, _weight_fault, _order_fault):
-        for state in lists.inner:
-            for at, one, two in lists.cells_of(state):
-                fault = judge(draws[at], state, len(lists.ranks))
-                if fault is not None:
-                    yield (f"{fault[0]} {state} {one} {two}",
-                           f"the cell {_at((state, one, two))} {fault[1]}")
+    for judge in (_count_fault, _weight_fault):
+        for at, drawn in draws.items():
+            fault = judge(drawn)
+            if fault is not None:
+                yield _of_cell(lists, at, fault)
+    for state in lists.inner:
+        for at in lists.cells_of(state):
+            for after in _after(lists, draws, at):
+                if not state < after < len(lists.ranks):
+                    yield _of_cell(lists, at, (
+                        "88 order", f"leads to the state {after}, and has to lead to one that "
+                        f"stands behind {state}, of the {len(lists.ranks)} that there are"))
     yield from _rank_faults(lists, draws)
 
 
-Draws = list[tuple[int, int]]
+def _of_cell(lists: Lists, at: int, fault: Fault) -> Fault:
+    """A fault with the place of its cell."""
+    place = lists.place(at)
+    return f"{fault[0]} {' '.join(map(str, place))}", f"the cell {_at(place)} {fault[1]}"
 
 
-def _count_fault(draws: Draws, state: int, count: int) -> Fault | None:
+def _after(lists: Lists, draws: Mapping[int, Draws], at: int) -> Sequence[int]:
+    """The states that a cell leads to."""
+    return [after for after, _ in draws[at]] if at in draws else (lists.cells[at],)
+
+
+def _count_fault(draws: Draws) -> Fault | None:
     if 1 <= len(draws) <= MOST_DRAWS:
         return None
     return "86 draws range", f"has {len(draws)} draws, and has to have 1 to {MOST_DRAWS}"
 
 
-def _weight_fault(draws: Draws, state: int, count: int) -> Fault | None:
+def _weight_fault(draws: Draws) -> Fault | None:
     weights = [weight for _, weight in draws]
     if all(weights) and sum(weights) == CHANCE:
         return None
@@ -262,19 +280,11 @@ def _weight_fault(draws: Draws, state: int, count: int) -> Fault | None:
                           f"to {CHANCE}")
 
 
-def _order_fault(draws: Draws, state: int, count: int) -> Fault | None:
-    wrong = [after for after, _ in draws if not state < after < count]
-    if not wrong:
-        return None
-    return "88 order", (f"leads to the state {wrong[0]}, and has to lead to one that stands behind "
-                        f"{state}, of the {count} that there are")
-
-
-def _rank_faults(lists: Lists, draws: list[Draws]) -> Iterator[Fault]:
+def _rank_faults(lists: Lists, draws: Mapping[int, Draws]) -> Iterator[Fault]:
     for state in lists.inner:
         rank = lists.ranks[state]
-        after = max(lists.ranks[reached] for at, _, _ in lists.cells_of(state)
-                    for reached, _ in draws[at])
+        after = max(lists.ranks[reached] for at in lists.cells_of(state)
+                    for reached in _after(lists, draws, at))
         if rank > MOST_RANK or rank != 1 + after:
             yield (f"89 turns {state}", f"the longest way from the state {state} takes "
                    f"{1 + after} turns, its rank is {rank}, and at most {MOST_RANK} are possible")

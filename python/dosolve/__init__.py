@@ -31,7 +31,7 @@ Players:
     measure(position, player, side)            what a player guarantees, and how it does
     tournament(players, positions)             each against each, as a table
     live_match(game, one, two)                 games of any players, of histories too
-    load_player(path)                          the player of a file
+    load_player(path), load_table(path)        the player, the table of a Python file
 
 Any finite game:
 
@@ -44,23 +44,23 @@ Any finite game:
 
 A `Position` is a game with what is asked, a `Report` has bounds and both plans, a `Sheet` is a
 plan. Games are `Goofspiel`, `GoofspielDrawn`, `OshiZumo`, `Tron`, `Pursuit` and `Table`; a state
-has `moves(side)`, `play(one=.., two=..)`, `is_end` and `payoff`. Both sides are `SIDES`. Pictures are
-in `dosolve.pictures`, OpenSpiel's names in `dosolve.openspiel`, limits in `dosolve.limits`.
+has `moves(side)`, `play(one=.., two=..)`, `is_end` and `payoff`. Both sides are `SIDES`. Pictures
+are in `dosolve.pictures`, OpenSpiel's names in `dosolve.openspiel`, limits in `dosolve.limits`.
 Bounds, gaps and resolutions are millionths of a payoff, what One gets; payoffs are whole; moves,
 draws and cells are numbered from 0. `dosolve-py --help` is the same on a command line.
 """
 from . import limits, openspiel, pictures
 from .errors import (
     DosolveError, InputRefused, InputRefusedError, Invalid, InvalidError, LimitReached,
-    LimitReachedError, NoTableError, PlayerError, ProgramFailed, ProgramFailedError, ProgramMissing,
-    ProgramMissingError, ProgramTimeoutError, Refused, RefusedError, ReportRefused,
-    ReportRefusedError,
+    LimitReachedError, NoTableError, PlayerError, ProgramFailed, ProgramFailedError,
+    ProgramMissing, ProgramMissingError, ProgramTimeoutError, Refused, RefusedError,
+    ReportRefused, ReportRefusedError,
 )
 from .exact import BestResponse, expected_of, respond
 from .game import CHANCE, SCALE, SIDES, Game, Move, Side, State, other
 from .goofspiel import Goofspiel, GoofspielDrawn, GoofspielDrawnState, GoofspielState
 from .histories import HistoryPlayer, live_match
-from .measuring import Measured, Player, load_player, measure
+from .measuring import Measured, Player, load_player, load_table, measure
 from .oshi_zumo import OshiZumo, OshiZumoState
 from .plans import Choice, Row, Sheet, plan, whole_weights
 from .positions import ASKED, GAMES, Position, processors
@@ -68,7 +68,7 @@ from .program import (
     Accepted, Match, Solver, Turn, WorstCase, best_response, bounds, check, expected, exploit,
     find_program, match, nash_conv, play, solve,
 )
-from .progress import Bar, Progress, read_progress
+from .progress import Bar, PlanProgress, Progress, read_progress
 from .pursuit import Pursuit, PursuitState
 from .reports import OUTCOMES, Report
 from .sweeps import Swept, read_positions, sweep
@@ -83,11 +83,12 @@ __all__ = [
     "solve", "check", "bounds", "exploit", "play", "match", "best_response", "nash_conv",
     "expected", "sweep", "Solver", "find_program",
     # Players.
-    "plan", "measure", "tournament", "live_match", "load_player", "whole_weights", "expected_of",
-    "respond", "read_positions", "read_progress", "processors", "other",
+    "plan", "measure", "tournament", "live_match", "load_player", "load_table", "whole_weights",
+    "expected_of", "respond", "read_positions", "read_progress", "processors", "other",
     # What is handed over and handed back.
     "Position", "Report", "Sheet", "Row", "Accepted", "WorstCase", "Match", "Turn", "Measured",
-    "BestResponse", "Swept", "Tournament", "Pairing", "Progress", "Bar", "HistoryPlayer",
+    "BestResponse", "Swept", "Tournament", "Pairing", "Progress", "PlanProgress", "Bar",
+    "HistoryPlayer",
     # Games.
     "Goofspiel", "GoofspielDrawn", "OshiZumo", "Tron", "Pursuit", "Table", "Game", "State",
     "GoofspielState", "GoofspielDrawnState", "OshiZumoState", "TronState", "PursuitState",

@@ -159,9 +159,15 @@ class State(ABC):
         return tuple(map(str, self.moves(side)))
 
     def move(self, side: Side, label: int | str) -> Move:
-        """The number of the move with this label, or with this name."""
-        known: tuple[int | str, ...]
-        known = self.names(side) if isinstance(label, str) else self.moves(side)
+        """The number of the move with this label, or with this name; a label as a text will do
+        where no move has that name."""
+        known: tuple[int | str, ...] = self.moves(side)
+        if isinstance(label, str):
+            names = self.names(side)
+            if label in names or not label.isdecimal():
+                known = names
+            else:
+                label = int(label)
         if label not in known:
             raise InvalidError(f"player {side} has no move {shorten(label)} in {self}, whose moves "
                                f"are {known}")

@@ -16,6 +16,7 @@ from .graph import Cell, Graph, walk
 from .limits import (
     LEAST_WEIGHT, MOST_BOUND, MOST_KEY, MOST_MOVES, MOST_ROWS, MOST_WEIGHT, SUM_ERROR,
 )
+from .progress import Asking, Bar, PlanListener
 from .values import as_plain, cut, require_range, shorten
 
 ASKED_AGAIN = 64
@@ -116,6 +117,11 @@ class Sheet:
         return {label: Fraction(weight, self.total)
                 for label, weight in zip(labels, self.weights(state))}
 
+    def named(self, state: State) -> dict[str, Fraction]:
+        """What the plan plays in a state that is no end: the probability of each move by its
+        name."""
+        return dict(zip(state.names(self.side), self.probabilities(state).values()))
+
     def sample(self, state: State, source: Source | None = None) -> Move:
         """A move for a live match, its number from 0, drawn by the plan's weights; its label is
         `state.moves(side)[move]`.
@@ -174,10 +180,11 @@ def whole_weights(values: Any, count: int, total: int, labels: Sequence[int] | N
     """One weight for each of `count` moves, which sum to `total`.
 
     The values stand in the order of the moves, or in a mapping by their labels or names, where a
-    move that is left out has none. Whole numbers, and True and False, are weights, whatever their sum; else
-    the values are probabilities, whose sum has to be 1 within 1e-6. Each value's exact share of
-    the total is rounded down; what is missing then goes one each to the largest remainders, the
-    earlier move first where two are equal. So whole weights of that sum stay as they are.
+    move that is left out has none. Whole numbers, and True and False, are weights, whatever their
+    sum; else the values are probabilities, whose sum has to be 1 within 1e-6. Each value's exact
+    share of the total is rounded down; what is missing then goes one each to the largest
+    remainders, the earlier move first where two are equal. So whole weights of that sum stay as
+    they are.
     """
     numbers = [as_plain(number) for number in _listed(values, labels, names)]
     if len(numbers) != count:
@@ -231,7 +238,7 @@ def _ratio(move: int, number: Any) -> tuple[int, int]:
 
 
 def plan(game: Game, side: Side, choose: Choice, weight: int = MOST_WEIGHT,
-         ask_again: int = ASKED_AGAIN) -> Sheet:
+         ask_again: int = ASKED_AGAIN, progress: PlanListener | bool = False) -> Sheet:
     """The sheet of a player given as a function from a state to a probability or weight for each
     move, in their order or as a mapping from labels.
 
@@ -240,22 +247,29 @@ def plan(game: Game, side: Side, choose: Choice, weight: int = MOST_WEIGHT,
     the module `random` itself, is no plan, and is refused. `whole_weights` makes the row's weights
     of its answer, which sum to `weight` (8192 to 1048576). Each row's bound is what the weights
     prove from the bounds of the states that follow, in millionths, rounded down for One and up for
-    Two, so that `check` accepts the sheet.
+    Two, so that `check` accepts the sheet. `progress` is a function that is called about once a
+    second (`PlanProgress`), or True for a line on the terminal.
     """
     require_range("the weight of a row", weight, LEAST_WEIGHT, MOST_WEIGHT)
     side_of(side)
     asked: dict[int, tuple[int, ...]] = {}
+    bar = Bar()
+    asking = Asking(bar if progress is True else progress or None)
 
     def followed(state: State) -> tuple[Sequence[int], Sequence[int]]:
         weights = chosen(choose, state, side, weight, watched=ask_again > 0)
         asked[state.key] = weights
+        asking.count()
         moves = [move for move, chance in enumerate(weights) if chance]
         replies = range(len(state.moves(other(side))))
         return (moves, replies) if side == "one" else (replies, moves)
 
-    graph = walk(game, followed)
-    _ask_again(choose, [state for state in graph.states if state.key in asked], side, asked,
-               ask_again)
+    try:
+        graph = walk(game, followed)
+        _ask_again(choose, [state for state in graph.states if state.key in asked], side, asked,
+                   ask_again)
+    finally:
+        bar.close()
     bounds = _proved(graph, side, asked, weight)
     rows = (Row(key, bounds[key], asked[key]) for key in sorted(asked))
     return Sheet(game, side, weight, tuple(rows))

@@ -20,7 +20,7 @@ from .errors import (
     ProgramMissingError, ProgramTimeoutError, ReportRefusedError,
 )
 from .exact import BestResponse, expected_of, respond
-from .game import SCALE, SIDES, Side, other, side_of
+from .game import SCALE, SIDES, Game, Side, State, other, side_of
 from .limits import MOST_GAMES, MOST_SEED
 from .plans import Sheet
 from .positions import Position, require_position
@@ -120,6 +120,19 @@ class Match:
     def mean(self) -> Fraction:
         """The mean payoff of One."""
         return Fraction(self.sum, self.games)
+
+    def told(self, game: Game) -> list[str]:
+        """The turns of the first game in words: the state, both moves by their names, and the
+        draw where there are several."""
+        state: State = game.root()
+        lines = []
+        for turn in self.turns:
+            one, two = state.move("one", turn.one), state.move("two", turn.two)
+            drawn = f", draw {turn.draw}" if len(state.chances(one, two)) > 1 else ""
+            names = state.names("one")[one], state.names("two")[two]
+            lines.append(f"{state}: {names[0]} - {names[1]}{drawn}")
+            state = state.after(one, two, turn.draw)
+        return lines
 
 
 @dataclass(frozen=True)

@@ -14,6 +14,7 @@ table is refused by a `NoTableError` with the reason.
 """
 from __future__ import annotations
 
+import csv
 import hashlib
 import json
 from collections.abc import Callable, Hashable, Iterator, Sequence
@@ -23,8 +24,8 @@ from functools import cached_property
 from pathlib import Path
 from typing import Any
 
-from .building import Built, of_functions, of_game, of_matrix
-from .errors import InputRefusedError, InvalidError
+from .building import Built, exact, of_functions, of_game, of_matrix
+from .errors import InputRefusedError, InvalidError, NoTableError
 from .gambit import of_gambit
 from .game import CHANCE, Field, Game, Side, State, side_of
 from .openspiel_tables import of_openspiel
@@ -358,6 +359,38 @@ def _frozen(value: Any) -> Any:
     if type(value) is int:
         return value
     return tuple(map(_frozen, value)) if type(value) in (list, tuple) else as_field(value)
+
+
+def read_matrix(path: FilePath) -> tuple[list[list[Any]], list[str] | None, list[str] | None]:
+    """The matrix of a file, with the names of the moves of One and of Two where it has any.
+
+    A JSON file has a list of rows; a CSV file a row on each line, the names of Two's moves in the
+    first line and those of One's in the first column, where these are no numbers.
+    """
+    file = Path(path)
+    text = file.read_text(encoding="utf-8")
+    if file.suffix == ".json":
+        try:
+            return json.loads(text), None, None
+        except ValueError as fault:
+            raise NoTableError(f"{path} is no JSON: {fault}") from None
+    if file.suffix != ".csv":
+        raise NoTableError(f"{path} has to end with .csv, .json, .nfg, .efg or .py")
+    rows: list[list[Any]] = [row for row in csv.reader(text.splitlines()) if row]
+    two = rows.pop(0) if rows and not all(map(_is_number, rows[0][1:])) else None
+    one = None
+    if rows and not all(_is_number(row[0]) for row in rows):
+        one = [row.pop(0) for row in rows]
+        two = two[1:] if two else None
+    return rows, one, two
+
+
+def _is_number(word: str) -> bool:
+    try:
+        exact(word)
+    except NoTableError:
+        return False
+    return True
 
 
 def names_file(path: FilePath) -> Path:

@@ -95,7 +95,7 @@ class Steps(unittest.TestCase):
         found = dosolve.read_progress(lines)
         self.assertEqual([step.turns for step in found], [12, 17, 25])
         self.assertEqual([step.gap for step in found], [None, None, 1_500_000])
-        self.assertEqual(str(found[2]), "2 s, 25 turns, gap 1.500000")
+        self.assertEqual(str(found[2]), "2 s, 25 turns, -1.000000 to 0.500000, gap 1.500000")
 
     def test_the_bar_is_for_terminals(self):
         class Terminal(io.StringIO):

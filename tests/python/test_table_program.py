@@ -3,6 +3,7 @@ and the tables of built-in games beside these games. The program has to know tab
 import json
 import os
 import random
+import re
 import subprocess
 import sys
 import tempfile
@@ -31,17 +32,18 @@ def answer(command, given):
     return run.stdout, run.returncode
 
 
-def value(table):
-    """The value of a table in payoffs of its rules, near enough."""
-    low, high = dosolve.solve(position(table, turns=10**6)).interval
-    assert high - low < 0.01, (low, high)
-    return float(low + high) / 2
+class Enclosing(unittest.TestCase):
+    def encloses(self, table, value, most=Fraction(1, 100)):
+        """That the bounds of a table, in payoffs of its rules, enclose this value narrowly."""
+        low, high = dosolve.solve(position(table, turns=10**6)).interval
+        self.assertTrue(low <= value <= high, (low, value, high))
+        self.assertLess(high - low, most)
 
 
 class Texts(unittest.TestCase):
     def test_positions_are_refused_alike(self):
         source, told = random.Random(21), set()
-        for number in range(400):
+        for number in range(300):
             listing = random_listing(source)
             text = json.dumps({"game": "table", "states": listing, "gap": 0, "weight": 8192,
                                "turns": 0, "visits": 1, "rows": 9, "workers": 1}).encode()
@@ -65,7 +67,7 @@ class Texts(unittest.TestCase):
             pieces[place] + b",1", pieces[place].replace(b"[", b"[[", 1),
             pieces[place].replace(b"1", b"4001"), pieces[place].replace(b"1", b"0"),
             pieces[place].replace(b"2", b"999999999"), pieces[place].replace(b"1", b'"x"'),
-            pieces[place].replace(b"[[", b"[[1],[", 1), pieces[place].replace(b"3", b"[]")])
+            pieces[place].replace(b"[[", b"[[1],[", 1), re.sub(rb"[0-9]+", b"[]", pieces[place])])
         return b",".join(pieces)
 
     def test_each_refusal(self):
@@ -83,7 +85,7 @@ class Texts(unittest.TestCase):
         texts = [answer("solve", position(Table(listing), weight=8192, turns=50,
                                           stages="regret").text().encode())[0]
                  for listing in (STAGES, [[[1, 2], [2, 1]], 1, -1], [[[[[1, 360360]]]], 3], [2])]
-        for _ in range(600):
+        for _ in range(400):
             text = source.choice(texts)
             head, line, rest = text.split(b"\n", 2)
             if source.random() < 0.7:
@@ -112,11 +114,13 @@ class Texts(unittest.TestCase):
                 self.assertEqual(dosolve.best_response(report, side).side, side)
 
 
-class Values(unittest.TestCase):
+class Values(Enclosing):
     def test_matrices(self):
-        self.assertAlmostEqual(value(Table.from_matrix([[0, -1, 1], [1, 0, -1], [-1, 1, 0]])), 0, 5)
-        self.assertAlmostEqual(value(Table.from_matrix([[Fraction(1, 3), 0.5], [0.25, 1]])), 1 / 3, 5)
-        self.assertAlmostEqual(value(Table.from_matrix([[3, -1], [-1, 1]])), 1 / 3, 3)
+        for matrix, value in (([[0, -1, 1], [1, 0, -1], [-1, 1, 0]], 0),
+                              ([[Fraction(1, 3), 0.5], [0.25, 1]], Fraction(1, 3)),
+                              ([[3, -1], [-1, 1]], Fraction(1, 3)),
+                              ([[80000, -40000], [-40000, 40000]], Fraction(40000, 5))):
+            self.encloses(Table.from_matrix(matrix), value, 500 if value > 1 else 0.01)
 
     def test_equal_payoffs(self):
         asked = position(Table([[[1, 2], [2, 1]], 3, 3]), visits=0, rows=1)
@@ -127,26 +131,24 @@ class Values(unittest.TestCase):
         self.assertEqual(dosolve.check(found).outcome, "closed")
 
     def test_rounds(self):
-        table = Table.repeated([[2, -1], [-1, 1]], 3)
-        self.assertAlmostEqual(value(table), 0.6, 3)
-        self.assertAlmostEqual(value(Table.repeated([[1, -1], [-1, 1]], 31)), 0, 2)
+        self.encloses(Table.repeated([[2, -1], [-1, 1]], 3), Fraction(3, 5))
+        self.encloses(Table.repeated([[1, -1], [-1, 1]], 8), 0, Fraction(1, 20))
 
     def test_chances(self):
         for count in (13, 14, 36, 52, 1001):
             table = Table.from_functions(
                 "root", lambda node: (["only"], []) if node == "root" else None,
                 lambda *_: dict.fromkeys(range(count), Fraction(1, count)), lambda node: node % 3)
-            want = sum(node % 3 for node in range(count)) / count
-            self.assertAlmostEqual(value(table), want, 5)
+            self.encloses(table, Fraction(sum(node % 3 for node in range(count)), count))
 
     def test_nim(self):
         for left in range(1, 12):
             for player in (0, 1):
-                want = 0.5 if (left % 4 != 1) == (player == 0) else -0.5
-                self.assertAlmostEqual(value(Table.from_openspiel(Nim(left, player))), want, 5)
+                wins = (left % 4 != 1) == (player == 0)
+                self.encloses(Table.from_openspiel(Nim(left, player)), Fraction(2 * wins - 1, 2))
 
 
-class BuiltIn(unittest.TestCase):
+class BuiltIn(Enclosing):
     def test_tables_of_games_are_worth_what_the_games_are(self):
         D = dosolve
         games = [D.Goofspiel([1, 2, 3], [1, 2, 3], [1, 2, 3]),
@@ -183,17 +185,14 @@ class BuiltIn(unittest.TestCase):
                 walked = Table.from_openspiel(Bids(cards, first))
                 game = dosolve.GoofspielDrawn(cards, cards, [first, *rest])
                 self.assertEqual(dosolve.bounds(position(walked)), dosolve.bounds(position(game)))
-                self.assertAlmostEqual(value(walked), value(Table.from_game(game)), 3)
-            self.assertAlmostEqual(value(Table.from_openspiel(Bids(cards))), 0, 3)
+            self.encloses(Table.from_openspiel(Bids(cards)), 0)
 
     def test_plans_are_measured_alike(self):
         game = dosolve.Goofspiel([1, 2, 3], [1, 2, 3], [3, 1, 2])
         table = Table.from_game(game)
         for side in dosolve.SIDES:
             mine = dosolve.plan(game, side, lambda state: [1] * len(state.moves(side)), 8192)
-            ours = dosolve.plan(table, side, lambda state: mine.probabilities(state.node), 8192) \
-                if side == "three" else dosolve.plan(
-                    table, side, lambda state: list(mine.weights(state.node)), 8192)
+            ours = dosolve.plan(table, side, lambda state: mine.weights(state.node), 8192)
             worst = []
             for sheet in (mine, ours):
                 other = dosolve.Sheet(sheet.game, dosolve.other(side), 8192)
@@ -233,7 +232,7 @@ class Names(unittest.TestCase):
             (folder / "n.json").write_text("[[0, -1], [1, 0]]")
             made = run("table", folder / "n.json", "-o", folder / "n.position", "--rounds", 3,
                        "--json")
-            self.assertEqual(json.loads(made.stdout), {"states": 13, "scale": "1"})
+            self.assertEqual(json.loads(made.stdout), {"states": 16, "scale": "1"})
 
 
 if __name__ == "__main__":

@@ -63,6 +63,9 @@ class TableState(State):
         name = cut(" ".join(self.name.split()), 60)
         return f"TableState({self.number}{f', {name!r}' if name else ''})"
 
+    def __str__(self) -> str:
+        return self.name or f"state {self.number}"
+
     @property
     def name(self) -> str:
         """The state's name, empty where the table has none."""
@@ -307,7 +310,8 @@ class Table(Game):
                  two: Sequence[Any] | None = None) -> Table:
         """A matrix that is played for some rounds (1 to 31), and pays the sum."""
         return cls._of(of_matrix(payoffs, one, two, rounds),
-                       lambda node: f"{node[0]} rounds left, sum {node[1]}")
+                       lambda node: f"{node[0]} round{'s' if node[0] > 1 else ''} left, sum "
+                                    f"{node[1]}")
 
     @classmethod
     def from_functions(cls, root: Hashable, moves: Callable[[Any], Any],

@@ -30,7 +30,7 @@ def payoff(node):
 def name(node):
     """How a state is shown."""
     left, ahead = node
-    return f"{left} rounds left, One is ahead by {ahead}"
+    return f"round {4 - left}, One is ahead by {ahead}"
 
 
 def table():

@@ -195,7 +195,7 @@ class Making(unittest.TestCase):
         table = Table.repeated([[1, -1], [-1, 1]], 3, "HT", "HT")
         self.assertEqual((table.root().rank, table.root().name), (3, "3 rounds left, sum 0"))
         after = table.root().play(one="H", two="H").play(one="H", two="T")
-        self.assertEqual((after.name, after.node), ("1 rounds left, sum 0", (1, 0)))
+        self.assertEqual((after.name, after.node), ("1 round left, sum 0", (1, 0)))
         self.assertEqual(table.at((1, 0)), after)
         self.assertEqual(Table.repeated([[1, -1], [-1, 1]], 31).root().rank, 31)
         self.refused("32 turns", Table.repeated, [[1, -1], [-1, 1]], 32)

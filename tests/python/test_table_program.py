@@ -208,7 +208,7 @@ class Names(unittest.TestCase):
         self.assertIs(report.game, table)
         self.assertIn("one    paper 100.0%", str(report))
         told = dosolve.play(report, 1).told(table)
-        self.assertEqual(told[0], "TableState(0, '2 rounds left, sum 0'): paper - paper")
+        self.assertEqual(told[0], "2 rounds left, sum 0: paper - paper")
         self.assertEqual(len(told), 2)
 
     def test_the_command_line(self):
@@ -226,7 +226,7 @@ class Names(unittest.TestCase):
             self.assertIn("one    paper 100.0%", solved.stdout)
             self.assertIn("payoffs and bounds are those of the rules times 2", solved.stdout)
             told = run("match", folder / "m.report", "--games", 10)
-            self.assertIn("turn TableState(0, 'root'): paper - paper\npayoff 0\n", told.stdout)
+            self.assertIn("turn root: paper - paper\npayoff 0\n", told.stdout)
             self.assertEqual(run("check", folder / "m.report").returncode, 0)
             (folder / "m.json").unlink()
             (folder / "n.json").write_text("[[0, -1], [1, 0]]")

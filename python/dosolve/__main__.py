@@ -164,9 +164,8 @@ def _match(words: argparse.Namespace) -> None:
 
 
 def _table(words: argparse.Namespace) -> None:
-    position = _asked(words, Position(_read_table(words.source, words.rounds)))
-    position.save(words.output)
-    table = position.game
+    table = _read_table(words.source, words.rounds)
+    _asked(words, Position(table)).save(words.output)
     if words.json:
         _print_record({"states": len(table.listing), "scale": str(table.scale)})
     else:
@@ -174,7 +173,7 @@ def _table(words: argparse.Namespace) -> None:
         print(f"{table.title()}{scale}")
 
 
-def _read_table(source: Path, rounds: int | None) -> Any:
+def _read_table(source: Path, rounds: int | None) -> Table:
     """The table of a file, by its ending."""
     if rounds is not None and source.suffix not in (".json", ".csv"):
         raise InvalidError(f"{source} is no matrix that is played for some rounds")

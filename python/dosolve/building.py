@@ -222,6 +222,7 @@ class _Walk:
         """Keeps what a node is, and gives the nodes that follow."""
         if len(self.told) >= MOST_STATES:
             raise NoTableError(f"the game has more than {MOST_STATES} states")
+        what: End | Turn
         what = (Turn([[list(node.outcomes)]], ((ONLY,), (ONLY,))) if isinstance(node, Deal)
                 else self.expand(node))
         if isinstance(what, End):

@@ -2,7 +2,7 @@
 from __future__ import annotations
 
 import copy
-from collections.abc import Callable, Hashable, Sequence
+from collections.abc import Callable, Hashable
 from fractions import Fraction
 from typing import Any
 
@@ -142,7 +142,7 @@ def _after(state: Any, action: Any) -> Any:
     return child
 
 
-def _drawn(state: Any) -> Sequence[tuple[Any, Fraction]]:
+def _drawn(state: Any) -> list[tuple[Any, Fraction]]:
     """The states behind the draws that come first, with their chances."""
     if state.is_terminal() or not state.is_chance_node():
         return [(state, Fraction(1))]

@@ -22,7 +22,7 @@ from dataclasses import dataclass, field, replace
 from fractions import Fraction
 from functools import cached_property
 from pathlib import Path
-from typing import Any
+from typing import Any, Self
 
 from .building import Built, exact, of_functions, of_game, of_matrix
 from .errors import InputRefusedError, InvalidError, NoTableError
@@ -184,7 +184,7 @@ class Table(Game):
         return listed(self.listing)
 
     @classmethod
-    def of_line(cls, *values: Any) -> Table:
+    def of_line(cls, *values: Any) -> Self:
         """The table of the five lists of a report's line."""
         lists = Lists(*values)
         fault = fault_of(lists)

@@ -10,7 +10,7 @@ from pathlib import Path
 from typing import Any
 
 from .errors import InputRefusedError, InvalidError, ReportRefusedError
-from .game import SCALE, SIDES, Game, Side
+from .game import CHANCE, SCALE, SIDES, Game, Move, Side, State
 from .limits import (
     LEAST_WEIGHT, MOST_BOUND, MOST_GAP, MOST_KEY, MOST_REPORT_BYTES, MOST_RESOLUTION, MOST_ROWS,
     MOST_TURNS, MOST_WEIGHT, MOST_WORKERS,
@@ -172,6 +172,23 @@ class Report:
         """What the plan of a side guarantees: the lower bound for One, the upper for Two;
         millionths."""
         return self.lower if side == "one" else self.upper
+
+    def stage(self, state: State) -> list[list[tuple[Fraction, Fraction]]]:
+        """The matrix game of a state, a row for each move of One: the lower and the upper bound
+        that the two plans have for what follows each pair of moves, in payoffs, exactly. Where a
+        plan has no row for a state that follows, its bound is the worst payoff of its side."""
+        if state.is_end:
+            return []
+        return [[self._worth(state.outcomes(Move(one), Move(two)))
+                 for two in range(len(state.moves("two")))]
+                for one in range(len(state.moves("one")))]
+
+    def _worth(self, outcomes: list[tuple[int, State]]) -> tuple[Fraction, Fraction]:
+        """The mean over draws of both bounds."""
+        lower, upper = (sum((Fraction(chance * sheet.bound(after), CHANCE * SCALE)
+                             for chance, after in outcomes), Fraction(0))
+                        for sheet in (self.one, self.two))
+        return lower, upper
 
     def text(self) -> str:
         """The report's one spelling."""

@@ -1,5 +1,4 @@
-"""What the tests of tables share: a table of the page, random ones, and games with OpenSpiel's
-calls."""
+"""What the tests of tables share: a table with draws, and games with OpenSpiel's calls."""
 from __future__ import annotations
 
 from types import SimpleNamespace
@@ -7,29 +6,6 @@ from types import SimpleNamespace
 STAGES = [[[2, [[2, 120120], [5, 240240]]], [[[1, 90090], [6, 270270]], 1]], [[3, 6], [6, 3]],
           [[3, 4], [5, 6]], 5, 1, -1, -5]
 """Two stages with draws."""
-
-
-def _cell(source, state, count):
-    """A cell of a state that leads to a state behind it, or to several."""
-    if source.random() < 0.7:
-        return source.randint(state + 1, count - 1)
-    draws = source.randint(1, 4)
-    cuts = sorted(source.sample(range(1, 360360), draws - 1))
-    weights = [high - low for low, high in zip([0, *cuts], [*cuts, 360360])]
-    return [[source.randint(state + 1, count - 1), weight] for weight in weights]
-
-
-def random_listing(source, least=-5, most=5):
-    """A small table: some states with moves, some ends among them."""
-    count = source.randint(1, 9)
-    listing = []
-    for state in range(count):
-        if state == count - 1 or source.random() < 0.3:
-            listing.append(source.randint(least, most))
-            continue
-        ones, twos = source.randint(1, 3), source.randint(1, 3)
-        listing.append([[_cell(source, state, count) for _ in range(twos)] for _ in range(ones)])
-    return listing
 
 
 class Bids:

@@ -10,8 +10,9 @@ from pathlib import Path
 import dosolve
 from dosolve import NoTableError, Table, openspiel
 from dosolve.table_lists import listed, nested
-from support import random_game
-from table_support import STAGES, Bids, Nim, random_listing
+from support import random_game, random_listing
+from table_support import STAGES, Bids, Nim
+from test_exact import Matching
 
 PENNIES = [[[1, 2], [2, 1]], 1, -1]
 
@@ -274,6 +275,13 @@ class Making(unittest.TestCase):
                 game = random_game(name, source)
                 table = Table.from_game(game)
                 self.same(game.root(), table.root(), {})
+
+    def test_a_game_of_ones_own(self):
+        table = Table.from_game(Matching())
+        self.assertEqual(table, Table(PENNIES))
+        self.assertEqual(table.root().play(one=0, two=1).payoff, -1)
+        with self.assertRaisesRegex(dosolve.InvalidError, "Table.from_game makes a table of it"):
+            dosolve.Position(Matching())
 
     def same(self, theirs, ours, seen):
         """That two states go on alike, move by move and draw by draw."""

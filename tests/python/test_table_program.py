@@ -13,8 +13,8 @@ from pathlib import Path
 
 import dosolve
 from dosolve import Table
-from support import TOP, random_game
-from table_support import STAGES, Bids, Nim, random_listing
+from support import TOP, random_game, random_listing
+from table_support import STAGES, Bids, Nim
 from test_texts import changed, read_back
 
 ENVIRONMENT = os.environ | {"PYTHONPATH": str(TOP / "python"), "PYTHONDONTWRITEBYTECODE": "1"}

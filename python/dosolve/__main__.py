@@ -12,7 +12,7 @@ from typing import Any
 from . import __version__, pictures
 from .errors import DosolveError, InvalidError, ProgramMissingError
 from .game import SCALE, SIDES, Side
-from .measuring import load_player, load_table, measure, solved_text
+from .measuring import load_player, load_table, measure, plan_of, solved_text
 from .positions import ASKED, Position
 from .program import Solver, find_program
 from .progress import read_progress
@@ -102,8 +102,8 @@ def _measure(words: argparse.Namespace) -> None:
         print(solved_text(solved), end="")
     records = []
     for side in [words.side] if words.side else SIDES:
-        found = measure(position, player, side, solved, words.games, words.seed, words.program,
-                        sys.stderr.isatty())
+        mine = plan_of(position, player, side, progress=sys.stderr.isatty())
+        found = measure(position, mine, side, solved, words.games, words.seed, words.program)
         records.append(found.record())
         if not words.json:
             print(found.text(), end="")

@@ -121,7 +121,8 @@ def _loaded(path: FilePath, function: str, called: str) -> Any:
 
 def plan_of(position: Position, player: Player | Sheet, side: Side,
             ask_again: int = ASKED_AGAIN, progress: PlanListener | bool = False) -> Sheet:
-    """The plan of a player for one side of a position, by rows of the position's weight."""
+    """The plan of a player for one side of a position, by rows of the position's weight; see
+    `plan`."""
     if isinstance(player, Sheet):
         if (player.game, player.side, player.total) != (position.game, side, position.weight):
             raise InvalidError(f"the plan is not one of player {side} for this position: "
@@ -134,15 +135,14 @@ def plan_of(position: Position, player: Player | Sheet, side: Side,
     return plan(position.game, side, partial(player, side), position.weight, ask_again, progress)
 
 
-def measure(position: Position, player: Player, side: Side, solved: Report | None = None,
-            games: int = 1000, seed: int = 0, program: FilePath | None = None,
-            progress: bool = False) -> Measured:
-    """Measures a player on one side of a position, against the solver's report on it, which is
-    made where none is given. With `progress` a line on the terminal shows how far it is."""
+def measure(position: Position, player: Player | Sheet, side: Side, solved: Report | None = None,
+            games: int = 1000, seed: int = 0, program: FilePath | None = None) -> Measured:
+    """Measures a player, or a plan, on one side of a position, against the solver's report on it,
+    which is made where none is given."""
     require_position(position, "measure")
     solver = Solver(program)
-    mine = plan_of(position, player, side_of(side), progress=progress)
-    found = solved or solver.solve(position, progress=progress)
+    mine = plan_of(position, player, side_of(side))
+    found = solved or solver.solve(position)
     if (found.game, found.weight) != (position.game, position.weight):
         raise InvalidError(f"the report is not of this position: {found.game.title()}, weight "
                            f"{found.weight}")

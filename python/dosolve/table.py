@@ -381,9 +381,9 @@ def read_matrix(path: FilePath) -> tuple[list[list[Any]], list[str] | None, list
     if file.suffix != ".csv":
         raise NoTableError(f"{path} has to end with .csv, .json, .nfg, .efg or .py")
     rows: list[list[Any]] = [row for row in csv.reader(text.splitlines()) if row]
-    two = rows.pop(0) if rows and not all(map(_is_number, rows[0][1:])) else None
+    two = rows.pop(0) if rows and rows[0][1:] and not any(map(_is_number, rows[0][1:])) else None
     one = None
-    if rows and not all(_is_number(row[0]) for row in rows):
+    if rows and not any(_is_number(row[0]) for row in rows):
         one = [row.pop(0) for row in rows]
         two = two[1:] if two else None
     return rows, one, two
@@ -403,9 +403,11 @@ def names_file(path: FilePath) -> Path:
 
 
 def save_names(game: Game, path: FilePath) -> None:
-    """Writes the names of a table, where it has any, beside its position or report."""
-    if isinstance(game, Table) and game.has_names:
-        names_file(path).write_text(game.names_text(), encoding="utf-8")
+    """Writes the names of a table, where it has any or others stand there, beside its position or
+    report."""
+    file = names_file(path)
+    if isinstance(game, Table) and (game.has_names or file.is_file()):
+        file.write_text(game.names_text(), encoding="utf-8")
 
 
 def with_names(game: Game, path: FilePath) -> Game:

@@ -1,14 +1,17 @@
 """Tables without the program: what they refuse, lists and listings, making them of other games."""
+import io
 import json
 import pickle
 import random
 import tempfile
 import unittest
+from contextlib import redirect_stderr, redirect_stdout
 from fractions import Fraction
 from pathlib import Path
 
 import dosolve
 from dosolve import NoTableError, Table, openspiel
+from dosolve.__main__ import main
 from dosolve.table_lists import listed, nested
 from support import random_game, random_listing
 from table_support import STAGES, Bids, Nim
@@ -45,7 +48,8 @@ class Listings(unittest.TestCase):
 
     def test_states_are_like_those_of_other_games(self):
         root = Table(STAGES).root()
-        self.assertEqual((root.key, root.rank, root.is_end, root.moves("one")), (0, 2, False, (0, 1)))
+        self.assertEqual((root.key, root.rank, root.is_end), (0, 2, False))
+        self.assertEqual(root.moves("one"), (0, 1))
         self.assertEqual(root.chances(0, 1), (120120, 240240))
         self.assertEqual([(chance, after.key) for chance, after in root.outcomes(0, 1)],
                          [(120120, 2), (240240, 5)])
@@ -394,6 +398,64 @@ class Names(unittest.TestCase):
         long = Table([[[1] * 32] * 32] * 1 + [[[at] * 32] * 32 for at in [1025] * 300] + [0] * 725)
         with self.assertRaisesRegex(dosolve.InputRefusedError, "input 50 too long: table of 1026"):
             dosolve.Position(long).text()
+
+
+class CommandLine(unittest.TestCase):
+    """`table` needs no program."""
+
+    def setUp(self):
+        folder = tempfile.TemporaryDirectory()
+        self.addCleanup(folder.cleanup)
+        self.folder = Path(folder.name)
+
+    def run_table(self, name, text, *words):
+        """Status, output and errors of the command on a file with this text."""
+        (self.folder / name).write_text(text)
+        out, told = io.StringIO(), io.StringIO()
+        with redirect_stdout(out), redirect_stderr(told):
+            status = main(["table", str(self.folder / name), "-o",
+                           str(self.folder / "made.position"), *words])
+        return status, out.getvalue(), told.getvalue()
+
+    def test_each_kind_of_source(self):
+        rps = Table.from_matrix([[0, -1], [1, 0]], ["rock", "paper"], ["rock", "paper"])
+        efg = ('EFG 2 R "" { "One" "Two" } p "" 1 1 "" { "a" "b" } 0 t "" 1 "" { 1 -1 } '
+               't "" 2 "" { 0 0 }')
+        for name, text, words, table in (
+                ("a.csv", ",rock,paper\nrock,0,-1\npaper,1,0\n", [], rps),
+                ("b.csv", "rock,paper\n0,-1\n1,0\n", [], rps),
+                ("c.csv", "rock,0,-1\npaper,1,0\n", [], rps),
+                ("d.csv", "0,-1\n\n1,0\n", [], rps), ("e.json", "[[0, -1], [1, 0]]", [], rps),
+                ("f.json", '[["0", "-1/1"], [1, 0.0]]', ["--rounds", "2"],
+                 Table.repeated([[0, -1], [1, 0]], 2)),
+                ("g.efg", efg, [], Table([[[1], [2]], 1, 0])),
+                ("h.py", "import dosolve\ndef table(): return dosolve.Table([5])", [], Table([5]))):
+            with self.subTest(name):
+                status, out, told = self.run_table(name, text, "--gap", "7", *words)
+                self.assertEqual((status, told), (0, ""))
+                self.assertIn(table.title(), out)
+                made = dosolve.Position.load(self.folder / "made.position")
+                self.assertEqual((made.game, made.gap), (table, 7))
+        named = self.run_table("a.csv", ",rock,paper\nrock,0,-1/2\npaper,1,0\n")[1]
+        self.assertIn(", payoffs times 2", named)
+        made = dosolve.Position.load(self.folder / "made.position").game
+        self.assertEqual(made.root().names("two"), ("rock", "paper"))
+
+    def test_messages(self):
+        for name, text, words, pattern in (
+                ("a.txt", "", [], "a.txt has to end with .csv, .json, .nfg, .efg or .py"),
+                ("a.json", "[", [], "a.json is no JSON: Expecting"), ("a.json", "5", [], "list of"),
+                ("a.csv", "0,x\n1,2\nz,3\n", [], "'z' is no payoff"),
+                ("a.csv", "", [], "0 by 0 moves"), ("a.py", "", [], "defines no function table"),
+                ("a.py", "def table(): return 5", [], "gives 5, and has to give a Table"),
+                ("a.py", "x", ["--rounds", "2"], "no matrix that is played for some rounds"),
+                ("a.json", "[[1]]", ["--rounds", "0"], "rounds is 0"),
+                ("a.json", "[[1]]", ["--weight", "5"], "input 15 range of weight"),
+                ("a.nfg", "5", [], "the file ends where a version")):
+            with self.subTest(pattern):
+                status, out, told = self.run_table(name, text, *words)
+                self.assertEqual((status, out, told.count("\n")), (1, "", 1), told)
+                self.assertRegex(told, f"dosolve: .*{pattern}")
 
 
 if __name__ == "__main__":

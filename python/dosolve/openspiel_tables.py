@@ -12,13 +12,17 @@ from .game import SIDES
 from .values import shorten
 
 
-def of_openspiel(game: Any, key: Callable[[Any], Hashable], rounded: bool,
+Key = Callable[[Any], Hashable]
+"""A function that tells states apart."""
+
+
+def of_openspiel(game: Any, key: Key | None, rounded: bool,
                  trust: bool) -> tuple[Built, list[Any]]:
     """The table of the game that begins at a state or at the root of a game; and its states."""
     state = game if hasattr(game, "is_terminal") else _root(game)
     _require_known(state, trust)
     walker = _Walker(key)
-    first = walker.behind(state)
+    first = walker.behind(state, 0)
     root = first[0][0] if len(first) == 1 else Deal(tuple(merged(first)))
     built = build(root, walker.expand, rounded)
     return built, [None if node is None else walker.states[node] for node in built.nodes]
@@ -45,38 +49,47 @@ def _require_known(state: Any, trust: bool) -> None:
 
 
 class _Walker:
-    """The states that a walk has met, one for each key."""
+    """The states that a walk has met, one for each key, with the turns before each.
 
-    def __init__(self, key: Callable[[Any], Hashable]) -> None:
-        self.key = key
+    Without a function `key`, states of one text are the same where as many turns were played.
+    """
+
+    def __init__(self, key: Key | None) -> None:
+        self.own_key = key
         self.states: dict[Hashable, Any] = {}
+        self.turns: dict[Hashable, int] = {}
         self.compared: set[Hashable] = set()
         self.sum: Fraction | None = None
 
-    def node(self, state: Any) -> Hashable:
+    def key(self, state: Any, turns: int) -> Hashable:
+        """What tells a state apart."""
+        return (turns, str(state)) if self.own_key is None else self.own_key(state)
+
+    def node(self, state: Any, turns: int) -> Hashable:
         """The state's key. Of the states that share one, each has to have the moves of the first,
         and the second also what follows them."""
-        key = self.key(state)
+        key = self.key(state, turns)
         first = self.states.setdefault(key, state)
         if first is state:
+            self.turns[key] = turns
             return key
         same = _moves(first) == _moves(state)
         if same and key not in self.compared and not state.is_terminal():
             self.compared.add(key)
-            same = self.followers(first) == self.followers(state)
+            same = self.followers(first, turns + 1) == self.followers(state, turns + 1)
         if not same:
             raise NoTableError(f"the key {shorten(key)} stands for states that go on differently; "
                                f"hand over another function `key`")
         return key
 
-    def followers(self, state: Any) -> list[list[tuple[Hashable, Fraction]]]:
+    def followers(self, state: Any, turns: int) -> list[list[tuple[Hashable, Fraction]]]:
         """The keys of what each pair of moves leads to, with chances."""
-        return [[(self.key(after), chance) for after, chance in outcomes]
+        return [[(self.key(after, turns), chance) for after, chance in outcomes]
                 for row in self.rows(state) for outcomes in row]
 
-    def behind(self, state: Any) -> Outcomes:
+    def behind(self, state: Any, turns: int) -> Outcomes:
         """The nodes of a state that was reached, behind draws where these come first."""
-        return [(self.node(after), chance) for after, chance in _drawn(state)]
+        return [(self.node(after, turns), chance) for after, chance in _drawn(state)]
 
     def rows(self, state: Any) -> list[list[list[tuple[Any, Fraction]]]]:
         """The states that each pair of moves leads to, behind draws."""
@@ -92,8 +105,9 @@ class _Walker:
         state = self.states[key]
         if state.is_terminal():
             return End(self.payoff(state))
-        rows = [[[(self.node(after), chance) for after, chance in outcomes] for outcomes in row]
-                for row in self.rows(state)]
+        turns = self.turns[key] + 1
+        rows = [[[(self.node(after, turns), chance) for after, chance in outcomes]
+                 for outcomes in row] for row in self.rows(state)]
         one, two = (_names(state, player) for player in (0, 1))
         return Turn(rows, (one, two))
 

@@ -28,7 +28,7 @@ from .building import Built, exact, of_functions, of_game, of_matrix
 from .errors import InputRefusedError, InvalidError, NoTableError
 from .gambit import of_gambit
 from .game import CHANCE, Field, Game, Side, State, side_of
-from .openspiel_tables import of_openspiel
+from .openspiel_tables import Key, of_openspiel
 from .table_lists import LINE, Lists, fault_of, kind_fault, listed, nested, range_fault
 from .values import FilePath, as_field, cut, shorten
 
@@ -333,13 +333,15 @@ class Table(Game):
         return cls._of(of_functions(root, moves, after, payoff, rounded), name)
 
     @classmethod
-    def from_openspiel(cls, game: Any, key: Callable[[Any], Hashable] = str,
-                       rounded: bool = False, trust: bool = False) -> Table:
+    def from_openspiel(cls, game: Any, key: Key | None = None, rounded: bool = False,
+                       trust: bool = False) -> Table:
         """The game that begins at a state, or the root of a game, with OpenSpiel's calls: moves at
         once or in turns, and draws in the open.
 
-        `key` tells states apart that go on differently. A game that says that its players do not
-        see the whole state is refused unless `trust` is set.
+        States of one text (`str`) after equally many turns are one state of the table. A function
+        `key` tells states apart otherwise: `key=str` also joins those of different turns, where
+        the text has all that the rest of the game depends on. A game that says that its players do
+        not see the whole state is refused unless `trust` is set.
         """
         built, states = of_openspiel(game, key, rounded, trust)
         return cls._of(built, str, states)

@@ -311,9 +311,15 @@ class OpenSpiel(unittest.TestCase):
         source = random.Random(6)
         for name in ("goofspiel", "goofspiel_drawn", "oshi_zumo", "tron", "pursuit"):
             game = random_game(name, source)
-            walked = Table.from_openspiel(openspiel.new_initial_state(game))
+            walked = Table.from_openspiel(openspiel.new_initial_state(game), str)
             self.assertEqual(walked, Table.from_game(game))
             self.assertEqual(walked.root().names("two"), game.root().names("two"))
+
+    def test_states_of_different_turns_are_joined_where_that_is_asked(self):
+        apart, joined = Table.from_openspiel(Nim(9)), Table.from_openspiel(Nim(9), str)
+        self.assertGreater(len(apart.listing), len(joined.listing))
+        self.assertEqual(apart.root().rank, joined.root().rank)
+        self.assertEqual(sorted(set(apart.state_names)), sorted(set(joined.state_names)))
 
     def test_turns_and_draws(self):
         table = Table.from_openspiel(Nim(3, 1))

@@ -211,6 +211,15 @@ class Names(unittest.TestCase):
         self.assertEqual(told[0], "2 rounds left, sum 0: paper - paper")
         self.assertEqual(len(told), 2)
 
+    def test_sweeps_keep_names(self):
+        tables = [Table.from_matrix([[0, bet], [1, 0]], ["a", "b"], ["c", "d"]) for bet in (1, 2)]
+        with tempfile.TemporaryDirectory() as folder:
+            for _ in range(2):
+                found = list(dosolve.sweep(map(position, tables), output=Path(folder, "out")))
+                self.assertEqual([swept.report.game for swept in found], tables)
+                self.assertEqual(found[1].report.one.named(found[1].report.game.root()).keys(),
+                                 {"a", "b"})
+
     def test_the_command_line(self):
         def run(*words):
             return subprocess.run([sys.executable, "-m", "dosolve", *map(str, words)], cwd=TOP,

@@ -57,6 +57,7 @@ from .errors import (
     ReportRefused, ReportRefusedError,
 )
 from .exact import BestResponse, expected_of, respond
+from .gambit import save_gambit
 from .game import CHANCE, SCALE, SIDES, Game, Move, Side, State, other
 from .goofspiel import Goofspiel, GoofspielDrawn, GoofspielDrawnState, GoofspielState
 from .histories import HistoryPlayer, live_match
@@ -84,7 +85,7 @@ __all__ = [
     "expected", "sweep", "Solver", "find_program",
     # Players.
     "plan", "measure", "tournament", "live_match", "load_player", "load_table", "whole_weights",
-    "expected_of", "respond", "read_positions", "read_progress", "processors", "other",
+    "expected_of", "respond", "save_gambit", "read_positions", "read_progress", "processors", "other",
     # What is handed over and handed back.
     "Position", "Report", "Sheet", "Row", "Accepted", "WorstCase", "Match", "Turn", "Measured",
     "BestResponse", "Swept", "Tournament", "Pairing", "Progress", "PlanProgress", "Bar",

@@ -1,17 +1,22 @@
-"""Reads files of Gambit: strategic forms (.nfg) and extensive forms (.efg) of two players."""
+"""Reads files of Gambit, strategic forms (.nfg) and extensive forms (.efg) of two players, and writes
+extensive forms."""
 from __future__ import annotations
 
 import re
 from collections.abc import Callable
 from dataclasses import dataclass, field
 from fractions import Fraction
+from pathlib import Path
 from typing import Any
 
 from .building import ONLY, Built, Deal, End, Outcomes, Turn, build, exact, merged, of_matrix
 from .building import unique
-from .errors import NoTableError
-from .game import SIDES
-from .values import shorten
+from .errors import InvalidError, NoTableError
+from .game import CHANCE, SIDES, Game, Move, State
+from .values import FilePath, cut, shorten
+
+MOST_NODES = 200_000
+"""The nodes of an extensive form that is written."""
 
 _TOKEN = re.compile(r'"((?:[^"\\]|\\.)*)"|([{}])|([^\s{},"]+)')
 
@@ -272,3 +277,71 @@ def _extensive(words: _Words) -> Made:
     first = tree.behind(0)
     root = first[0][0] if len(first) == 1 else Deal(tuple(merged(first)))
     return build(root, tree.expand), tree.name
+
+
+def save_gambit(game: Game, path: FilePath) -> None:
+    """Writes any game of this package as an extensive form of Gambit (.efg), with the payoffs of
+    its rules; of at most 200,000 nodes, since equal states are written again and again."""
+    Path(path).write_text(_Writer(game).text(), encoding="utf-8")
+
+
+class _Writer:
+    """The lines of an extensive form."""
+
+    def __init__(self, game: Game) -> None:
+        self.game = game
+        self.lines = [f'EFG 2 R {_quoted(cut(game.title(), 200))} {{ "One" "Two" }}']
+        self.groups = [0, 0, 0]
+        self.outcomes: dict[int, int] = {}
+
+    def text(self) -> str:
+        """The file."""
+        root: State = self.game.root()
+        self.add_state(root)
+        return "\n".join([*self.lines, ""])
+
+    def add(self, line: str) -> None:
+        """One node."""
+        if len(self.lines) > MOST_NODES:
+            raise InvalidError(f"{self.game.title()} has more than {MOST_NODES} nodes as a tree")
+        self.lines.append(line)
+
+    def group(self, player: int) -> int:
+        """The number of another information set of a player; 0 is chance."""
+        self.groups[player] += 1
+        return self.groups[player]
+
+    def add_state(self, state: State) -> None:
+        """A state and all that follows it. Who has one move alone has no node."""
+        if state.is_end:
+            number = self.outcomes.setdefault(state.payoff, len(self.outcomes) + 1)
+            payoff = state.payoff / self.game.scale
+            self.add(f't "" {number} "" {{ {payoff} {-payoff} }}')
+            return
+        name, of_two = _quoted(cut(str(state), 100)), self.group(2)
+        one, two = state.names("one"), state.names("two")
+        if len(one) > 1:
+            self.add(f'p {name} 1 {self.group(1)} "" {_actions(one)} 0')
+        for move in range(len(one)):
+            if len(two) > 1:
+                self.add(f'p {name} 2 {of_two} "" {_actions(two)} 0')
+            for reply in range(len(two)):
+                self.add_outcomes(state.outcomes(Move(move), Move(reply)))
+
+    def add_outcomes(self, outcomes: list[tuple[int, State]]) -> None:
+        """What follows a pair of moves."""
+        if len(outcomes) > 1:
+            draws = " ".join(f'"{draw}" {Fraction(chance, CHANCE)}'
+                             for draw, (chance, _) in enumerate(outcomes))
+            self.add(f'c "" {self.group(0)} "" {{ {draws} }} 0')
+        for _, after in outcomes:
+            self.add_state(after)
+
+
+def _quoted(text: str) -> str:
+    """A text in quotation marks."""
+    return '"' + " ".join(text.split()).replace("\\", "/").replace('"', '\\"') + '"'
+
+
+def _actions(names: tuple[str, ...]) -> str:
+    return "{ " + " ".join(map(_quoted, names)) + " }"

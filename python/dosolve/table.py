@@ -26,7 +26,7 @@ from typing import Any, Self
 
 from .building import Built, exact, of_functions, of_game, of_matrix
 from .errors import InputRefusedError, InvalidError, NoTableError
-from .gambit import of_gambit
+from .gambit import of_gambit, save_gambit
 from .game import CHANCE, Field, Game, Side, State, side_of
 from .openspiel_tables import Key, of_openspiel
 from .table_lists import LINE, Lists, fault_of, kind_fault, listed, nested, range_fault
@@ -358,6 +358,11 @@ class Table(Game):
         """The game of a file of Gambit: a strategic form (.nfg), or an extensive form (.efg) whose
         players see each other's earlier moves."""
         return cls._of(*of_gambit(Path(path).read_text(encoding="utf-8")))
+
+    def to_gambit(self, path: FilePath) -> None:
+        """Writes the table as an extensive form of Gambit (.efg), with the payoffs of its rules;
+        see `save_gambit`."""
+        save_gambit(self, path)
 
 
 def _frozen(value: Any) -> Any:

@@ -1,10 +1,13 @@
 """Files of Gambit as tables: both spellings of a strategic form, extensive forms, what is none."""
+import random
 import tempfile
 import unittest
 from fractions import Fraction
 from pathlib import Path
 
+import dosolve
 from dosolve import NoTableError, Table
+from support import random_listing
 
 PENNIES = """NFG 1 R "Matching pennies" { "One" "Two" }
 
@@ -93,6 +96,36 @@ class Files(unittest.TestCase):
         table = self.read(text)
         self.assertEqual((table.root().name, table.root().moves("one")), ("chance", (0,)))
         self.assertEqual(table.listing, ((((((1, 25740), (2, 334620)),),)), 1, 0))
+
+    def test_written_games_are_worth_the_same(self):
+        source = random.Random(31)
+        games = [Table(random_listing(source)) for _ in range(60)]
+        games += [Table.from_matrix([[Fraction(1, 3), 0], [0, 1]], ['a "b"', "c\\"], ["d", "e"]),
+                  Table.repeated([[1, -1], [-1, 1]], 3), dosolve.Goofspiel([1, 2, 3], [1, 2, 3],
+                                                                          [2, 1, 3]),
+                  dosolve.GoofspielDrawn([1, 2, 3], [1, 2, 3], [2, 1, 3]),
+                  dosolve.OshiZumo(1, 3, 3), dosolve.Tron(2, 3, [], 0, 5)]
+        for game in games:
+            with tempfile.TemporaryDirectory() as folder, self.subTest(game.title()):
+                file = Path(folder, "game.efg")
+                dosolve.save_gambit(game, file)
+                again = Table.from_gambit(file)
+                self.assertEqual(self.worth(again), self.worth(game))
+        with tempfile.TemporaryDirectory() as folder:
+            games[60].to_gambit(Path(folder, "game.efg"))
+            again = Table.from_gambit(Path(folder, "game.efg"))
+            self.assertEqual((again, again.scale), (games[60], 3))
+            self.assertEqual(again.root().names("one"), ('a "b"', "c/"))
+            with self.assertRaisesRegex(dosolve.InvalidError, "more than 200000 nodes"):
+                dosolve.save_gambit(dosolve.OshiZumo(3, 20, 20), Path(folder, "game.efg"))
+
+    def worth(self, game):
+        """What players are worth that move at random, against each other and against the best, in
+        payoffs of the rules."""
+        even = [dosolve.plan(game, side, lambda state, side=side: [1] * len(state.moves(side)),
+                             2**3 * 3**3 * 5 * 7 * 11) for side in dosolve.SIDES]
+        worth = [dosolve.expected_of(*even), *(dosolve.respond(sheet).value for sheet in even)]
+        return [value / game.scale for value in worth]
 
     def test_what_is_no_table(self):
         hidden = AT_ONCE.replace('p "" 2 1 0', 'p "" 2 2 { "H" "T" } 0').replace(

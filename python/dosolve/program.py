@@ -294,6 +294,9 @@ class Solver:
             if text == "input 13 unknown field" and b'"stages":' in given:
                 return InputRefusedError(text, "the program is older than this package, and has no "
                                                "field `stages`: ask stages='regret'")
+            if text == "input 16 game name":
+                return InputRefusedError(text, "the program is older than this package, and does "
+                                               "not know the game")
             return InputRefusedError(text)
         if status == 9 and text.startswith(("report ", "refused ")):
             return ReportRefusedError(text)

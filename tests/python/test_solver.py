@@ -143,6 +143,9 @@ class Wrong(Programs):
         older = self.program("cat > /dev/null; echo input 13 unknown field; exit 2")
         with self.assertRaisesRegex(dosolve.InputRefusedError, "older than this package"):
             dosolve.solve(dosolve.Position(GAME), older)
+        older = self.program("cat > /dev/null; echo input 16 game name; exit 2")
+        with self.assertRaisesRegex(dosolve.InputRefusedError, "older .* does not know the game"):
+            dosolve.solve(dosolve.Position(dosolve.Table([5])), older)
 
     def test_what_is_no_position_or_report_is_said(self):
         for given, words in ((GAME, r"takes a Position, not .*; Position\(Goofspiel"),

@@ -84,7 +84,10 @@ def load_player(path: FilePath) -> Player:
     """The function `play(side, state)` of a Python file, or `play(side, state, history)` as a
     `HistoryPlayer`. The file can import its neighbours, as when it is run."""
     found = _loaded(path, "play", "play(side, state)")
-    return HistoryPlayer(found) if takes_history(found) else found  # type: ignore[no-any-return]
+    if takes_history(found):
+        return HistoryPlayer(found)
+    player: Player = found
+    return player
 
 
 def load_table(path: FilePath) -> Table:

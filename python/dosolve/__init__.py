@@ -85,7 +85,8 @@ __all__ = [
     "expected", "sweep", "Solver", "find_program",
     # Players.
     "plan", "measure", "tournament", "live_match", "load_player", "load_table", "whole_weights",
-    "expected_of", "respond", "save_gambit", "read_positions", "read_progress", "processors", "other",
+    "expected_of", "respond", "save_gambit", "read_positions", "read_progress", "processors",
+    "other",
     # What is handed over and handed back.
     "Position", "Report", "Sheet", "Row", "Accepted", "WorstCase", "Match", "Turn", "Measured",
     "BestResponse", "Swept", "Tournament", "Pairing", "Progress", "PlanProgress", "Bar",

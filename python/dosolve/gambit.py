@@ -1,5 +1,5 @@
-"""Reads files of Gambit, strategic forms (.nfg) and extensive forms (.efg) of two players, and writes
-extensive forms."""
+"""Reads files of Gambit, strategic forms (.nfg) and extensive forms (.efg) of two players, and
+writes extensive forms."""
 from __future__ import annotations
 
 import re

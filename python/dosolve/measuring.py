@@ -11,11 +11,11 @@ from functools import partial
 from pathlib import Path
 from typing import Any
 
-from .errors import InvalidError, PlayerError
+from .errors import DosolveError, InvalidError, PlayerError
 from .exact import expected_of
 from .game import SIDES, Side, other, side_of
 from .histories import NO_PLAN, HistoryPlayer, takes_history
-from .plans import ASKED_AGAIN, Sheet, plan
+from .plans import ASKED_AGAIN, Sheet, fault_place, plan
 from .positions import Position, require_position
 from .program import Match, Solver, WorstCase
 from .progress import PlanListener
@@ -93,7 +93,14 @@ def load_player(path: FilePath) -> Player:
 def load_table(path: FilePath) -> Table:
     """The table that the function `table()` of a Python file makes. The file can import its
     neighbours, as when it is run."""
-    made = _loaded(path, "table", "table()")()
+    make = _loaded(path, "table", "table()")
+    try:
+        made = make()
+    except DosolveError:
+        raise
+    except Exception as fault:
+        raise InvalidError(f"table() of {path} raised {type(fault).__name__}: {fault}"
+                           f"{fault_place(fault)}") from fault
     if not isinstance(made, Table):
         raise InvalidError(f"table() of {path} gives {shorten(made)}, and has to give a Table")
     return made

@@ -283,7 +283,7 @@ def chosen(choose: Choice, state: State, side: Side, weight: int,
         answer = choose(state)
     except Exception as fault:
         raise PlayerError(f"player {side} raised {type(fault).__name__}: {fault}: in {state}, "
-                          f"whose moves are {state.moves(side)}{_place(fault)}") from fault
+                          f"whose moves are {state.moves(side)}{fault_place(fault)}") from fault
     if watched and random.getstate() != before:
         raise PlayerError(f"player {side} drew random numbers in {state}: a plan is one "
                           f"probability for each move, the same whenever it is asked; answer the "
@@ -302,7 +302,7 @@ def _named(state: State, side: Side) -> str:
     return "" if names == tuple(map(str, state.moves(side))) else f", named {names}"
 
 
-def _place(fault: Exception) -> str:
+def fault_place(fault: Exception) -> str:
     """The file and line where a player's exception was raised."""
     trace = fault.__traceback__
     while trace is not None and trace.tb_next is not None:

@@ -320,7 +320,8 @@ class Table(Game):
         """The game that begins at a node, any hashable value, told by functions:
 
         - `moves(node)`: the moves of One and those of Two, two lists of any values; a player who
-          has nothing to choose may have none. Without any move, or None, the game is over.
+          has nothing to choose may have none, and moves "-" then. Without any move, or None, the
+          game is over.
         - `after(node, one, two)`: the node that follows, or a dict (or list of pairs) of nodes
           with their chances.
         - `payoff(node)`: what One gets where the game is over.

@@ -31,27 +31,37 @@ Players:
     measure(position, player, side)            what a player guarantees, and how it does
     tournament(players, positions)             each against each, as a table
     live_match(game, one, two)                 games of any players, of histories too
-    load_player(path)                          the player of a file
+    load_player(path), load_table(path)        the player, the table of a Python file
+
+Any finite game:
+
+    Table.from_matrix(payoffs, ones, twos)     a game of one turn
+    Table.repeated(payoffs, rounds)            a matrix played for some rounds
+    Table.from_functions(root, moves, after, payoff)   a game told by functions
+    Table.from_openspiel(game)                 anything with OpenSpiel's calls
+    Table.from_game(game)                      a game of this package, or a subclass of `Game`
+    Table.from_gambit(path)                    a file of Gambit
 
 A `Position` is a game with what is asked, a `Report` has bounds and both plans, a `Sheet` is a
-plan. Games are `Goofspiel`, `GoofspielDrawn`, `OshiZumo`, `Tron` and `Pursuit`; a state has
-`moves(side)`, `play(one=.., two=..)`, `is_end` and `payoff`. Both sides are `SIDES`. Pictures are
-in `dosolve.pictures`, OpenSpiel's names in `dosolve.openspiel`, limits in `dosolve.limits`.
+plan. Games are `Goofspiel`, `GoofspielDrawn`, `OshiZumo`, `Tron`, `Pursuit` and `Table`; a state
+has `moves(side)`, `play(one=.., two=..)`, `is_end` and `payoff`. Both sides are `SIDES`. Pictures
+are in `dosolve.pictures`, OpenSpiel's names in `dosolve.openspiel`, limits in `dosolve.limits`.
 Bounds, gaps and resolutions are millionths of a payoff, what One gets; payoffs are whole; moves,
 draws and cells are numbered from 0. `dosolve-py --help` is the same on a command line.
 """
 from . import limits, openspiel, pictures
 from .errors import (
     DosolveError, InputRefused, InputRefusedError, Invalid, InvalidError, LimitReached,
-    LimitReachedError, PlayerError, ProgramFailed, ProgramFailedError, ProgramMissing,
-    ProgramMissingError, ProgramTimeoutError, Refused, RefusedError, ReportRefused,
-    ReportRefusedError,
+    LimitReachedError, NoTableError, PlayerError, ProgramFailed, ProgramFailedError,
+    ProgramMissing, ProgramMissingError, ProgramTimeoutError, Refused, RefusedError,
+    ReportRefused, ReportRefusedError,
 )
 from .exact import BestResponse, expected_of, respond
+from .gambit import save_gambit
 from .game import CHANCE, SCALE, SIDES, Game, Move, Side, State, other
 from .goofspiel import Goofspiel, GoofspielDrawn, GoofspielDrawnState, GoofspielState
 from .histories import HistoryPlayer, live_match
-from .measuring import Measured, Player, load_player, measure
+from .measuring import Measured, Player, load_player, load_table, measure
 from .oshi_zumo import OshiZumo, OshiZumoState
 from .plans import Choice, Row, Sheet, plan, whole_weights
 from .positions import ASKED, GAMES, Position, processors
@@ -59,10 +69,11 @@ from .program import (
     Accepted, Match, Solver, Turn, WorstCase, best_response, bounds, check, expected, exploit,
     find_program, match, nash_conv, play, solve,
 )
-from .progress import Bar, Progress, read_progress
+from .progress import Bar, PlanProgress, Progress, read_progress
 from .pursuit import Pursuit, PursuitState
 from .reports import OUTCOMES, Report
 from .sweeps import Swept, read_positions, sweep
+from .table import Table, TableState
 from .tournaments import Pairing, Tournament, tournament
 from .tron import DIRECTIONS, Tron, TronState
 
@@ -73,21 +84,24 @@ __all__ = [
     "solve", "check", "bounds", "exploit", "play", "match", "best_response", "nash_conv",
     "expected", "sweep", "Solver", "find_program",
     # Players.
-    "plan", "measure", "tournament", "live_match", "load_player", "whole_weights", "expected_of",
-    "respond", "read_positions", "read_progress", "processors", "other",
+    "plan", "measure", "tournament", "live_match", "load_player", "load_table", "whole_weights",
+    "expected_of", "respond", "save_gambit", "read_positions", "read_progress", "processors",
+    "other",
     # What is handed over and handed back.
     "Position", "Report", "Sheet", "Row", "Accepted", "WorstCase", "Match", "Turn", "Measured",
-    "BestResponse", "Swept", "Tournament", "Pairing", "Progress", "Bar", "HistoryPlayer",
+    "BestResponse", "Swept", "Tournament", "Pairing", "Progress", "PlanProgress", "Bar",
+    "HistoryPlayer",
     # Games.
-    "Goofspiel", "GoofspielDrawn", "OshiZumo", "Tron", "Pursuit", "Game", "State",
+    "Goofspiel", "GoofspielDrawn", "OshiZumo", "Tron", "Pursuit", "Table", "Game", "State",
     "GoofspielState", "GoofspielDrawnState", "OshiZumoState", "TronState", "PursuitState",
+    "TableState",
     # Types and constants.
     "Side", "SIDES", "Move", "Choice", "Player", "SCALE", "CHANCE", "GAMES", "ASKED", "OUTCOMES",
     "DIRECTIONS", "limits", "openspiel", "pictures",
     # Errors.
     "DosolveError", "InvalidError", "PlayerError", "ProgramMissingError", "ProgramFailedError",
     "ProgramTimeoutError", "RefusedError", "InputRefusedError", "ReportRefusedError",
-    "LimitReachedError",
+    "LimitReachedError", "NoTableError",
     # Names of earlier versions.
     "Invalid", "ProgramMissing", "ProgramFailed", "Refused", "InputRefused", "ReportRefused",
     "LimitReached",

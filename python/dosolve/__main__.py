@@ -10,14 +10,15 @@ from pathlib import Path
 from typing import Any
 
 from . import __version__, pictures
-from .errors import DosolveError, ProgramMissingError
+from .errors import DosolveError, InvalidError, ProgramMissingError
 from .game import SCALE, SIDES, Side
-from .measuring import load_player, measure, solved_text
+from .measuring import load_player, load_table, measure, plan_of, solved_text
 from .positions import ASKED, Position
 from .program import Solver, find_program
 from .progress import read_progress
 from .reports import Report
 from .sweeps import read_positions, sweep
+from .table import Table, read_matrix
 from .tournaments import tournament
 from .values import as_points
 
@@ -30,6 +31,7 @@ _EXAMPLES = """examples:
   python3 -m dosolve exploit examples/goofspiel_mixed.report one
   python3 -m dosolve show examples/goofspiel_mixed.report -o mixed.svg
   python3 -m dosolve sweep positions.jsonl -o results.jsonl
+  python3 -m dosolve table python/examples/soccer.py -o soccer.json
 
 Payoffs and bounds are what player one gets. The program is the one of --program, else that of the
 variable DOSOLVE, else the one built in the repository, else dosolve on the path."""
@@ -45,9 +47,14 @@ def _solver(words: argparse.Namespace) -> Solver:
 
 def _position(words: argparse.Namespace) -> Position:
     """The position of a file, with what the options ask for in place of what the file asks."""
+    return _asked(words, Position.load(words.position))
+
+
+def _asked(words: argparse.Namespace, position: Position) -> Position:
+    """A position with what the options ask for."""
     asked = {field.name: getattr(words, field.name) for field in ASKED
              if getattr(words, field.name, None) is not None}
-    return replace(Position.load(words.position), **asked)
+    return replace(position, **asked)
 
 
 def _solve(words: argparse.Namespace) -> None:
@@ -95,7 +102,8 @@ def _measure(words: argparse.Namespace) -> None:
         print(solved_text(solved), end="")
     records = []
     for side in [words.side] if words.side else SIDES:
-        found = measure(position, player, side, solved, words.games, words.seed, words.program)
+        mine = plan_of(position, player, side, progress=sys.stderr.isatty())
+        found = measure(position, mine, side, solved, words.games, words.seed, words.program)
         records.append(found.record())
         if not words.json:
             print(found.text(), end="")
@@ -115,7 +123,10 @@ def _show(words: argparse.Namespace) -> None:
     if words.tree:
         pictures.save(pictures.tree(report, words.tree), words.output)
     else:
-        pictures.show(report, words.output, words.key, words.zoom, words.players)
+        key = words.key
+        if words.history:
+            key = report.game.state_after([turn.split(",") for turn in words.history]).key
+        pictures.show(report, words.output, key, words.zoom, words.players)
 
 
 def _sweep(words: argparse.Namespace) -> None:
@@ -135,6 +146,45 @@ def _sweep(words: argparse.Namespace) -> None:
         sys.stdout.flush()
     if failed:
         raise DosolveError(f"{failed} positions failed; a second call tries them again")
+
+
+def _match(words: argparse.Namespace) -> None:
+    report = Report.load(words.report)
+    found = _solver(words).match(report, words.games, words.seed)
+    told = found.told(report.game)
+    if words.json:
+        _print_record({"turns": told, "payoff": found.payoff, "games": found.games,
+                       "mean": float(found.mean), "error": found.error, "least": found.least,
+                       "most": found.most})
+        return
+    for line in told:
+        print(f"turn {line}")
+    print(f"payoff {found.payoff}\ngames {found.games} mean {float(found.mean):.6f} error "
+          f"{found.error or 0:.6f} least {found.least} most {found.most}")
+
+
+def _table(words: argparse.Namespace) -> None:
+    table = _read_table(words.source, words.rounds)
+    _asked(words, Position(table)).save(words.output)
+    if words.json:
+        _print_record({"states": len(table.listing), "scale": str(table.scale)})
+    else:
+        scale = f", payoffs times {table.scale}" if table.scale != 1 else ""
+        print(f"{table.title()}{scale}")
+
+
+def _read_table(source: Path, rounds: int | None) -> Table:
+    """The table of a file, by its ending."""
+    if rounds is not None and source.suffix not in (".json", ".csv"):
+        raise InvalidError(f"{source} is no matrix that is played for some rounds")
+    if source.suffix == ".py":
+        return load_table(source)
+    if source.suffix in (".nfg", ".efg"):
+        return Table.from_gambit(source)
+    matrix, one, two = read_matrix(source)
+    if rounds is None:
+        return Table.from_matrix(matrix, one, two)
+    return Table.repeated(matrix, rounds, one, two)
 
 
 def _tournament(words: argparse.Namespace) -> None:
@@ -178,8 +228,8 @@ def _parser() -> argparse.ArgumentParser:
     parser.add_argument("--version", action=_Version, nargs=0,
                         help="the package's version, and where the program is")
     commands = parser.add_subparsers(required=True, metavar="COMMAND")
-    for add in (_add_solve, _add_check, _add_exploit, _add_measure, _add_tournament, _add_show,
-                _add_sweep):
+    for add in (_add_solve, _add_check, _add_exploit, _add_measure, _add_match, _add_tournament,
+                _add_show, _add_sweep, _add_table):
         add(commands)
     return parser
 
@@ -209,7 +259,7 @@ def _add_asked(parser: argparse.ArgumentParser) -> None:
                                help=f"{field.low} to {field.high}")
 
 
-def _add_match(parser: argparse.ArgumentParser) -> None:
+def _add_games(parser: argparse.ArgumentParser) -> None:
     parser.add_argument("--games", type=int, default=1000, metavar="N",
                         help="games of a match (1000)")
     parser.add_argument("--seed", type=int, default=0, metavar="N", help="of a match (0)")
@@ -243,11 +293,29 @@ def _add_measure(commands: Any) -> None:
     parser.add_argument("player", type=Path, metavar="PLAYER.py",
                         help="a file with a function play(side, state)")
     parser.add_argument("--side", choices=SIDES, help="one side alone")
-    _add_match(parser)
+    _add_games(parser)
     _add_seconds(parser)
     _add_asked(parser)
     parser.add_argument("--keep", type=Path, metavar="FOLDER",
                         help="write one.report and two.report, with the player's plan")
+
+
+def _add_match(commands: Any) -> None:
+    parser = _added(commands, "match", _match,
+                    "games between both plans of a report, the first turn by turn")
+    parser.add_argument("report", type=Path, metavar="REPORT")
+    _add_games(parser)
+
+
+def _add_table(commands: Any) -> None:
+    parser = _added(commands, "table", _table, "make a position of a game of your own")
+    parser.add_argument("source", type=Path, metavar="SOURCE",
+                        help="a matrix (.json, .csv), a file of Gambit (.nfg, .efg), or a Python "
+                             "file with a function table()")
+    parser.add_argument("-o", "--output", type=Path, required=True, metavar="POSITION",
+                        help="write the position, and the names beside it")
+    parser.add_argument("--rounds", type=int, metavar="N", help="play the matrix for N rounds")
+    _add_asked(parser)
 
 
 def _add_tournament(commands: Any) -> None:
@@ -257,7 +325,7 @@ def _add_tournament(commands: Any) -> None:
                         metavar="POSITION", help="a JSON file; can be given several times")
     parser.add_argument("--no-solver", action="store_true", help="without the solver's plans")
     parser.add_argument("--csv", action="store_true", help="print the meetings as CSV")
-    _add_match(parser)
+    _add_games(parser)
 
 
 def _add_show(commands: Any) -> None:
@@ -265,7 +333,10 @@ def _add_show(commands: Any) -> None:
     parser.add_argument("report", type=Path, metavar="REPORT")
     parser.add_argument("-o", "--output", type=Path, required=True, metavar="FILE.svg",
                         help="or .png, .pdf")
-    parser.add_argument("--key", type=int, metavar="KEY", help="a state other than the root")
+    where = parser.add_mutually_exclusive_group()
+    where.add_argument("--key", type=int, metavar="KEY", help="a state other than the root")
+    where.add_argument("--history", nargs="+", metavar="ONE,TWO[,DRAW]",
+                       help="the state after these turns: both moves, and the number of the draw")
     parser.add_argument("--zoom", action="store_true", help="the axis round the bounds alone")
     parser.add_argument("--players", nargs=2, metavar=("ONE", "TWO"), help="names for the titles")
     parser.add_argument("--tree", type=int, metavar="TURNS", help="a tree of the first turns")

@@ -15,6 +15,10 @@ class PlayerError(InvalidError):
     player's side and the state."""
 
 
+class NoTableError(InvalidError):
+    """A game cannot be a table; the message says why."""
+
+
 class ProgramMissingError(DosolveError):
     """The program was not found, or cannot be run."""
 
@@ -61,18 +65,36 @@ _FIELDS: dict[int, str | int] = {
     12: -1, 14: -1, 15: -1, 16: "game", 21: 4, 22: 4, 24: "prizes", 25: "score", 31: "size",
     33: "least", 34: "place", 71: "nodes", 72: "edges", 73: "edges", 74: "edges", 75: -1,
     76: "rounds",
+} | dict.fromkeys(range(81, 90), "states")
+
+_TABLE = {
+    81: "the five lists of the game's line do not fit each other",
+    82: "a table has at least one state, its root",
+    83: "a payoff has to be from -4000 to 4000",
+    84: "a state that is no end has to have 1 to 32 rows, one for each move of One",
+    85: "the rows of a state have to be equally long, with 1 to 32 cells",
+    86: "a cell has to have 1 to 13 draws",
+    87: "the weights of a cell's draws have to be from 1, and to sum to 360360",
+    88: "a cell has to lead to states that stand behind its own, and are there",
+    89: "from a state at most 31 turns can be played, and its rank is that of the longest way",
 }
+"""What the rules of tables ask for, by the numbers of their refusals."""
 
 
 class InputRefusedError(RefusedError):
     """A position is refused: `code` is the number of the refusal, `field` the field at fault,
-    None where it is not one."""
+    None where it is not one; `place` has the numbers in the text, of a table the state, the row
+    and the cell."""
 
     def __init__(self, text: str, hint: str = "") -> None:
         super().__init__(text, hint)
         self.code = self.number_at(1) or 0
         named = _FIELDS.get(self.code)
         self.field: str | None = self.words[named] if isinstance(named, int) else named
+        numbers = (self.number_at(place) for place in range(2, len(self.words)))
+        self.place = tuple(number for number in numbers if number is not None)
+        if not hint:
+            self.hint = _TABLE.get(self.code, "")
 
 
 class ReportRefusedError(RefusedError):
@@ -92,7 +114,7 @@ class ReportRefusedError(RefusedError):
         self.side: str | None = self.words[2] if refused else None
         self.key = self.number_at(3) if self.side else None
         if not hint:
-            self.hint = _explained(self.words)
+            self.hint = _explained(self.words) or _TABLE.get(self.code or 0, "")
 
 
 def _explained(words: list[str]) -> str:

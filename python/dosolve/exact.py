@@ -30,10 +30,10 @@ def expected_of(one: Sheet, two: Sheet) -> Fraction:
         state = graph.states[at]
         if state.is_end:
             continue
-        mine, yours, chances = one.weights(state), two.weights(state), state._chances()
+        mine, yours = one.weights(state), two.weights(state)
         whole = 0
         for (move, reply), cell in zip(graph.pairs[at], graph.cells[at]):
-            whole += mine[move] * yours[reply] * values.mean(cell, chances, state.rank)
+            whole += mine[move] * yours[reply] * values.mean(cell, state.rank)
         values.numbers[at] = whole
     return values.root()
 
@@ -66,11 +66,11 @@ def respond(sheet: Sheet) -> BestResponse:
         state = graph.states[at]
         if state.is_end:
             continue
-        weights, chances = sheet.weights(state), state._chances()
+        weights = sheet.weights(state)
         sums = [0] * len(state.moves(side))
         for (one, two), cell in zip(graph.pairs[at], graph.cells[at]):
             move, reply = (one, two) if side == "one" else (two, one)
-            sums[move] += weights[reply] * values.mean(cell, chances, state.rank)
+            sums[move] += weights[reply] * values.mean(cell, state.rank)
         chosen = max(sums) if side == "one" else min(sums)
         values.numbers[at], best[state.key] = chosen, sums.index(chosen)
 
@@ -91,12 +91,12 @@ class _Values:
         self.numbers = [state.payoff * self.powers[rank] if state.is_end else 0
                         for state, rank in zip(graph.states, self.ranks)]
 
-    def mean(self, cell: Cell, chances: Sequence[int], rank: int) -> int:
+    def mean(self, cell: Cell, rank: int) -> int:
         """What one pair of moves in a state of this rank is worth, over base to the power of the
         rank less 1, times the draws' sum."""
         if isinstance(cell, int):
             return self.raised(cell, rank) * self.draws
-        return sum(chance * self.raised(after, rank) for chance, after in zip(chances, cell))
+        return sum(chance * self.raised(after, rank) for chance, after in cell)
 
     def raised(self, at: int, rank: int) -> int:
         """The number of a state over base to the power of one less than this rank."""

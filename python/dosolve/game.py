@@ -11,8 +11,9 @@ from __future__ import annotations
 
 import math
 from abc import ABC, abstractmethod
-from collections.abc import Iterator, Set
+from collections.abc import Iterable, Iterator, Set
 from dataclasses import dataclass
+from fractions import Fraction
 from typing import Any, ClassVar, Final, Literal, NewType, Self, cast
 
 from .errors import InputRefusedError, InvalidError
@@ -157,29 +158,37 @@ class State(ABC):
         """The labels as words to show."""
         return tuple(map(str, self.moves(side)))
 
-    def move(self, side: Side, label: int) -> Move:
-        """The number of the move with this label."""
-        labels = self.moves(side)
-        if label not in labels:
+    def move(self, side: Side, label: int | str) -> Move:
+        """The number of the move with this label, or with this name; a label as a text will do
+        where no move has that name."""
+        known: tuple[int | str, ...] = self.moves(side)
+        if isinstance(label, str):
+            names = self.names(side)
+            if label in names or not label.isdecimal():
+                known = names
+            else:
+                label = int(label)
+        if label not in known:
             raise InvalidError(f"player {side} has no move {shorten(label)} in {self}, whose moves "
-                               f"are {labels}")
-        return Move(labels.index(label))
+                               f"are {known}")
+        return Move(known.index(label))
 
-    def play(self, *, one: int, two: int, draw: int = 0) -> Self:
-        """The state after the moves with these labels, and this draw (a number from 0)."""
+    def play(self, *, one: int | str, two: int | str, draw: int = 0) -> Self:
+        """The state after the moves with these labels or names, and this draw (a number from
+        0)."""
         return self.after(self.move("one", one), self.move("two", two), draw)
 
     def chances(self, one: Move, two: Move) -> tuple[int, ...]:
         """The chance of each draw after these moves (numbers), in parts of `CHANCE`."""
-        self._in_range(one, two)
-        return self._chances()
+        return self._chances(*self._in_range(one, two))
 
     def after(self, one: Move, two: Move, draw: int = 0) -> Self:
         """The state after the moves with these numbers, and this draw, all from 0; `play` takes
         labels."""
         labels = self._in_range(one, two)
-        if not 0 <= draw < len(self._chances()):
-            raise InvalidError(f"draw {draw} of {len(self._chances())} in {self}")
+        count = len(self._chances(*labels))
+        if not 0 <= draw < count:
+            raise InvalidError(f"draw {draw} of {count} in {self}")
         return cast(Self, self._after(*labels, draw))
 
     def outcomes(self, one: Move, two: Move) -> list[tuple[int, Self]]:
@@ -187,7 +196,7 @@ class State(ABC):
         `CHANCE`, in the order of draws."""
         labels = self._in_range(one, two)
         return [(chance, cast(Self, self._after(*labels, draw)))
-                for draw, chance in enumerate(self._chances())]
+                for draw, chance in enumerate(self._chances(*labels))]
 
     def _in_range(self, one: int, two: int) -> tuple[int, int]:
         """The labels of both moves."""
@@ -199,7 +208,8 @@ class State(ABC):
                     f"numbered from 0; play(one=.., two=..) takes labels")
         return mine[one], yours[two]
 
-    def _chances(self) -> tuple[int, ...]:
+    def _chances(self, one: int, two: int) -> tuple[int, ...]:
+        """The chance of each draw after the moves with these labels."""
         return (CHANCE,)
 
     @abstractmethod
@@ -222,8 +232,9 @@ class Game(ABC):
     version: ClassVar[int] = 1
     """The version of reports on this game."""
     settings: ClassVar[tuple[Field, ...]]
-    chance_free: ClassVar[bool] = True
-    """Whether each pair of moves leads to one state."""
+    """The fields of a position."""
+    line_settings: ClassVar[tuple[Field, ...]] = ()
+    """The fields of a report's second line, where they are others."""
 
     def __post_init__(self) -> None:
         for field in self.settings:
@@ -238,9 +249,25 @@ class Game(ABC):
     def _fault(self) -> tuple[str, str] | None:
         """The first rule that the settings break: its number and words, and what is wrong."""
 
+    @classmethod
+    def of_line(cls, *values: Any) -> Self:
+        """The game of the fields of a report's second line."""
+        return cls(*values)
+
     @abstractmethod
-    def root(self) -> State:
-        """The state in which the game begins."""
+    def root(self) -> Any:
+        """The state in which the game begins: a `State`. Which further fields it has depends on
+        the game, so of a game of any kind it is typed as `Any`."""
+
+    @property
+    def chance_free(self) -> bool:
+        """Whether each pair of moves leads to one state."""
+        return True
+
+    @property
+    def scale(self) -> Fraction:
+        """What the payoffs of the rules were multiplied by, to make them whole numbers."""
+        return Fraction(1)
 
     @property
     def low(self) -> int:
@@ -263,11 +290,11 @@ class Game(ABC):
         else the rows that a board can have."""
         return MOST_ROWS
 
-    def state(self, key: int) -> State:
-        """The state with this key, as reports name it."""
+    def state(self, key: int) -> Any:
+        """The state with this key, as reports name it; typed as `root` is."""
         found = self._unpacked(key) if is_whole(key) and 0 <= key <= MOST_KEY else None
         if found is None or found.key != key:
-            raise InvalidError(f"no state of {self.line()} has the key {shorten(key)}")
+            raise InvalidError(f"no state of {self.title()} has the key {shorten(key)}")
         return found
 
     def _unpacked(self, key: int) -> State | None:
@@ -276,18 +303,29 @@ class Game(ABC):
 
     def states(self) -> Iterator[State]:
         """Each state that play can reach, terminal ones too, each once."""
-        root = self.root()
+        root: State = self.root()
         seen, waiting = {root.key}, [root]
         while waiting:
             state = waiting.pop()
             yield state
-            draws = range(0 if state.is_end else len(state._chances()))
             for one in state.moves("one"):
                 for two in state.moves("two"):
-                    for after in (state._after(one, two, draw) for draw in draws):
+                    for draw in range(len(state._chances(one, two))):
+                        after = state._after(one, two, draw)
                         if after.key not in seen:
                             seen.add(after.key)
                             waiting.append(after)
+
+    def state_after(self, turns: Iterable[tuple[int | str, ...]]) -> Any:
+        """The state after turns from the root: for each the labels or names of both moves, and
+        the number of the draw where it is not 0. Typed as `root` is."""
+        state: State = self.root()
+        for turn in turns:
+            if len(turn) not in (2, 3):
+                raise InvalidError(f"a turn is One's move, Two's move and a draw, not {turn!r}")
+            draw = int(turn[2]) if len(turn) == 3 else 0
+            state = state.play(one=turn[0], two=turn[1], draw=draw)
+        return state
 
     def opening(self, side: Side) -> int:
         """The bound that each plan of the side guarantees, in millionths: the least payoff for
@@ -299,16 +337,29 @@ class Game(ABC):
         turns and rows suffice."""
         spread = (self.high - self.low) * SCALE
         quotient = -(-2 * self.most_moves * spread * spread // weight)
-        root = math.isqrt(quotient)
-        root += root * root < quotient
-        return self.root().rank * (root + 1 + (not self.chance_free))
+        least = math.isqrt(quotient)
+        least += least * least < quotient
+        root: State = self.root()
+        return root.rank * (least + 1 + (not self.chance_free))
+
+    def unscaled(self, bound: int) -> Fraction:
+        """A bound, in millionths, as a payoff of the rules, before `scale`."""
+        return Fraction(bound, SCALE) / self.scale
 
     def values(self) -> Iterator[Any]:
         """The settings in the order of their fields."""
         return (getattr(self, field.name) for field in self.settings)
+
+    def record(self) -> dict[str, Any]:
+        """The settings by the names of their fields."""
+        return {field.name: value for field, value in zip(self.settings, self.values())}
 
     def line(self) -> str:
         """The game as a report's second line has it, without `game`."""
         lists = (",".join(map(str, value)) or "-" if isinstance(value, tuple) else str(value)
                  for value in self.values())
         return " ".join([self.name, *lists])
+
+    def title(self) -> str:
+        """The game in a few words, as summaries and messages have it."""
+        return self.line()

@@ -206,7 +206,7 @@ class GoofspielDrawnState(_Hands):
         undrawn = sum(1 << place for place in self.undrawn)
         return packed(*self._key_parts(), (undrawn, 13), (self.place, 4))
 
-    def _chances(self) -> tuple[int, ...]:
+    def _chances(self, one: int, two: int) -> tuple[int, ...]:
         count = max(1, len(self.undrawn))
         return (CHANCE // count,) * count
 
@@ -225,12 +225,15 @@ class GoofspielDrawn(_Goofspiel):
 
     name = "goofspiel_drawn"
     version = 2
-    chance_free = False
     one: Sequence[int]
     two: Sequence[int]
     prizes: Sequence[int]
     score: int = 0
     pay: str = "margin"
+
+    @property
+    def chance_free(self) -> bool:
+        return False
 
     def root(self) -> GoofspielDrawnState:
         hands = tuple(sorted(self.one)), tuple(sorted(self.two)), self.score

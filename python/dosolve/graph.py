@@ -11,8 +11,9 @@ from .limits import MOST_ROWS
 Followed = Callable[[State], tuple[Sequence[int], Sequence[int]]]
 """From a state that is no end to the numbers of both players' moves that are followed."""
 
-Cell = int | tuple[int, ...]
-"""The state behind a pair of moves, by its number in a graph; several where there are draws."""
+Cell = int | tuple[tuple[int, int], ...]
+"""The state behind a pair of moves, by its number in a graph; where there are draws, the chance of
+each, in parts of `CHANCE`, with its state."""
 
 
 @dataclass
@@ -66,13 +67,11 @@ def _follow(graph: Graph, at: int, ones: Sequence[int], twos: Sequence[int],
     """Adds what the pairs of moves lead to."""
     state = graph.states[at]
     mine, yours = state.moves("one"), state.moves("two")
-    draws = range(len(state._chances()))
     pairs, cells = graph.pairs[at], graph.cells[at]
     for one in ones:
         for two in twos:
             pairs.append((one, two))
-            if len(draws) == 1:
-                cells.append(number(state._after(mine[one], yours[two], 0)))
-            else:
-                cells.append(tuple(number(state._after(mine[one], yours[two], draw))
-                                   for draw in draws))
+            chances = state._chances(mine[one], yours[two])
+            after = [number(state._after(mine[one], yours[two], draw))
+                     for draw in range(len(chances))]
+            cells.append(after[0] if len(after) == 1 else tuple(zip(chances, after)))

@@ -111,7 +111,7 @@ def _one_game(game: Game, asks: Sequence[Ask],
     while not state.is_end:
         one, two = (source.choices(state.moves(side), ask(state, tuple(turns)))[0]
                     for ask, side in zip(asks, SIDES))
-        chances = state._chances()
+        chances = state._chances(one, two)
         draw = source.choices(range(len(chances)), chances)[0]
         turns.append(Turn(one, two, draw))
         state = state.play(one=one, two=two, draw=draw)

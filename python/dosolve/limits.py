@@ -41,6 +41,18 @@ MOST_WORKERS = 16
 MOST_MOVES = 32
 """The moves of a player in a state."""
 
+MOST_DRAWS = 13
+"""The draws after a pair of moves."""
+
+MOST_RANK = 31
+"""The turns of a game."""
+
+MOST_PAYOFF = 4000
+"""The greatest size of a payoff of a table."""
+
+MOST_STATES = 524_288
+"""The states of a table."""
+
 MOST_GAP = 8_000_000_000
 """The widest gap that can be asked, in millionths."""
 

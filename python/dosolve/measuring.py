@@ -11,15 +11,17 @@ from functools import partial
 from pathlib import Path
 from typing import Any
 
-from .errors import InvalidError, PlayerError
+from .errors import DosolveError, InvalidError, PlayerError
 from .exact import expected_of
 from .game import SIDES, Side, other, side_of
 from .histories import NO_PLAN, HistoryPlayer, takes_history
-from .plans import ASKED_AGAIN, Sheet, plan
-from .positions import FilePath, Position, require_position
+from .plans import ASKED_AGAIN, Sheet, fault_place, plan
+from .positions import Position, require_position
 from .program import Match, Solver, WorstCase
+from .progress import PlanListener
 from .reports import Report
-from .values import as_points
+from .table import Table
+from .values import FilePath, as_points, shorten
 
 Player = Callable[[Side, Any], Any]
 """A function from a side and a state to one probability or weight for each of
@@ -81,10 +83,35 @@ def solved_text(report: Report) -> str:
 def load_player(path: FilePath) -> Player:
     """The function `play(side, state)` of a Python file, or `play(side, state, history)` as a
     `HistoryPlayer`. The file can import its neighbours, as when it is run."""
+    found = _loaded(path, "play", "play(side, state)")
+    if takes_history(found):
+        return HistoryPlayer(found)
+    player: Player = found
+    return player
+
+
+def load_table(path: FilePath) -> Table:
+    """The table that the function `table()` of a Python file makes. The file can import its
+    neighbours, as when it is run."""
+    make = _loaded(path, "table", "table()")
+    try:
+        made = make()
+    except DosolveError:
+        raise
+    except Exception as fault:
+        raise InvalidError(f"table() of {path} raised {type(fault).__name__}: {fault}"
+                           f"{fault_place(fault)}") from fault
+    if not isinstance(made, Table):
+        raise InvalidError(f"table() of {path} gives {shorten(made)}, and has to give a Table")
+    return made
+
+
+def _loaded(path: FilePath, function: str, called: str) -> Any:
+    """A function of a Python file."""
     file = Path(path).resolve()
     if not file.is_file():
         raise InvalidError(f"{path} is no file")
-    name = f"dosolve_player_{file.stem}"
+    name = f"dosolve_{function}_{file.stem}"
     spec = importlib.util.spec_from_file_location(name, file)
     if spec is None or spec.loader is None:
         raise InvalidError(f"{path} is no Python file")
@@ -96,15 +123,16 @@ def load_player(path: FilePath) -> Player:
         spec.loader.exec_module(module)
     except Exception as fault:
         raise PlayerError(f"{path} raised {type(fault).__name__}: {fault}") from fault
-    found = getattr(module, "play", None)
+    found = getattr(module, function, None)
     if not callable(found):
-        raise InvalidError(f"{path} defines no function play(side, state)")
-    return HistoryPlayer(found) if takes_history(found) else found  # type: ignore[no-any-return]
+        raise InvalidError(f"{path} defines no function {called}")
+    return found
 
 
 def plan_of(position: Position, player: Player | Sheet, side: Side,
-            ask_again: int = ASKED_AGAIN) -> Sheet:
-    """The plan of a player for one side of a position, by rows of the position's weight."""
+            ask_again: int = ASKED_AGAIN, progress: PlanListener | bool = False) -> Sheet:
+    """The plan of a player for one side of a position, by rows of the position's weight; see
+    `plan`."""
     if isinstance(player, Sheet):
         if (player.game, player.side, player.total) != (position.game, side, position.weight):
             raise InvalidError(f"the plan is not one of player {side} for this position: "
@@ -114,19 +142,19 @@ def plan_of(position: Position, player: Player | Sheet, side: Side,
         raise InvalidError(f"a player is a function play(side, state), not {player!r}")
     if takes_history(player):
         raise InvalidError(NO_PLAN)
-    return plan(position.game, side, partial(player, side), position.weight, ask_again)
+    return plan(position.game, side, partial(player, side), position.weight, ask_again, progress)
 
 
-def measure(position: Position, player: Player, side: Side, solved: Report | None = None,
+def measure(position: Position, player: Player | Sheet, side: Side, solved: Report | None = None,
             games: int = 1000, seed: int = 0, program: FilePath | None = None) -> Measured:
-    """Measures a player on one side of a position, against the solver's report on it, which is
-    made where none is given."""
+    """Measures a player, or a plan, on one side of a position, against the solver's report on it,
+    which is made where none is given."""
     require_position(position, "measure")
     solver = Solver(program)
     mine = plan_of(position, player, side_of(side))
     found = solved or solver.solve(position)
     if (found.game, found.weight) != (position.game, position.weight):
-        raise InvalidError(f"the report is not of this position: {found.game.line()}, weight "
+        raise InvalidError(f"the report is not of this position: {found.game.title()}, weight "
                            f"{found.weight}")
     yours = found.sheet(other(side))
     one, two = (mine, yours) if side == "one" else (yours, mine)

@@ -76,9 +76,10 @@ class PlayState:
 
     def chance_outcomes(self) -> list[tuple[int, float]]:
         """Each draw with its probability."""
-        if not self.is_chance_node():
+        if self._chosen is None:
             raise InvalidError(f"no draw is to be made in {self.state}")
-        return [(draw, chance / CHANCE) for draw, chance in enumerate(self.state._chances())]
+        chances = self.state._chances(*self._chosen)
+        return [(draw, chance / CHANCE) for draw, chance in enumerate(chances)]
 
     def apply_actions(self, actions: Sequence[int]) -> None:
         """Plays both players' labels."""
@@ -88,7 +89,7 @@ class PlayState:
         for side, label in zip(SIDES, (one, two)):
             self.state.move(side, label)
         self._history += [one, two]
-        if len(self.state._chances()) > 1:
+        if len(self.state._chances(one, two)) > 1:
             self._chosen = one, two
         else:
             self.state = self.state.play(one=one, two=two)

@@ -17,12 +17,12 @@ from typing import Any
 from .errors import DosolveError, InvalidError
 from .game import CHANCE, SCALE, SIDES, Move, Side, State
 from .plans import Sheet
-from .positions import FilePath
 from .progress import Progress
 from .pursuit import PursuitState
 from .reports import Report
+from .table import Table
 from .tron import TronState
-from .values import as_points, cut
+from .values import FilePath, as_points, cut
 
 _COLOURS: dict[Side, str] = {"one": "#1f6fb4", "two": "#c8501e"}
 _BOUNDS: tuple[tuple[Side, str], ...] = (("one", "lower"), ("two", "upper"))
@@ -30,6 +30,7 @@ _STEPS = ((-1, 0), (0, 1), (1, 0), (0, -1))
 _TITLES = {
     "goofspiel": "Goofspiel", "goofspiel_drawn": "Goofspiel with drawn prizes",
     "oshi_zumo": "Oshi-Zumo", "tron": "Tron", "pursuit": "Pursuit on a graph",
+    "table": "Table",
 }
 
 Players = tuple[str, str]
@@ -97,10 +98,11 @@ def figure(report: Report, key: int | None = None, zoom: bool = False,
 
 def _title(report: Report, state: State, key: int | None) -> str:
     """The game's name in words, its settings, cut where they are long, and the state."""
-    words = []
-    for setting, value in zip(report.game.settings, report.game.values()):
-        shown = " ".join(map(str, value)) or "none" if isinstance(value, tuple) else str(value)
-        words.append(cut(f"{setting.name} {shown}", 48))
+    if isinstance(report.game, Table):
+        words = report.game.title().removeprefix("table of ").split("; ")
+    else:
+        words = [cut(f"{name} {_shown(value)}", 48)
+                 for name, value in report.game.record().items()]
     lines = [f"{_TITLES.get(report.game.name, report.game.name)}: {words[0]}"]
     for word in words[1:]:
         if len(lines[-1]) + len(word) > 72:
@@ -113,6 +115,11 @@ def _title(report: Report, state: State, key: int | None) -> str:
     return "\n".join(lines)
 
 
+def _shown(value: Any) -> str:
+    """A setting as words."""
+    return " ".join(map(str, value)) or "none" if isinstance(value, tuple) else str(value)
+
+
 def _shares(sheet: Sheet, state: State) -> list[float]:
     """The chance of each move at a state; empty at an end."""
     return [] if state.is_end else [weight / sheet.total for weight in sheet.weights(state)]
@@ -120,7 +127,7 @@ def _shares(sheet: Sheet, state: State) -> list[float]:
 
 def _bars(axes: Any, sheet: Sheet, state: State, name: str) -> None:
     """The plan of one side at a state, a bar for each move."""
-    shares, names = _shares(sheet, state), state.names(sheet.side)
+    shares, names = _shares(sheet, state), [cut(word, 14) for word in state.names(sheet.side)]
     without = "" if sheet.row(state) or state.is_end else ", no row: the first move"
     axes.set_title(f"Player {sheet.side}{name}: probability of each move{without}", loc="left",
                    fontsize=10)
@@ -135,7 +142,8 @@ def _bars(axes: Any, sheet: Sheet, state: State, name: str) -> None:
         return
     bars = axes.bar(range(len(shares)), shares, color=_COLOURS[sheet.side], width=0.7)
     many = len(shares) > 10
-    axes.set_xticks(range(len(shares)), names, fontsize=7 if many else 9)
+    axes.set_xticks(range(len(shares)), names, fontsize=7 if many else 9,
+                    rotation=90 if sum(map(len, names)) > 60 else 0)
     middle, room = (len(shares) - 1) / 2, max(len(shares), 3) / 2 + 0.1
     axes.set_xlim(middle - room, middle + room)
     for bar, share in zip(bars, shares):

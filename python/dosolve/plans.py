@@ -16,6 +16,7 @@ from .graph import Cell, Graph, walk
 from .limits import (
     LEAST_WEIGHT, MOST_BOUND, MOST_KEY, MOST_MOVES, MOST_ROWS, MOST_WEIGHT, SUM_ERROR,
 )
+from .progress import Asking, Bar, PlanListener
 from .values import as_plain, cut, require_range, shorten
 
 ASKED_AGAIN = 64
@@ -86,7 +87,7 @@ class Sheet:
         return self.total
 
     def __repr__(self) -> str:
-        return (f"<Sheet of player {self.side} in {cut(self.game.line(), 60)}: "
+        return (f"<Sheet of player {self.side} in {cut(self.game.title(), 60)}: "
                 f"{len(self.rows)} rows of weight {self.total}>")
 
     @cached_property
@@ -96,8 +97,8 @@ class Sheet:
     def row(self, state: State) -> Row | None:
         """The row of the state, whether or not it is a good one; None where there is none."""
         if state.game != self.game:
-            raise InvalidError(f"a state of the game {state.game.line()} is none of the plan's "
-                               f"game {self.game.line()}")
+            raise InvalidError(f"a state of the game {state.game.title()} is none of the plan's "
+                               f"game {self.game.title()}")
         return self._by_key.get(state.key)
 
     def weights(self, state: State) -> tuple[int, ...]:
@@ -115,6 +116,11 @@ class Sheet:
         labels = state.moves(self.side)
         return {label: Fraction(weight, self.total)
                 for label, weight in zip(labels, self.weights(state))}
+
+    def named(self, state: State) -> dict[str, Fraction]:
+        """What the plan plays in a state that is no end: the probability of each move by its
+        name."""
+        return dict(zip(state.names(self.side), self.probabilities(state).values()))
 
     def sample(self, state: State, source: Source | None = None) -> Move:
         """A move for a live match, its number from 0, drawn by the plan's weights; its label is
@@ -169,17 +175,18 @@ class Sheet:
         return state.payoff * SCALE if state.is_end else self.game.opening(self.side)
 
 
-def whole_weights(values: Any, count: int, total: int,
-                  labels: Sequence[int] | None = None) -> tuple[int, ...]:
+def whole_weights(values: Any, count: int, total: int, labels: Sequence[int] | None = None,
+                  names: Sequence[str] = ()) -> tuple[int, ...]:
     """One weight for each of `count` moves, which sum to `total`.
 
-    The values stand in the order of the moves, or in a mapping by their labels, where a label that
-    is left out has none. Whole numbers, and True and False, are weights, whatever their sum; else
-    the values are probabilities, whose sum has to be 1 within 1e-6. Each value's exact share of
-    the total is rounded down; what is missing then goes one each to the largest remainders, the
-    earlier move first where two are equal. So whole weights of that sum stay as they are.
+    The values stand in the order of the moves, or in a mapping by their labels or names, where a
+    move that is left out has none. Whole numbers, and True and False, are weights, whatever their
+    sum; else the values are probabilities, whose sum has to be 1 within 1e-6. Each value's exact
+    share of the total is rounded down; what is missing then goes one each to the largest
+    remainders, the earlier move first where two are equal. So whole weights of that sum stay as
+    they are.
     """
-    numbers = [as_plain(number) for number in _listed(values, labels)]
+    numbers = [as_plain(number) for number in _listed(values, labels, names)]
     if len(numbers) != count:
         raise InvalidError(f"{len(numbers)} weights for {count} moves")
     ratios = [_ratio(move, number) for move, number in enumerate(numbers)]
@@ -198,16 +205,18 @@ def whole_weights(values: Any, count: int, total: int,
     return tuple(floors)
 
 
-def _listed(values: Any, labels: Sequence[int] | None) -> list[Any]:
+def _listed(values: Any, labels: Sequence[int] | None, names: Sequence[str]) -> list[Any]:
     """The values in the order of the moves."""
     values = as_plain(values)
     if isinstance(values, Mapping):
         if labels is None:
             raise InvalidError(f"{shorten(values)} is a mapping, and the labels are not known")
-        unknown = [label for label in values if as_plain(label) not in labels]
+        by_name = any(isinstance(label, str) for label in values)
+        known: Sequence[int | str] = names if by_name else labels
+        unknown = [label for label in values if as_plain(label) not in known]
         if unknown:
             raise InvalidError(f"{shorten(unknown[0])} is no label of a move")
-        return [values.get(label, 0) for label in labels]
+        return [values.get(label, 0) for label in known]
     if isinstance(values, Set):
         raise InvalidError(f"{shorten(values)} has no order, so it is no list of weights")
     if isinstance(values, (str, bytes)) or not isinstance(values, Iterable):
@@ -229,7 +238,7 @@ def _ratio(move: int, number: Any) -> tuple[int, int]:
 
 
 def plan(game: Game, side: Side, choose: Choice, weight: int = MOST_WEIGHT,
-         ask_again: int = ASKED_AGAIN) -> Sheet:
+         ask_again: int = ASKED_AGAIN, progress: PlanListener | bool = False) -> Sheet:
     """The sheet of a player given as a function from a state to a probability or weight for each
     move, in their order or as a mapping from labels.
 
@@ -238,22 +247,29 @@ def plan(game: Game, side: Side, choose: Choice, weight: int = MOST_WEIGHT,
     the module `random` itself, is no plan, and is refused. `whole_weights` makes the row's weights
     of its answer, which sum to `weight` (8192 to 1048576). Each row's bound is what the weights
     prove from the bounds of the states that follow, in millionths, rounded down for One and up for
-    Two, so that `check` accepts the sheet.
+    Two, so that `check` accepts the sheet. `progress` is a function that is called about once a
+    second (`PlanProgress`), or True for a line on the terminal.
     """
     require_range("the weight of a row", weight, LEAST_WEIGHT, MOST_WEIGHT)
     side_of(side)
     asked: dict[int, tuple[int, ...]] = {}
+    bar = Bar()
+    asking = Asking(bar if progress is True else progress or None)
 
     def followed(state: State) -> tuple[Sequence[int], Sequence[int]]:
         weights = chosen(choose, state, side, weight, watched=ask_again > 0)
         asked[state.key] = weights
+        asking.count()
         moves = [move for move, chance in enumerate(weights) if chance]
         replies = range(len(state.moves(other(side))))
         return (moves, replies) if side == "one" else (replies, moves)
 
-    graph = walk(game, followed)
-    _ask_again(choose, [state for state in graph.states if state.key in asked], side, asked,
-               ask_again)
+    try:
+        graph = walk(game, followed)
+        _ask_again(choose, [state for state in graph.states if state.key in asked], side, asked,
+                   ask_again)
+    finally:
+        bar.close()
     bounds = _proved(graph, side, asked, weight)
     rows = (Row(key, bounds[key], asked[key]) for key in sorted(asked))
     return Sheet(game, side, weight, tuple(rows))
@@ -267,19 +283,26 @@ def chosen(choose: Choice, state: State, side: Side, weight: int,
         answer = choose(state)
     except Exception as fault:
         raise PlayerError(f"player {side} raised {type(fault).__name__}: {fault}: in {state}, "
-                          f"whose moves are {state.moves(side)}{_place(fault)}") from fault
+                          f"whose moves are {state.moves(side)}{fault_place(fault)}") from fault
     if watched and random.getstate() != before:
         raise PlayerError(f"player {side} drew random numbers in {state}: a plan is one "
                           f"probability for each move, the same whenever it is asked; answer the "
                           f"probabilities instead of a move drawn by them")
     labels = state.moves(side)
     try:
-        return whole_weights(answer, len(labels), weight, labels)
+        return whole_weights(answer, len(labels), weight, labels, state.names(side))
     except InvalidError as fault:
-        raise PlayerError(f"{fault}: player {side} in {state}, whose moves are {labels}") from None
+        raise PlayerError(f"{fault}: player {side} in {state}, whose moves are {labels}"
+                          f"{_named(state, side)}") from None
 
 
-def _place(fault: Exception) -> str:
+def _named(state: State, side: Side) -> str:
+    """The names of the moves, where these are more than their labels."""
+    names = state.names(side)
+    return "" if names == tuple(map(str, state.moves(side))) else f", named {names}"
+
+
+def fault_place(fault: Exception) -> str:
     """The file and line where a player's exception was raised."""
     trace = fault.__traceback__
     while trace is not None and trace.tb_next is not None:
@@ -313,18 +336,18 @@ def _proved(graph: Graph, side: Side, weights: Mapping[int, tuple[int, ...]],
         if state.is_end:
             values[at] = sign * state.payoff * SCALE
             continue
-        row, chances = weights[state.key], state._chances()
+        row = weights[state.key]
         sums: dict[int, int] = {}
         for (one, two), cell in zip(graph.pairs[at], graph.cells[at]):
             move, reply = (one, two) if side == "one" else (two, one)
-            sums[reply] = sums.get(reply, 0) + row[move] * _mean(cell, chances, values)
+            sums[reply] = sums.get(reply, 0) + row[move] * _mean(cell, values)
         values[at] = min(sums.values()) // total
     return {state.key: sign * values[at] for at, state in enumerate(graph.states)
             if not state.is_end}
 
 
-def _mean(cell: Cell, chances: Sequence[int], values: Sequence[int]) -> int:
+def _mean(cell: Cell, values: Sequence[int]) -> int:
     """The mean over the draws of one pair of moves, rounded down."""
     if isinstance(cell, int):
         return values[cell]
-    return sum(chance * values[after] for chance, after in zip(chances, cell)) // CHANCE
+    return sum(chance * values[after] for chance, after in cell) // CHANCE

@@ -5,7 +5,7 @@ from __future__ import annotations
 import json
 import math
 import os
-from dataclasses import dataclass
+from dataclasses import dataclass, replace
 from pathlib import Path
 from typing import Any, cast
 
@@ -18,13 +18,12 @@ from .limits import (
 )
 from .oshi_zumo import OshiZumo
 from .pursuit import Pursuit
+from .table import Table, save_names, with_names
 from .tron import Tron
-from .values import as_field, cut, shorten
+from .values import FilePath, as_field, cut, shorten
 
-FilePath = str | os.PathLike[str]
-"""A file's name."""
-
-_KINDS: tuple[type[Game], ...] = (Goofspiel, OshiZumo, Tron, GoofspielDrawn, Pursuit)
+_KINDS: tuple[type[Game], ...] = (Goofspiel, OshiZumo, Tron, GoofspielDrawn, Pursuit,
+                                  Table)
 GAMES = {kind.name: kind for kind in _KINDS}
 """The games by the names that positions and reports have for them."""
 
@@ -70,9 +69,10 @@ class Position:
 
     def __post_init__(self) -> None:
         if type(self.game) not in _KINDS:
+            hint = ("; Table.from_game makes a table of it"
+                    if isinstance(self.game, Game) else "")
             raise InvalidError(f"the program has the games {', '.join(GAMES)}, and "
-                               f"{cut(repr(self.game), 60)} is none of them; a plan in any game "
-                               f"of your own can be measured by expected_of and respond")
+                               f"{cut(repr(self.game), 60)} is none of them{hint}")
         if self.rows is None:
             rows = min(MOST_ROWS, max(1, 2 * self.game.most_states))
             object.__setattr__(self, "rows", rows)
@@ -84,11 +84,15 @@ class Position:
 
     def text(self) -> str:
         """The position as one line of JSON."""
-        entries = {"game": self.game.name}
-        entries |= {field.name: getattr(self.game, field.name) for field in self.game.settings}
+        entries = {"game": self.game.name} | self.game.record()
         entries |= {field.name: getattr(self, field.name) for field in ASKED
                     if field.absent is None or getattr(self, field.name) != field.absent}
-        return json.dumps(entries, separators=(",", ":")) + "\n"
+        text = json.dumps(entries, separators=(",", ":")) + "\n"
+        if len(text) > MOST_POSITION_BYTES:
+            raise InputRefusedError("input 50 too long",
+                                    f"{self.game.title()} has a text of {len(text)} bytes, and "
+                                    f"{MOST_POSITION_BYTES} are possible")
+        return text
 
     @classmethod
     def read(cls, data: bytes | str) -> Position:
@@ -106,18 +110,21 @@ class Position:
                 field.refuse(entries[field.name])
             elif field.absent is None:
                 raise InputRefusedError(f"input 12 missing {field.name}")
-        settings = {field.name: entries[field.name] for field in game.settings}
+        settings = [entries[field.name] for field in game.settings]
         asked = {field.name: entries.get(field.name, field.absent) for field in ASKED}
-        return cls(game(**settings), **asked)
+        return cls(game(*settings), **asked)
 
     @classmethod
     def load(cls, path: FilePath) -> Position:
-        """The position of a file."""
-        return cls.read(Path(path).read_bytes())
+        """The position of a file; a table with the names of a file beside it that ends with
+        `.names`."""
+        found = cls.read(Path(path).read_bytes())
+        return replace(found, game=with_names(found.game, path))
 
     def save(self, path: FilePath) -> None:
-        """Writes the position into a file."""
+        """Writes the position into a file, and the names of a table into one beside it."""
         Path(path).write_text(self.text())
+        save_names(self.game, path)
 
 
 def processors() -> int:

@@ -20,13 +20,13 @@ from .errors import (
     ProgramMissingError, ProgramTimeoutError, ReportRefusedError,
 )
 from .exact import BestResponse, expected_of, respond
-from .game import SCALE, SIDES, Side, other, side_of
+from .game import SCALE, SIDES, Game, Side, State, other, side_of
 from .limits import MOST_GAMES, MOST_SEED
 from .plans import Sheet
-from .positions import FilePath, Position, require_position
+from .positions import Position, require_position
 from .progress import Bar, Follower, Listener
 from .reports import Report
-from .values import as_field, cut, require_range, shorten
+from .values import FilePath, as_field, cut, require_range, shorten
 
 BLOCKS = 40
 """The blocks of games of a match, from whose means its standard error is made."""
@@ -121,6 +121,19 @@ class Match:
         """The mean payoff of One."""
         return Fraction(self.sum, self.games)
 
+    def told(self, game: Game) -> list[str]:
+        """The turns of the first game in words: the state, both moves by their names, and the
+        draw where there are several."""
+        state: State = game.root()
+        lines = []
+        for turn in self.turns:
+            one, two = state.move("one", turn.one), state.move("two", turn.two)
+            drawn = f", draw {turn.draw}" if len(state.chances(one, two)) > 1 else ""
+            names = state.names("one")[one], state.names("two")[two]
+            lines.append(f"{state}: {names[0]} - {names[1]}{drawn}")
+            state = state.after(one, two, turn.draw)
+        return lines
+
 
 @dataclass(frozen=True)
 class Solver:
@@ -183,7 +196,7 @@ class Solver:
             follower = Follower(listener, since, bounds)
         text = self._answer(["solve"], position.text(), {0, 3, 4, 5}, follower, timeout)
         try:
-            return Report.read(text)
+            return Report.read(text, position.game)
         except ReportRefusedError as refusal:
             raise self._unexpected(f"no report ({refusal.text})", text) from None
 
@@ -281,6 +294,9 @@ class Solver:
             if text == "input 13 unknown field" and b'"stages":' in given:
                 return InputRefusedError(text, "the program is older than this package, and has no "
                                                "field `stages`: ask stages='regret'")
+            if text == "input 16 game name":
+                return InputRefusedError(text, "the program is older than this package, and does "
+                                               "not know the game")
             return InputRefusedError(text)
         if status == 9 and text.startswith(("report ", "refused ")):
             return ReportRefusedError(text)

@@ -33,7 +33,41 @@ class Progress:
 
     def __str__(self) -> str:
         found = f"{self.seconds:.0f} s, {self.turns} turns"
-        return found if self.gap is None else f"{found}, gap {as_points(self.gap)}"
+        if self.lower is None or self.upper is None:
+            return found
+        return (f"{found}, {as_points(self.lower)} to {as_points(self.upper)}, gap "
+                f"{as_points(self.upper - self.lower)}")
+
+
+@dataclass(frozen=True)
+class PlanProgress:
+    """How far the making of a plan is: the states in which the player was asked, and the seconds
+    since it began."""
+
+    states: int
+    seconds: float
+
+    def __str__(self) -> str:
+        return f"{self.seconds:.0f} s, the player was asked in {self.states} states"
+
+
+PlanListener = Callable[[PlanProgress], object]
+"""What is called with each step of making a plan."""
+
+
+class Asking:
+    """Tells a listener, at most once a second, in how many states a player was asked."""
+
+    def __init__(self, listener: PlanListener | None) -> None:
+        self.listener, self.states = listener, 0
+        self.since = self.told = time.monotonic()
+
+    def count(self) -> None:
+        """One more state."""
+        self.states += 1
+        if self.listener is not None and time.monotonic() - self.told >= 1:
+            self.told = time.monotonic()
+            self.listener(PlanProgress(self.states, self.told - self.since))
 
 
 Listener = Callable[[Progress], object]
@@ -83,10 +117,12 @@ class Bar:
         self.most = most
         self.shown = 0
 
-    def __call__(self, step: Progress) -> None:
+    def __call__(self, step: Progress | PlanProgress) -> None:
         if not self.stream.isatty():
             return
-        share = f" ({100 * step.turns / self.most:.0f}% of the turns)" if self.most else ""
+        share = ""
+        if self.most and isinstance(step, Progress):
+            share = f" ({100 * step.turns / self.most:.0f}% of the turns)"
         text = f"dosolve: {step}{share}"
         self.stream.write("\r" + text.ljust(self.shown))
         self.stream.flush()

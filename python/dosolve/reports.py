@@ -4,19 +4,21 @@ from __future__ import annotations
 import html
 import re
 from collections.abc import Iterator, Sequence
-from dataclasses import dataclass
+from dataclasses import dataclass, replace
+from fractions import Fraction
 from pathlib import Path
 from typing import Any
 
 from .errors import InputRefusedError, InvalidError, ReportRefusedError
-from .game import SCALE, SIDES, Game, Side
+from .game import CHANCE, SCALE, SIDES, Game, Move, Side, State
 from .limits import (
     LEAST_WEIGHT, MOST_BOUND, MOST_GAP, MOST_KEY, MOST_REPORT_BYTES, MOST_RESOLUTION, MOST_ROWS,
     MOST_TURNS, MOST_WEIGHT, MOST_WORKERS,
 )
 from .plans import Row, Sheet
-from .positions import GAMES, FilePath, looks_like_path
-from .values import as_points, cut, require_range, shorten
+from .positions import GAMES, looks_like_path
+from .table import save_names, with_names
+from .values import FilePath, as_points, cut, require_range, shorten
 
 OUTCOMES = ("closed", "settled", "spent", "full")
 
@@ -72,7 +74,7 @@ class Report:
         for side, sheet in (("one", self.one), ("two", self.two)):
             if (sheet.game, sheet.side, sheet.total) != (self.game, side, self.weight):
                 raise InvalidError(f"the sheet {side} is of another game, side or weight: "
-                                   f"{sheet.game.line()}, {sheet.side}, {sheet.total}")
+                                   f"{sheet.game.title()}, {sheet.side}, {sheet.total}")
 
     @property
     def gap(self) -> int:
@@ -83,6 +85,12 @@ class Report:
     def span(self) -> int:
         """The greatest payoff of the game less the least, in millionths."""
         return (self.game.high - self.game.low) * SCALE
+
+    @property
+    def interval(self) -> tuple[Fraction, Fraction]:
+        """Both bounds as payoffs of the rules, before a table's `scale`: the value of the game
+        lies between them."""
+        return self.game.unscaled(self.lower), self.game.unscaled(self.upper)
 
     @property
     def closeness(self) -> str:
@@ -112,12 +120,14 @@ class Report:
             found.append("the board had no row left: more rows can narrow the gap")
         if self.turns == 0 and self.gap > self.asked:
             found.append("no turns were given, so no matrix game was solved")
+        if self.game.scale != 1:
+            found.append(f"payoffs and bounds are those of the rules times {self.game.scale}")
         return tuple(found)
 
     def summary(self) -> str:
         """A few lines that tell what was found, in payoffs, with notes."""
         share = f" ({100 * self.gap / self.span:.3g}% of the range)" if self.span else ""
-        lines = [f"game   {cut(self.game.line(), 90)}",
+        lines = [f"game   {cut(self.game.title(), 90)}",
                  f"value  from {as_points(self.lower)} to {as_points(self.upper)}, payoff of One",
                  f"gap    {as_points(self.gap)}{share}, {self.closeness}",
                  f"turns  {sum(self.spent)} spent by {len(self.spent)} "
@@ -133,7 +143,7 @@ class Report:
         return f"{side}    {', '.join(shown[:8])}{', ..' if len(shown) > 8 else ''}"
 
     def __repr__(self) -> str:
-        return (f"<Report on {cut(self.game.line(), 60)}: lower {as_points(self.lower)}, upper "
+        return (f"<Report on {cut(self.game.title(), 60)}: lower {as_points(self.lower)}, upper "
                 f"{as_points(self.upper)}, gap {as_points(self.gap)}, {self.closeness}>")
 
     def __str__(self) -> str:
@@ -146,6 +156,14 @@ class Report:
                         for name, text in rows)
         return f"<table>{cells}</table>"
 
+    def on(self, game: Game) -> Report:
+        """The same report on an equal game, as on a table with names; itself where the game is
+        another one."""
+        if game is self.game or game != self.game:
+            return self
+        one, two = (replace(sheet, game=game) for sheet in (self.one, self.two))
+        return replace(self, game=game, one=one, two=two)
+
     def sheet(self, side: Side) -> Sheet:
         """The plan of a side."""
         return self.one if side == "one" else self.two
@@ -154,6 +172,23 @@ class Report:
         """What the plan of a side guarantees: the lower bound for One, the upper for Two;
         millionths."""
         return self.lower if side == "one" else self.upper
+
+    def stage(self, state: State) -> list[list[tuple[Fraction, Fraction]]]:
+        """The matrix game of a state, a row for each move of One: the lower and the upper bound
+        that the two plans have for what follows each pair of moves, in payoffs, exactly. Where a
+        plan has no row for a state that follows, its bound is the worst payoff of its side."""
+        if state.is_end:
+            return []
+        return [[self._worth(state.outcomes(Move(one), Move(two)))
+                 for two in range(len(state.moves("two")))]
+                for one in range(len(state.moves("one")))]
+
+    def _worth(self, outcomes: list[tuple[int, State]]) -> tuple[Fraction, Fraction]:
+        """The mean over draws of both bounds."""
+        lower, upper = (sum((Fraction(chance * sheet.bound(after), CHANCE * SCALE)
+                             for chance, after in outcomes), Fraction(0))
+                        for sheet in (self.one, self.two))
+        return lower, upper
 
     def text(self) -> str:
         """The report's one spelling."""
@@ -171,8 +206,7 @@ class Report:
         resolution are millionths."""
         return {
             "game": self.game.name,
-            "settings": {field.name: getattr(self.game, field.name)
-                         for field in self.game.settings},
+            "settings": self.game.record(),
             "lower": self.lower, "upper": self.upper, "gap": self.gap, "asked": self.asked,
             "resolution": self.resolution, "outcome": self.outcome, "weight": self.weight,
             "turns": self.turns, "spent": list(self.spent), "is_vacuous": self.is_vacuous,
@@ -181,10 +215,11 @@ class Report:
         }
 
     @classmethod
-    def read(cls, data: bytes | str) -> Report:
+    def read(cls, data: bytes | str, game: Game | None = None) -> Report:
         """The report of a text; `load` reads a file. Refuses, with `check`'s text, what is no
         report and a position that the rules refuse; whether the rows and numbers are right only
-        `check` says."""
+        `check` says. Where the report is on `game`, it has that one, with the names of a
+        table."""
         if not isinstance(data, (bytes, str)):
             raise InvalidError(f"read takes a text, not {shorten(data)}; load takes a path")
         if looks_like_path(data):
@@ -193,16 +228,20 @@ class Report:
         encoded = data.encode("utf-8", "surrogatepass") if isinstance(data, str) else data
         if len(encoded) > MOST_REPORT_BYTES:
             raise ReportRefusedError("report too long")
-        return _Reader(encoded).report()
+        found = _Reader(encoded).report()
+        return found if game is None else found.on(game)
 
     @classmethod
     def load(cls, path: FilePath) -> Report:
-        """The report of a file."""
-        return cls.read(Path(path).read_bytes())
+        """The report of a file; a table with the names of a file beside it that ends with
+        `.names`."""
+        found = cls.read(Path(path).read_bytes())
+        return found.on(with_names(found.game, path))
 
     def save(self, path: FilePath) -> None:
-        """Writes the report into a file."""
+        """Writes the report into a file, and the names of a table into one beside it."""
         Path(path).write_text(self.text())
+        save_names(self.game, path)
 
     @classmethod
     def of(cls, one: Sheet, two: Sheet, asked: int = 0) -> Report:
@@ -276,7 +315,7 @@ class _Reader:
         if kind is None or kind.version != version:
             raise ReportRefusedError(f"report line {line.number}",
                                      f"version {version} has no such game")
-        given = list(zip(kind.settings, line.fields[2:]))
+        given = list(zip(kind.line_settings or kind.settings, line.fields[2:]))
         for field, word in given:
             line.require(not field.choices or word.decode("ascii", "replace") in field.choices)
         settings: list[Any] = []
@@ -338,7 +377,7 @@ class _Reader:
         if self.at < len(self.data):
             raise ReportRefusedError("report tail", "something follows the line `end`")
         try:
-            game = kind(*settings)
+            game = kind.of_line(*settings)
         except InputRefusedError as refusal:
             raise ReportRefusedError(f"report position {refusal.code}", refusal.hint) from None
         sheets = (Sheet(game, "one", numbers[0], one), Sheet(game, "two", numbers[0], two))

@@ -9,14 +9,15 @@ from collections.abc import Generator, Iterable, Iterator
 from concurrent.futures import FIRST_COMPLETED, BrokenExecutor, Executor, Future
 from concurrent.futures import ProcessPoolExecutor, wait
 from contextlib import AbstractContextManager, closing, nullcontext
-from dataclasses import dataclass, field
+from dataclasses import dataclass, field, replace
 from pathlib import Path
 from typing import IO, Any
 
 from .errors import DosolveError, InvalidError
-from .positions import FilePath, Position, processors, require_position
+from .positions import Position, processors, require_position
 from .program import Solver
 from .reports import Report
+from .values import FilePath
 
 MOST_WAITING = 256
 """How many positions an executor is handed at once."""
@@ -60,11 +61,19 @@ def sweep(positions: Iterable[Position | str], executor: Executor | None = None,
     what is already there is not solved again, except failures; so a sweep that was stopped
     goes on where it was when it is started once more. Positions can be texts too.
     """
-    texts = [_text(position) for position in positions]
+    given = list(positions)
+    texts = [_text(position) for position in given]
     known = _read_output(output) if output is not None and Path(output).exists() else {}
     todo = [number for number, text in enumerate(texts) if text.strip() not in known]
     jobs = {number: (texts[number], solver or Solver(), seconds) for number in todo}
-    return _in_order(texts, known, _solved(jobs, executor), output)
+    return _in_order(given, texts, known, _solved(jobs, executor), output)
+
+
+def _named(found: Swept, position: Position | str) -> Swept:
+    """The result on the game that was handed over, with the names of a table."""
+    if found.report is None or isinstance(position, str):
+        return found
+    return replace(found, report=found.report.on(position.game))
 
 
 def _text(position: Position | str) -> str:
@@ -73,7 +82,7 @@ def _text(position: Position | str) -> str:
     return require_position(position, "sweep").text()
 
 
-def _in_order(texts: list[str], known: dict[str, Swept],
+def _in_order(given: list[Position | str], texts: list[str], known: dict[str, Swept],
               found: Generator[Swept, None, None], output: FilePath | None) -> Iterator[Swept]:
     """The results in the order of the positions; each new one is written when it comes."""
     ready: dict[int, Swept] = {}
@@ -81,7 +90,7 @@ def _in_order(texts: list[str], known: dict[str, Swept],
         for number, text in enumerate(texts):
             old = known.get(text.strip())
             if old is not None:
-                yield Swept(number, text, old.report, None, old.seconds)
+                yield _named(Swept(number, text, old.report, None, old.seconds), given[number])
                 continue
             while number not in ready:
                 new = next(found)
@@ -89,7 +98,7 @@ def _in_order(texts: list[str], known: dict[str, Swept],
                 if file is not None:
                     file.write(json.dumps(new.record()) + "\n")
                     file.flush()
-            yield ready.pop(number)
+            yield _named(ready.pop(number), given[number])
 
 
 def _opened(output: FilePath | None) -> AbstractContextManager[IO[str] | None]:

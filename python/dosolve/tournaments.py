@@ -98,7 +98,7 @@ def tournament(players: Mapping[str, Contender], positions: Iterable[Position],
         if solver is not None:
             report = solver.solve(position)
             ready[SOLVER] = {"one": report.one, "two": report.two}
-        line = position.game.line()
+        line = position.game.title()
         for one in ready:
             for two in ready:
                 met = _meet(position, ready[one]["one"], ready[two]["two"], games, seed)

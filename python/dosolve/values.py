@@ -1,11 +1,15 @@
 """Numbers and lists as users have them: Python's own, and those of numpy and pandas."""
 from __future__ import annotations
 
+import os
 from collections.abc import Sequence, Set
 from numbers import Integral
 from typing import Any, TypeGuard
 
 from .errors import InvalidError
+
+FilePath = str | os.PathLike[str]
+"""A file's name."""
 
 
 def as_plain(value: Any) -> Any:

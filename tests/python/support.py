@@ -53,7 +53,7 @@ def children(parent: int) -> list[int]:
 
 
 def _goofspiel(kind: type[dosolve.Game], r: random.Random) -> dosolve.Game:
-    cards = r.choice([1, 2, 3, 3, 4] if kind.chance_free else [1, 2, 3])
+    cards = r.choice([1, 2, 3, 3, 4] if kind is dosolve.Goofspiel else [1, 2, 3])
     hands = [r.sample(range(1, 14), cards) for _ in range(2)]
     return kind(*hands, [r.randint(1, r.choice([3, 100])) for _ in range(cards)], r.randint(-9, 9), r.choice(["margin", "win"]))
 
@@ -76,7 +76,33 @@ def _pursuit(r: random.Random) -> dosolve.Game:
     return dosolve.Pursuit(nodes, edges, one, two, r.randint(1, 4))
 
 
+def _cell(r: random.Random, state: int, count: int) -> int | list[list[int]]:
+    """A cell of a state that leads to one state behind it, or to several."""
+    if r.random() < 0.7:
+        return r.randint(state + 1, count - 1)
+    cuts = sorted(r.sample(range(1, dosolve.CHANCE), r.randint(0, 3)))
+    weights = [high - low for low, high in zip([0, *cuts], [*cuts, dosolve.CHANCE])]
+    return [[r.randint(state + 1, count - 1), weight] for weight in weights]
+
+
+def random_listing(r: random.Random, most: int = 9) -> list:
+    """The states of a small table: some with moves, some ends among them."""
+    count = r.randint(1, most)
+    listing: list = []
+    for state in range(count):
+        if state == count - 1 or r.random() < 0.3:
+            listing.append(r.randint(-5, 5))
+            continue
+        ones, twos = r.randint(1, 3), r.randint(1, 3)
+        listing.append([[_cell(r, state, count) for _ in range(twos)] for _ in range(ones)])
+    return listing
+
+
+def _table(r: random.Random) -> dosolve.Game:
+    return dosolve.Table(random_listing(r))
+
+
 def random_game(name: str, r: random.Random) -> dosolve.Game:
     """A small game of this name."""
-    made = {"oshi_zumo": _oshi_zumo, "tron": _tron, "pursuit": _pursuit}
+    made = {"oshi_zumo": _oshi_zumo, "tron": _tron, "pursuit": _pursuit, "table": _table}
     return made[name](r) if name in made else _goofspiel(dosolve.GAMES[name], r)

@@ -78,7 +78,8 @@ class Commands(unittest.TestCase):
     def test_help_and_version(self):
         self.assertIn("examples:", run("--help").stdout)
         self.assertRegex(run("--version").stdout, rf"^dosolve-py {dosolve.__version__}, program /")
-        for command in ("solve", "check", "exploit", "measure", "tournament", "show", "sweep"):
+        for command in ("solve", "check", "exploit", "measure", "match", "tournament", "show",
+                        "sweep", "table"):
             self.assertEqual(run(command, "--help").returncode, 0)
         self.assertEqual(run().returncode, 2)
 

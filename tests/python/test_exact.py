@@ -1,10 +1,11 @@
 """Exact payoffs and best responses, against `exploit` and `play` of the program and by hand."""
+import math
 import random
 import unittest
 from fractions import Fraction
 
 import dosolve
-from support import games, random_game
+from support import TOP, games, random_game
 
 
 def sheets(game, source, weight):
@@ -64,6 +65,24 @@ class Exact(unittest.TestCase):
             within += away <= 2 * found.error + 1e-9
             self.assertLessEqual(away, 5 * found.error + 0.01)
         self.assertGreaterEqual(within, len(games()) - 1)
+
+    def test_the_matrix_of_a_state_proves_its_rows(self):
+        checked = 0
+        for file in sorted((TOP / "examples").glob("*.report")):
+            report = dosolve.Report.load(file)
+            for row in report.one.rows[:20]:
+                state = report.game.state(row.key)
+                sums = [sum(weight * math.floor(dosolve.SCALE * lower)
+                            for weight, (lower, _) in zip(row.weights, column))
+                        for column in zip(*report.stage(state))]
+                self.assertGreaterEqual(min(sums) // report.weight, row.bound)
+                checked += 1
+        self.assertGreater(checked, 20)
+        root = dosolve.Report.load(TOP / "examples" / "goofspiel_mixed.report")
+        self.assertEqual(root.stage(root.game.root()), [[(-1, -1), (0, 0)], [(0, 0), (-1, -1)]])
+        end = dosolve.Goofspiel([], [], [])
+        sheets = (dosolve.Sheet(end, side, 8192) for side in dosolve.SIDES)
+        self.assertEqual(dosolve.Report.of(*sheets).stage(end.root()), [])
 
     def test_a_game_of_ones_own_is_measured_in_python(self):
         game = Matching()

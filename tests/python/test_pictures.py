@@ -132,6 +132,7 @@ class Pictures(unittest.TestCase):
             report = dosolve.Report.load(EXAMPLES[1])
             for number, words in enumerate((
                     (EXAMPLES[1], "--key", report.one.rows[0].key, "--zoom"),
+                    (EXAMPLES[0], "--history", "3,2"), (EXAMPLES[1], "--history", "east,0", "1,3"),
                     (EXAMPLES[0], "--tree", 2), (lines, "--progress"),
                     (EXAMPLES[0], "--players", "my player", "solver"))):
                 output = Path(folder, f"{number}.svg")

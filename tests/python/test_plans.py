@@ -105,6 +105,21 @@ class States(unittest.TestCase):
         with self.assertRaises(TypeError):
             root.play(1, 2)
 
+    def test_histories_and_names_lead_to_states(self):
+        root = GAME.root()
+        self.assertEqual(GAME.state_after([]), root)
+        self.assertEqual(GAME.state_after([(3, 2)]), root.play(one=3, two=2))
+        self.assertEqual(GAME.state_after([("3", "2", "0"), ["1", "3"]]).payoff, 0)
+        drawn = dosolve.GoofspielDrawn([1, 2, 3], [1, 2, 3], [1, 2, 3])
+        self.assertEqual(drawn.state_after([(1, 1, 1)]).prize, 3)
+        tron = dosolve.Tron(3, 4, [], 0, 11)
+        self.assertEqual(tron.state_after([("east", "0")]), tron.root().play(one=1, two="north"))
+        for turns, words in (([(2, 2)], "no move 2"), ([(3,)], "a turn is One's move"),
+                             ([("x", "2")], "no move 'x'"), ([("9", "2")], "no move 9"),
+                             ([(3, 2, 1)], "draw 1 of 1")):
+            with self.assertRaisesRegex(dosolve.InvalidError, words):
+                GAME.state_after(turns)
+
     def test_keys_name_states(self):
         source = random.Random(4)
         for name in games():

@@ -1,11 +1,13 @@
 """Players: what they may answer, what is found out about them, matches, tournaments, OpenSpiel."""
 import importlib
+import itertools
 import json
 import random
 import sys
 import tempfile
 import unittest
 from pathlib import Path
+from unittest import mock
 
 import dosolve
 from dosolve import whole_weights
@@ -43,6 +45,22 @@ class Answers(unittest.TestCase):
                 whole_weights(values, 2, 8192, (1, 3))
         with self.assertRaisesRegex(dosolve.PlayerError, "9 is no label.*one in Goof.*1, 2, 3"):
             dosolve.plan(GAME, "one", lambda state: {9: 1})
+
+    def test_a_mapping_is_read_by_names(self):
+        tron = dosolve.Tron(3, 4, [], 0, 11)
+        plan = dosolve.plan(tron, "one", lambda state: {state.names("one")[-1]: 1}, 8192)
+        self.assertEqual(plan.named(tron.root()), {"east": 0, "south": 1})
+        with self.assertRaisesRegex(dosolve.PlayerError, "'up' is no .*named .'east', 'south'"):
+            dosolve.plan(tron, "one", lambda state: {"up": 1})
+
+    def test_making_a_plan_tells_how_far_it_is(self):
+        steps = []
+        with mock.patch("dosolve.progress.time.monotonic", itertools.count().__next__):
+            dosolve.plan(GAME, "one", lambda state: [1] * len(state.moves("one")), 8192,
+                         progress=steps.append)
+        self.assertEqual([step.states for step in steps], list(range(1, len(steps) + 1)))
+        self.assertIn("the player was asked in 1 states", str(steps[0]))
+        self.assertGreater(len(steps), 10)
 
     @unittest.skipUnless(optional("numpy"), "numpy is missing")
     def test_numbers_of_numpy_are_taken(self):

@@ -95,7 +95,7 @@ class Steps(unittest.TestCase):
         found = dosolve.read_progress(lines)
         self.assertEqual([step.turns for step in found], [12, 17, 25])
         self.assertEqual([step.gap for step in found], [None, None, 1_500_000])
-        self.assertEqual(str(found[2]), "2 s, 25 turns, gap 1.500000")
+        self.assertEqual(str(found[2]), "2 s, 25 turns, -1.000000 to 0.500000, gap 1.500000")
 
     def test_the_bar_is_for_terminals(self):
         class Terminal(io.StringIO):
@@ -143,6 +143,9 @@ class Wrong(Programs):
         older = self.program("cat > /dev/null; echo input 13 unknown field; exit 2")
         with self.assertRaisesRegex(dosolve.InputRefusedError, "older than this package"):
             dosolve.solve(dosolve.Position(GAME), older)
+        older = self.program("cat > /dev/null; echo input 16 game name; exit 2")
+        with self.assertRaisesRegex(dosolve.InputRefusedError, "older .* does not know the game"):
+            dosolve.solve(dosolve.Position(dosolve.Table([5])), older)
 
     def test_what_is_no_position_or_report_is_said(self):
         for given, words in ((GAME, r"takes a Position, not .*; Position\(Goofspiel"),

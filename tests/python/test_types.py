@@ -37,7 +37,8 @@ class Types(unittest.TestCase):
     @unittest.skipUnless(shutil.which("mypy"), "mypy is missing")
     def test_the_package_and_the_snippets_are_typed(self):
         files = []
-        for number, (snippet, _) in enumerate(guide.snippets()):
+        given = [snippet for page in guide.PAGES for snippet, _ in guide.snippets(page)]
+        for number, snippet in enumerate(given):
             files.append(self.folder / f"snippet_{number}.py")
             files[-1].write_text(snippet)
         opening = dosolve.__doc__.split("\n\n")[1]

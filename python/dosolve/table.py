@@ -1,0 +1,429 @@
+"""Tables: any finite game, told state by state.
+
+    pennies = dosolve.Table([[[1, 2], [2, 1]], 1, -1])
+    pennies = dosolve.Table.from_matrix([[1, -1], [-1, 1]], ["heads", "tails"], ["heads", "tails"])
+
+A table is a list of states, numbered from 0; state 0 is the root. A state is an end, its payoff to
+One; or a list of rows, one for each move of One. A row is a list of cells, one for each move of
+Two. A cell is the number of the state that follows, or a list of draws, each a pair of a state and
+its weight, which sum to 360360. A cell leads only to states that stand behind its own.
+
+Both players know the state before each move. The classmethods make tables of matrices, of
+functions, of games of this package, and of those of OpenSpiel and Gambit; a game that cannot be a
+table is refused by a `NoTableError` with the reason.
+"""
+from __future__ import annotations
+
+import csv
+import hashlib
+import json
+from collections.abc import Callable, Hashable, Iterator, Sequence
+from dataclasses import dataclass, field, replace
+from fractions import Fraction
+from functools import cached_property
+from pathlib import Path
+from typing import Any, Self
+
+from .building import Built, exact, of_functions, of_game, of_matrix
+from .errors import InputRefusedError, InvalidError, NoTableError
+from .gambit import of_gambit, save_gambit
+from .game import CHANCE, Field, Game, Side, State, side_of
+from .openspiel_tables import Key, of_openspiel
+from .table_lists import LINE, Lists, fault_of, kind_fault, listed, nested, range_fault
+from .values import FilePath, as_field, cut, shorten
+
+NAMES = ".names"
+"""The ending of the file of a table's names, beside that of a position or a report."""
+
+MoveNames = tuple[Sequence[str], Sequence[str]]
+"""The names of both players' moves in a state."""
+
+
+@dataclass(frozen=True)
+class _States(Field):
+    """The field `states` of a position."""
+
+    def refuse(self, value: Any) -> None:
+        fault, told = "14 kind", kind_fault(value)
+        if told is None:
+            fault, told = "15 range", range_fault(value)
+        if told is not None:
+            raise InputRefusedError(f"input {fault} of states", told)
+
+
+@dataclass(frozen=True, repr=False)
+class TableState(State):
+    """A state of a table: its number, from 0, which is its key. The labels of moves are numbers
+    too; `name` and `names(side)` are words."""
+
+    game: Table
+    number: int
+
+    def __repr__(self) -> str:
+        name = cut(" ".join(self.name.split()), 60)
+        return f"TableState({self.number}{f', {name!r}' if name else ''})"
+
+    def __str__(self) -> str:
+        return self.name or f"state {self.number}"
+
+    @property
+    def name(self) -> str:
+        """The state's name, empty where the table has none."""
+        return self.game.state_names[self.number] if self.game.state_names else ""
+
+    @property
+    def node(self) -> Any:
+        """What the table was made of here: the node of its functions, the state of its game; None
+        where it was made of numbers alone, or this state only deals out chances."""
+        return self.game.nodes[self.number] if self.game.nodes else None
+
+    @property
+    def key(self) -> int:
+        return self.number
+
+    @property
+    def rank(self) -> int:
+        return self.game.lists.ranks[self.number]
+
+    @property
+    def is_end(self) -> bool:
+        return self.game.lists.ranks[self.number] == 0
+
+    def names(self, side: Side) -> tuple[str, ...]:
+        if self.is_end or not self.game.move_names:
+            return super().names(side)
+        one, two = self.game.move_names[self.number]
+        return tuple(one if side_of(side) == "one" else two)
+
+    def _payoff(self) -> int:
+        return self.game.lists.values[self.number]
+
+    def _moves(self, side: Side) -> tuple[int, ...]:
+        return tuple(range(self.game.lists.moves[2 * self.number + (side == "two")]))
+
+    def _draws(self, one: int, two: int) -> Sequence[tuple[int, int]]:
+        """The states that can follow, with their weights."""
+        cell = self.game.listing[self.number][one][two]
+        return ((cell, CHANCE),) if isinstance(cell, int) else cell
+
+    def _chances(self, one: int, two: int) -> tuple[int, ...]:
+        return tuple(weight for _, weight in self._draws(one, two))
+
+    def _after(self, one: int, two: int, draw: int) -> TableState:
+        return TableState(self.game, self._draws(one, two)[draw][0])
+
+
+@dataclass(frozen=True, repr=False, eq=False)
+class Table(Game):
+    """Any finite game, as a list of states.
+
+    - `listing`: the states as a position has them.
+    - `state_names`, `move_names`: a name for each state, and the names of both players' moves in
+      each; left out, there are none. Names are no part of the game: tables with equal states are
+      equal, and positions and reports have no names. `Position.save` and `Report.save` write them
+      into a file beside theirs that ends with `.names`, and `load` reads them there.
+    - `nodes`: what each state was made of.
+    - `scale`: what the payoffs of the rules were multiplied by.
+    """
+
+    name = "table"
+    version = 2
+    settings = (_States("states"),)
+    line_settings = LINE
+    listing: Sequence[Any]
+    state_names: Sequence[str] = ()
+    move_names: Sequence[MoveNames] = ()
+    nodes: Sequence[Any] = field(default=(), repr=False)
+    scale: Fraction = Fraction(1)
+
+    def __post_init__(self) -> None:
+        object.__setattr__(self, "listing", _frozen(self.listing))
+        self.settings[0].refuse(self.listing)
+        fault = self._fault()
+        if fault is not None:
+            raise InputRefusedError(f"input {fault[0]}", fault[1])
+        self._require_names()
+
+    def _fault(self) -> tuple[str, str] | None:
+        return fault_of(self.lists)
+
+    def _require_names(self) -> None:
+        count = len(self.listing)
+        for what, given in (("names of states", self.state_names), ("nodes", self.nodes),
+                            ("names of moves", self.move_names)):
+            if len(given) not in (0, count):
+                raise InvalidError(f"{len(given)} {what} for {count} states")
+        for state, names in enumerate(self.move_names):
+            wanted = tuple(self.lists.moves[2 * state:2 * state + 2])
+            if tuple(map(len, names)) != wanted or any(len(set(each)) < len(each)
+                                                       for each in names):
+                raise InvalidError(f"the names {shorten(names)} of the moves of state {state} "
+                                   f"have to be {wanted[0]} and {wanted[1]} different ones")
+
+    def __eq__(self, other: object) -> bool:
+        if not isinstance(other, Table):
+            return NotImplemented
+        if self.listing is not other.listing and self.listing == other.listing:
+            # From now on both share one list, so that they are told to be equal at once.
+            object.__setattr__(other, "listing", self.listing)
+        return self.listing is other.listing
+
+    def __hash__(self) -> int:
+        return self._hash
+
+    @cached_property
+    def _hash(self) -> int:
+        return hash(self.listing)
+
+    def __repr__(self) -> str:
+        return f"<Table: {self.title().removeprefix('table of ')}>"
+
+    @cached_property
+    def lists(self) -> Lists:
+        """The five lists of a report's line."""
+        return listed(self.listing)
+
+    @classmethod
+    def of_line(cls, *values: Any) -> Self:
+        """The table of the five lists of a report's line."""
+        lists = Lists(*values)
+        fault = fault_of(lists)
+        if fault is not None:
+            raise InputRefusedError(f"input {fault[0]}", fault[1])
+        return cls(nested(lists))
+
+    def values(self) -> Iterator[Any]:
+        yield self.listing
+
+    @cached_property
+    def _line(self) -> str:
+        lists = self.lists
+        shown = (",".join(map(str, numbers)) or "-" for numbers in
+                 (lists.ranks, lists.moves, lists.values, lists.cells, lists.draws))
+        return " ".join([self.name, *shown])
+
+    def line(self) -> str:
+        return self._line
+
+    def title(self) -> str:
+        turns = self.lists.ranks[0]
+        return (f"table of {len(self.listing)} states, {self.most_states} with moves; at most "
+                f"{self.most_moves} moves a side and {turns} turn{'s' if turns != 1 else ''}")
+
+    def root(self) -> TableState:
+        return TableState(self, 0)
+
+    def _unpacked(self, key: int) -> TableState | None:
+        return TableState(self, key) if key < len(self.listing) else None
+
+    def at(self, node: Any) -> TableState:
+        """The state that was made of this node."""
+        try:
+            return TableState(self, self._numbers[node])
+        except KeyError:
+            raise InvalidError(f"no state of the table was made of {shorten(node)}") from None
+
+    @cached_property
+    def _numbers(self) -> dict[Any, int]:
+        return {node: number for number, node in enumerate(self.nodes) if node is not None}
+
+    @cached_property
+    def _payoffs(self) -> list[int]:
+        return [value for value, rank in zip(self.lists.values, self.lists.ranks) if not rank]
+
+    @property
+    def low(self) -> int:
+        return min(self._payoffs)
+
+    @property
+    def high(self) -> int:
+        return max(self._payoffs)
+
+    @cached_property
+    def _width(self) -> int:
+        return max(1, *self.lists.moves)
+
+    @cached_property
+    def _drawn(self) -> bool:
+        """Whether a cell has several draws."""
+        return len(self.lists.draws) // 2 > sum(cell < 0 for cell in self.lists.cells)
+
+    @property
+    def most_moves(self) -> int:
+        return self._width
+
+    @property
+    def most_states(self) -> int:
+        return sum(map(bool, self.lists.ranks))
+
+    @property
+    def chance_free(self) -> bool:
+        return not self._drawn
+
+    @property
+    def has_names(self) -> bool:
+        """Whether there is anything to be kept beside the numbers."""
+        return bool(self.state_names or self.move_names) or self.scale != 1
+
+    def names_text(self) -> str:
+        """The names as a line of JSON, with what tells which table they are of."""
+        return json.dumps({"table": self._digest, "scale": str(self.scale),
+                           "states": list(self.state_names),
+                           "moves": [list(map(list, names)) for names in self.move_names]}) + "\n"
+
+    def named(self, text: str) -> Table:
+        """The same table with names that `names_text` gave."""
+        try:
+            found = json.loads(text)
+            digest, scale = found["table"], Fraction(found["scale"])
+            states, moves = map(str, found["states"]), found["moves"]
+            pairs = [(tuple(map(str, one)), tuple(map(str, two))) for one, two in moves]
+        except (ValueError, KeyError, TypeError) as fault:
+            raise InvalidError(f"these are no names of a table: {fault}") from None
+        if digest != self._digest:
+            raise InvalidError("these are names of another table")
+        return replace(self, state_names=tuple(states), move_names=tuple(pairs), scale=scale)
+
+    @property
+    def _digest(self) -> str:
+        return hashlib.sha256(self.line().encode()).hexdigest()
+
+    @classmethod
+    def _of(cls, built: Built, name: Callable[[Any], str],
+            nodes: Sequence[Any] | None = None) -> Table:
+        """The table that was built, its states named by their nodes."""
+        kept = built.nodes if nodes is None else nodes
+        names = [f"payoff {state / built.scale}" if isinstance(state, int) else
+                 "chance" if node is None else name(node)
+                 for state, node in zip(built.listing, kept)]
+        return cls(built.listing, tuple(names), built.names, tuple(kept), built.scale)
+
+    @classmethod
+    def from_matrix(cls, payoffs: Any, one: Sequence[Any] | None = None,
+                    two: Sequence[Any] | None = None) -> Table:
+        """A game of one turn: One's payoffs, a row for each move of One, with the names of both
+        players' moves. A payoff can also be a list of pairs, of a payoff and its chance."""
+        return cls._of(of_matrix(payoffs, one, two, None), lambda node: "root")
+
+    @classmethod
+    def repeated(cls, payoffs: Any, rounds: int, one: Sequence[Any] | None = None,
+                 two: Sequence[Any] | None = None) -> Table:
+        """A matrix that is played for some rounds (1 to 31), and pays the sum."""
+        return cls._of(of_matrix(payoffs, one, two, rounds),
+                       lambda node: f"{node[0]} round{'s' if node[0] > 1 else ''} left, sum "
+                                    f"{node[1]}")
+
+    @classmethod
+    def from_functions(cls, root: Hashable, moves: Callable[[Any], Any],
+                       after: Callable[[Any, Any, Any], Any], payoff: Callable[[Any], Any],
+                       name: Callable[[Any], str] = str, rounded: bool = False) -> Table:
+        """The game that begins at a node, any hashable value, told by functions:
+
+        - `moves(node)`: the moves of One and those of Two, two lists of any values; a player who
+          has nothing to choose may have none, and moves "-" then. Without any move, or None, the
+          game is over.
+        - `after(node, one, two)`: the node that follows, or a dict (or list of pairs) of nodes
+          with their chances.
+        - `payoff(node)`: what One gets where the game is over.
+
+        Equal nodes are one state, so a node has to have all that the rest of the game depends on,
+        and to count the turns where the game could come back to it. `name` names states, and
+        `str` the moves. Payoffs and chances are numbers, fractions too. Chances that cannot be
+        dealt out exactly are refused, or with `rounded` rounded to parts of 360360.
+        """
+        return cls._of(of_functions(root, moves, after, payoff, rounded), name)
+
+    @classmethod
+    def from_openspiel(cls, game: Any, key: Key | None = None, rounded: bool = False,
+                       trust: bool = False) -> Table:
+        """The game that begins at a state, or the root of a game, with OpenSpiel's calls: moves at
+        once or in turns, and draws in the open.
+
+        States of one text (`str`) after equally many turns are one state of the table. A function
+        `key` tells states apart otherwise: `key=str` also joins those of different turns, where
+        the text has all that the rest of the game depends on. A game that says that its players do
+        not see the whole state is refused unless `trust` is set.
+        """
+        built, states = of_openspiel(game, key, rounded, trust)
+        return cls._of(built, str, states)
+
+    @classmethod
+    def from_game(cls, game: Game) -> Table:
+        """Any game of this package, also a subclass of `Game` of your own, with the same order of
+        moves and draws."""
+        built, states = of_game(game)
+        return cls._of(built, str, states)
+
+    @classmethod
+    def from_gambit(cls, path: FilePath) -> Table:
+        """The game of a file of Gambit: a strategic form (.nfg), or an extensive form (.efg) whose
+        players see each other's earlier moves."""
+        return cls._of(*of_gambit(Path(path).read_text(encoding="utf-8")))
+
+    def to_gambit(self, path: FilePath) -> None:
+        """Writes the table as an extensive form of Gambit (.efg), with the payoffs of its rules;
+        see `save_gambit`."""
+        save_gambit(self, path)
+
+
+def _frozen(value: Any) -> Any:
+    """Lists as tuples, and numbers as Python's own."""
+    if type(value) is int:
+        return value
+    return tuple(map(_frozen, value)) if type(value) in (list, tuple) else as_field(value)
+
+
+def read_matrix(path: FilePath) -> tuple[list[list[Any]], list[str] | None, list[str] | None]:
+    """The matrix of a file, with the names of the moves of One and of Two where it has any.
+
+    A JSON file has a list of rows; a CSV file a row on each line, the names of Two's moves in the
+    first line and those of One's in the first column, where these are no numbers.
+    """
+    file = Path(path)
+    text = file.read_text(encoding="utf-8")
+    if file.suffix == ".json":
+        try:
+            return json.loads(text), None, None
+        except ValueError as fault:
+            raise NoTableError(f"{path} is no JSON: {fault}") from None
+    if file.suffix != ".csv":
+        raise NoTableError(f"{path} has to end with .csv, .json, .nfg, .efg or .py")
+    rows: list[list[Any]] = [row for row in csv.reader(text.splitlines()) if row]
+    two = rows.pop(0) if rows and rows[0][1:] and not any(map(_is_number, rows[0][1:])) else None
+    one = None
+    if rows and not any(_is_number(row[0]) for row in rows):
+        one = [row.pop(0) for row in rows]
+        two = two[1:] if two else None
+    return rows, one, two
+
+
+def _is_number(word: str) -> bool:
+    try:
+        exact(word)
+    except NoTableError:
+        return False
+    return True
+
+
+def names_file(path: FilePath) -> Path:
+    """The file of names beside that of a position or a report."""
+    return Path(path).with_suffix(NAMES)
+
+
+def save_names(game: Game, path: FilePath) -> None:
+    """Writes the names of a table, where it has any or others stand there, beside its position or
+    report."""
+    file = names_file(path)
+    if isinstance(game, Table) and (game.has_names or file.is_file()):
+        file.write_text(game.names_text(), encoding="utf-8")
+
+
+def with_names(game: Game, path: FilePath) -> Game:
+    """The table with the names that stand beside its position or report."""
+    file = names_file(path)
+    if not isinstance(game, Table) or not file.is_file():
+        return game
+    try:
+        return game.named(file.read_text(encoding="utf-8"))
+    except InvalidError as fault:
+        raise InvalidError(f"{file}: {fault}; delete the file, or write it anew") from None

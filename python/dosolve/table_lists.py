@@ -1,0 +1,290 @@
+"""The five lists of a table's line in a report, and the rules that a playable table keeps.
+
+`listing` is a table as a position has it: ends, and lists of rows of cells.
+"""
+from __future__ import annotations
+
+from collections.abc import Iterator, Mapping, Sequence
+from dataclasses import dataclass
+from itertools import accumulate
+from typing import Any
+
+from .game import CHANCE, Field
+from .limits import MOST_DRAWS, MOST_MOVES, MOST_PAYOFF, MOST_RANK, MOST_STATES
+from .values import shorten
+
+MOST_WIDTH = 255
+"""The rows, cells and draws that a text can have in one place."""
+
+MOST_END = 1_000_000
+MOST_NUMBER = 1_048_575
+"""The greatest size of an end and of any other number in a text."""
+
+LINE = (
+    Field("ranks", 0, MOST_STATES, most=MOST_STATES),
+    Field("moves", 0, MOST_WIDTH, most=2 * MOST_STATES),
+    Field("values", -MOST_END, MOST_END, most=MOST_STATES),
+    Field("cells", -MOST_NUMBER - 1, MOST_NUMBER, most=MOST_STATES),
+    Field("draws", 0, MOST_NUMBER, most=MOST_STATES),
+)
+"""The fields of a report's line."""
+
+Fault = tuple[str, str]
+"""The number and the words of a refusal, and what is wrong."""
+
+Draws = list[tuple[int, int]]
+"""The states that can follow, with their weights."""
+
+_LIST = (list, tuple)
+
+
+@dataclass(frozen=True)
+class Lists:
+    """The lists of a table: for each state its rank, the moves of both sides, and the payoff of an
+    end or the place of the first cell; the cells of all states; and the draws, two numbers each."""
+
+    ranks: Sequence[int]
+    moves: Sequence[int]
+    values: Sequence[int]
+    cells: Sequence[int]
+    draws: Sequence[int]
+
+    @property
+    def inner(self) -> Iterator[int]:
+        """The states that are no ends."""
+        return (state for state, rank in enumerate(self.ranks) if rank)
+
+    def cells_of(self, state: int) -> range:
+        """The places of a state's cells in `cells`."""
+        first = self.values[state]
+        return range(first, first + self.moves[2 * state] * self.moves[2 * state + 1])
+
+    def place(self, at: int) -> tuple[int, int, int]:
+        """The state, the row and the place there of a cell by its place in `cells`."""
+        state = next(state for state in self.inner if at in self.cells_of(state))
+        return state, *divmod(at - self.values[state], self.moves[2 * state + 1])
+
+    def draws_of(self) -> dict[int, Draws]:
+        """The draws of each cell that has any, by its place in `cells`."""
+        drawn = [(at, -1 - cell) for at, cell in enumerate(self.cells) if cell < 0]
+        ends = [first for _, first in drawn[1:]] + [len(self.draws) // 2]
+        pairs = list(zip(self.draws[::2], self.draws[1::2]))
+        return {at: pairs[first:end] for (at, first), end in zip(drawn, ends)}
+
+
+def kind_fault(listing: Any) -> str | None:
+    """What has the wrong kind, the first in order."""
+    if not isinstance(listing, _LIST):
+        return f"states is {shorten(listing)}, and has to be a list of states"
+    return next(_kind_faults(listing), None)
+
+
+def _kind_faults(listing: Sequence[Any]) -> Iterator[str]:
+    for state, told in enumerate(listing):
+        if type(told) is int:
+            continue
+        if not isinstance(told, _LIST):
+            yield _told((state,), told, "a whole number (an end) or a list of rows")
+        for one, row in enumerate(told):
+            if not isinstance(row, _LIST):
+                yield _told((state, one), row, "a list of cells")
+            for two, cell in enumerate(row):
+                if type(cell) is not int:
+                    yield from _draw_kinds((state, one, two), cell)
+
+
+def _draw_kinds(place: tuple[int, ...], cell: Any) -> Iterator[str]:
+    if not isinstance(cell, _LIST):
+        yield _told(place, cell, "the number of a state or a list of draws")
+    for number, draw in enumerate(cell):
+        if not isinstance(draw, _LIST) or not all(type(each) is int for each in draw):
+            yield _told((*place, number), draw, "a list of two whole numbers, a state and its "
+                                                f"weight out of {CHANCE}")
+
+
+def range_fault(listing: Sequence[Any]) -> str | None:
+    """What is out of range in a listing whose kinds are right, the first in order."""
+    cells = sum(len(row) for state in listing if type(state) is not int for row in state)
+    if len(listing) > MOST_STATES or cells > MOST_STATES:
+        return f"{len(listing)} states with {cells} cells are more than {MOST_STATES}"
+    return next(_range_faults(listing), None)
+
+
+def _range_faults(listing: Sequence[Any]) -> Iterator[str]:
+    draws = 0
+    for state, told in enumerate(listing):
+        if type(told) is int:
+            if abs(told) > MOST_END:
+                yield _told((state,), told, f"from -{MOST_END} to {MOST_END}")
+            continue
+        if len(told) > MOST_WIDTH or any(len(row) > MOST_WIDTH for row in told):
+            yield f"states[{state}] has to have at most {MOST_WIDTH} rows and cells of a row"
+        for one, row in enumerate(told):
+            for two, cell in enumerate(row):
+                if type(cell) is int:
+                    if not 0 <= cell <= MOST_NUMBER:
+                        yield _told((state, one, two), cell, f"from 0 to {MOST_NUMBER}")
+                    continue
+                draws += len(cell)
+                yield from _draw_ranges((state, one, two), cell)
+    if draws > MOST_STATES // 2:
+        yield f"{draws} draws are more than {MOST_STATES // 2}"
+
+
+def _draw_ranges(place: tuple[int, ...], cell: Sequence[Any]) -> Iterator[str]:
+    if len(cell) > MOST_WIDTH:
+        yield f"{_at(place)} has to have at most {MOST_WIDTH} draws"
+    for number, draw in enumerate(cell):
+        if len(draw) != 2 or not all(0 <= each <= MOST_NUMBER for each in draw):
+            yield _told((*place, number), draw, f"two numbers from 0 to {MOST_NUMBER}")
+
+
+def _at(place: tuple[int, ...]) -> str:
+    """A place as one writes it in Python."""
+    return f"states{''.join(f'[{number}]' for number in place)}"
+
+
+def _told(place: tuple[int, ...], value: Any, wanted: str) -> str:
+    return f"{_at(place)} is {shorten(value)}, and has to be {wanted}"
+
+
+def listed(listing: Sequence[Any]) -> Lists:
+    """The lists of a listing that is in range."""
+    moves: list[int] = []
+    values: list[int] = []
+    cells: list[int] = []
+    draws: list[int] = []
+    after: list[list[int]] = []
+    for state in listing:
+        after.append([])
+        if isinstance(state, int):
+            moves += [0, 0]
+            values.append(state)
+            continue
+        widths = {len(row) for row in state}
+        moves += [len(state), widths.pop() if len(widths) == 1 else 0]
+        values.append(len(cells))
+        for cell in (cell for row in state for cell in row) if moves[-1] else ():
+            if isinstance(cell, int):
+                cells.append(cell)
+                after[-1].append(cell)
+            else:
+                cells.append(-1 - len(draws) // 2)
+                draws += [number for draw in cell for number in draw]
+                after[-1] += [draw[0] for draw in cell]
+    return Lists(_ranks(listing, after), moves, values, cells, draws)
+
+
+def _ranks(listing: Sequence[Any], after: list[list[int]]) -> list[int]:
+    """The turns of the longest way from each state, over states that stand behind it."""
+    ranks = [0] * len(listing)
+    for state in reversed(range(len(listing))):
+        if not isinstance(listing[state], int):
+            ranks[state] = 1 + max((ranks[next_one] for next_one in after[state]
+                                    if state < next_one < len(ranks)), default=0)
+    return ranks
+
+
+def nested(lists: Lists) -> tuple[Any, ...]:
+    """The listing of the lists of a playable table."""
+    draws = lists.draws_of()
+    listing: list[Any] = []
+    for state, rank in enumerate(lists.ranks):
+        if not rank:
+            listing.append(lists.values[state])
+            continue
+        twos = lists.moves[2 * state + 1]
+        cells = [tuple(draws[at]) if at in draws else lists.cells[at]
+                 for at in lists.cells_of(state)]
+        listing.append(tuple(tuple(cells[at:at + twos]) for at in range(0, len(cells), twos)))
+    return tuple(listing)
+
+
+def fault_of(lists: Lists) -> Fault | None:
+    """The first rule that the lists break."""
+    if not _fit(lists):
+        return "81 lists", "the five lists of the line do not fit each other"
+    if not lists.ranks:
+        return "82 no states", "a table has at least one state, its root"
+    return next(_faults(lists), None)
+
+
+def _fit(lists: Lists) -> bool:
+    """Whether the lists are those of some listing."""
+    count = len(lists.ranks)
+    if (len(lists.moves), len(lists.values), len(lists.draws) % 2) != (2 * count, count, 0):
+        return False
+    if any(lists.moves[2 * state] or lists.moves[2 * state + 1]
+           for state, rank in enumerate(lists.ranks) if not rank):
+        return False
+    sizes = [lists.moves[2 * state] * lists.moves[2 * state + 1] for state in lists.inner]
+    places = list(accumulate(sizes, initial=0))
+    if [lists.values[state] for state in lists.inner] + [len(lists.cells)] != places:
+        return False
+    starts = [-1 - cell for cell in lists.cells if cell < 0]
+    rising = starts == sorted(starts) and starts[:1] in ([], [0])
+    return rising and (starts or [0])[-1] <= len(lists.draws) // 2 and bool(
+        starts or not lists.draws)
+
+
+def _faults(lists: Lists) -> Iterator[Fault]:
+    """What breaks the rules from 83, each rule over all states before the next."""
+    for state, rank in enumerate(lists.ranks):
+        if not rank and abs(lists.values[state]) > MOST_PAYOFF:
+            yield (f"83 payoff range {state}", f"the payoff {lists.values[state]} of the state "
+                   f"{state} has to be from -{MOST_PAYOFF} to {MOST_PAYOFF}")
+    for rule, side, about in (("84 rows", 0, "rows, one for each move of One"),
+                              ("85 cells", 1, "cells in each row, equally many")):
+        for state in lists.inner:
+            if not 1 <= lists.moves[2 * state + side] <= MOST_MOVES:
+                yield (f"{rule} range {state}",
+                       f"the state {state} has to have 1 to {MOST_MOVES} {about}")
+    draws = lists.draws_of()
+    for judge in (_count_fault, _weight_fault):
+        for at, drawn in draws.items():
+            fault = judge(drawn)
+            if fault is not None:
+                yield _of_cell(lists, at, fault)
+    for state in lists.inner:
+        for at in lists.cells_of(state):
+            for after in _after(lists, draws, at):
+                if not state < after < len(lists.ranks):
+                    yield _of_cell(lists, at, (
+                        "88 order", f"leads to the state {after}, and has to lead to one that "
+                        f"stands behind {state}, of the {len(lists.ranks)} that there are"))
+    yield from _rank_faults(lists, draws)
+
+
+def _of_cell(lists: Lists, at: int, fault: Fault) -> Fault:
+    """A fault with the place of its cell."""
+    place = lists.place(at)
+    return f"{fault[0]} {' '.join(map(str, place))}", f"the cell {_at(place)} {fault[1]}"
+
+
+def _after(lists: Lists, draws: Mapping[int, Draws], at: int) -> Sequence[int]:
+    """The states that a cell leads to."""
+    return [after for after, _ in draws[at]] if at in draws else (lists.cells[at],)
+
+
+def _count_fault(draws: Draws) -> Fault | None:
+    if 1 <= len(draws) <= MOST_DRAWS:
+        return None
+    return "86 draws range", f"has {len(draws)} draws, and has to have 1 to {MOST_DRAWS}"
+
+
+def _weight_fault(draws: Draws) -> Fault | None:
+    weights = [weight for _, weight in draws]
+    if all(weights) and sum(weights) == CHANCE:
+        return None
+    return "87 weights", (f"has the weights {shorten(weights)}, and needs weights from 1 that sum "
+                          f"to {CHANCE}")
+
+
+def _rank_faults(lists: Lists, draws: Mapping[int, Draws]) -> Iterator[Fault]:
+    for state in lists.inner:
+        rank = lists.ranks[state]
+        after = max(lists.ranks[reached] for at in lists.cells_of(state)
+                    for reached in _after(lists, draws, at))
+        if rank > MOST_RANK or rank != 1 + after:
+            yield (f"89 turns {state}", f"the longest way from the state {state} takes "
+                   f"{1 + after} turns, its rank is {rank}, and at most {MOST_RANK} are possible")

@@ -14,7 +14,7 @@ CRATES = Path(__file__).resolve().parent.parent / "crates"
 MOST_COLUMNS, MOST_PROOF_COLUMNS, MOST_PARAMETERS, MOST_LINES, MOST_EDITS = 120, 200, 7, 40, 10
 
 # Flat matches with one arm a game or field.
-FLAT = {"build", "add_position", "name", "values"}
+FLAT = {"build", "add_position", "name", "try_clone", "values", "with_values"}
 # Crates of tests alone, which have whole reports as literals.
 TESTS = {"worked_rows", "worked_runs"}
 # Names that mean one thing in each of several crates: every game has its own setting, rules and refusals, and a reader

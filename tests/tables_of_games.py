@@ -65,11 +65,15 @@ def shape_of_game(p, state):
 
 
 def has_shape(p, states, known):
-    """Whether the table has the payoffs, the width, all ranks and the roundings of the game."""
+    """Whether the table has the states, the payoffs, the width, all ranks and the roundings of the game."""
+    drawn = p["game"] == "goofspiel_drawn"
+    # Keys tell equal prizes apart by their places, as the rules here do not.
+    if drawn and len(set(p["prizes"])) < len(p["prizes"]):
+        return False
     ends = [state for state in states if isinstance(state, int)]
     ranks, *_, draws = tables.five_lists(states)
-    return bool(draws) == (p["game"] == "goofspiel_drawn") and all(shape_of_game(p, state) == (min(ends), max(ends), tables.width(states), rank)
-               for state, rank in zip(known, ranks) if rank > 0)
+    told = min(ends), max(ends), tables.width(states)
+    return bool(draws) == drawn and all(shape_of_game(p, state) == (*told, rank) for state, rank in zip(known, ranks) if rank > 0)
 
 
 def numbers(report):

@@ -1,6 +1,5 @@
 -- Reading and writing the values of fields undo each other, whatever the fields.
 use Rattle.std.proofs.Common.{◌≡◌, ℕ, suc, ◌+◌, ◌*◌, ◌^◌, ◌<◌, ◌≤◌, ℤ, unsigned_abs, List, [], ◌∷◌, length, map, Bool, true, ◌&&◌, ltb, ltb-true, leb-true, Option, Some, None, IfSome, Ok, All, refl, sym, ap, ap₂, subst, ◌∙◌, arith}
-use Rattle.std.specs.Fmt.{signed_decimal}
 use Rattle.std.proofs.lemmas.Int.{ints}
 use Rattle.std.proofs.lemmas.Bool.{and_parts}
 use Rattle.std.proofs.lemmas.List.{nil_from_length}
@@ -20,7 +19,7 @@ use Rattle.certificate.specs.Numbers.{natural_in, integer_in, Between, IsByteLis
 use Rattle.certificate.specs.Readers.{list_in}
 use Rattle.certificate.specs.Fields.{spelling, choices_of, word_in, has_word, Fits, AllFit, value_text, value_in}
 use Rattle.certificate.specs.Positions.{have_words, value, values, line_values}
-use Rattle.certificate.proofs.Spelling.{IsField, Spells, is_word, clean_word, find_passes, option_map_some, integer_takes, integer_spells, list_spells, numbers_take, numbers_spells}
+use Rattle.certificate.proofs.Spelling.{IsField, is_word, clean_word, find_passes, option_map_some, integer_takes, integer_spells, list_spells, numbers_take, numbers_spells}
 use Rattle.certificate.proofs.FieldLaws.{FieldLaw, line_more, bind_ok, test_ok, ok_is, spelled_takes, spelled_again}
 
 -- ---- one value

@@ -65,6 +65,7 @@ pub const PURSUIT: [FieldRow; FIELDS] = [
     (Field::Rounds, BYTE),
 ];
 
+/// The lists that are made of the one field of a position.
 pub const TABLE: [FieldRow; FIELDS] = [
     (Field::States, FieldKind::Numbers(0, 524_288, 524_288)),
     (Field::States, FieldKind::Numbers(0, 255, 1_048_576)),

@@ -109,6 +109,25 @@ ragged_has_no_cells = refl
 backward_has_rank_one : (lists_of_states (End (pos 0) ∷ Rows ((to 0 ∷ []) ∷ []) ∷ Rows ((to 7 ∷ []) ∷ []) ∷ [])).ranks ≡ pos 0 ∷ pos 1 ∷ pos 1 ∷ []
 backward_has_rank_one = refl
 
+-- ---- states that nothing leads to count for the range, the width and the chance
+abbrev unreached : List StateForm
+unreached = Rows ((to 3 ∷ []) ∷ []) ∷ Rows ((to 2 ∷ []) ∷ (to 2 ∷ []) ∷ (Draws (draw 2 180180 ∷ draw 3 180180 ∷ []) ∷ []) ∷ []) ∷ End (neg_ℤ (pos 7)) ∷ End (pos 0) ∷ []
+
+unreached_fine : first_fault (lists_of_states unreached) ≡ None
+unreached_fine = refl
+
+unreached_low : (table_game (lists_of_states unreached)).low ≡ neg_ℤ (pos 7)
+unreached_low = refl
+
+unreached_high : (table_game (lists_of_states unreached)).high ≡ pos 0
+unreached_high = refl
+
+unreached_width : (table_game (lists_of_states unreached)).width ≡ 3
+unreached_width = refl
+
+unreached_chance : (table_game (lists_of_states unreached)).chance_free ≡ false
+unreached_chance = refl
+
 -- ---- forms out of range
 abbrev in_range : StateForm → Bool
 in_range form = are_in_range (form ∷ [])

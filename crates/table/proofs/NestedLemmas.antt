@@ -1,7 +1,8 @@
 -- The lists of a nested form fit each other, and their game is the one that the form tells.
-use Rattle.std.proofs.Common.{◌≡◌, ℕ, zero, suc, ◌+◌, ◌*◌, ◌%◌, ◌<◌, ◌≤◌, ℤ, pos, negsuc, Bool, true, ◌&&◌, cond, eqb, List, [], ◌∷◌, length, map, drop, get_or, false, Option, None, Some, refl, ap, sym, subst, ◌∙◌, inl, inr, arith, add-one}
+use Rattle.std.proofs.Common.{◌≡◌, ℕ, zero, suc, ◌+◌, ◌-◌, ◌*◌, ◌%◌, ◌<◌, ◌≤◌, ℤ, pos, negsuc, Bool, true, ◌&&◌, cond, eqb, List, [], ◌∷◌, length, map, drop, get_or, false, Option, None, Some, refl, ap, sym, subst, ◌∙◌, inl, inr, arith, add-one}
 use Rattle.std.proofs.lemmas.Bool.{both_ways, or_left, or_right, and_from, and_parts, cases_lt, cond-false, eq-eqb, le-leb, ne_eqb}
 use Rattle.std.proofs.lemmas.Bool.Decides.{Decides-int_eq}
+use Rattle.std.proofs.lemmas.Int.{ints}
 use Rattle.std.proofs.lemmas.List.Concat.{get_or-flat_map}
 use Rattle.std.proofs.lemmas.List.Folds.{length-flat_map-take}
 use Rattle.std.specs.Int.RustNames.{unsigned_abs}
@@ -16,16 +17,18 @@ use Rattle.table.specs.declared.TableError.TheVariants as errors
 use Rattle.table.specs.declared.rules.CellRule.TheVariants as CellRule
 use Rattle.table.specs.declared.rules.Rule.TheVariants as Rule
 use Rattle.table.specs.Below.{first_below}
-use Rattle.table.specs.BelowLemmas.{all_from, greatest_high, or_none, or_there}
-use Rattle.text.specs.Faults.{first_some}
-use Rattle.table.specs.Faults.{AreOrdered, cell_fits, fault_at, is_rank, count_fault, first_fault, lists_fault, rule_fault, do_draws_fit, do_fit, do_states_fit, have_counts, state_fits}
-use Rattle.table.specs.Laws.{pair_below}
-use Rattle.table.specs.Lists.{Lists, cell_rank, next_rank, cells_of, count_in, count_of, draw_state, draw_total, draw_weight, draws_end, draws_at, end_at, first_draw, place_at, state_count, table_cell, table_moves, table_rank, table_state, table_value, table_weight}
+use Rattle.table.specs.BelowLemmas.{all_from, greatest_high, or_there}
+use Rattle.table.specs.Faults.{AreOrdered, cell_fits, fault_at, is_rank, first_fault, rule_fault, do_draws_fit, do_fit, do_states_fit, have_counts, state_fits}
+use Rattle.table.specs.Laws.{last_is_end, least_at, moves_width, pair_below, payoff_at}
+use Rattle.table.specs.Lists.{Lists, cell_rank, next_rank, cells_of, count_in, count_of, draw_state, draw_total, draw_weight, draws_end, draws_at, end_at, first_draw, place_at, state_count, table_cell, table_high, table_low, table_moves, table_rank, table_state, table_value, table_weight}
 use Rattle.table.specs.Nested.{CellForm, Follows, Draws, StateForm, End, Rows, are_in_range, cell_in_range, columns_in, draw_in_range, draws_of_form, greatest_in, kept_cells, lists_of_states, named_by, rank_behind, rank_told, ranks_told, state_in_range}
 use Rattle.table.specs.NestedGame.{cell_chance, cell_draws, cell_follows, form_at, form_cell, form_moves, rows_in, HaveMoves, IsNestedGame}
 use Rattle.table.specs.NestedRanks.{HaveLongestWays}
+use Rattle.table.specs.Position.{IsTable}
 use Rattle.table.specs.Rules.{place_of, table_game}
-use Rattle.table.proofs.PositionLemmas.{moves_from, rank_no_higher}
+use Rattle.table.proofs.PayoffLemmas.{greatest_found, least_found, IsPaid}
+use Rattle.table.proofs.PositionLemmas.{rank_no_higher, table_of}
+use Rattle.table.proofs.RangeLemmas.{forms_in_range}
 use Rattle.table.proofs.RuleLemmas.{keeps_all, leads_behind}
 use Rattle.table.proofs.WayLemmas.{behind_is, greatest_named, named_at, named_count, named_is, named_no_higher, rank_in}
 use Rattle.table.proofs.FormLemmas.{all_in, before, before_all, before_even, before_more, cell_told, cells_count, cells_in_range, columns_of, columns_told, count_before, counts_told, draw_at, draw_of_two, draws_flat, draws_in_range, ends_told, kept_cell, kept_count, later_ends_told, moves_count, number_told, rank_told_at, ranks_count, row_length, rows_told, value_at_told, value_told, values_count, IsRanked}
@@ -254,24 +257,12 @@ module _ (forms : List StateForm) (fine : list_all state_in_range forms ≡ true
         omega (arith, told, most_high, most_low)
 
   -- ---- the game
-  module _ (none : first_fault l ≡ None) where
-    abbrev cell_faults : List (Option TableError)
-    cell_faults = rule_fault (Rule.Each CellRule.Draws) l ∷ rule_fault (Rule.Each CellRule.Weights) l ∷ rule_fault (Rule.Each CellRule.Order) l ∷ rule_fault Rule.Turns l ∷ []
-
-    after_payoffs : first_some (rule_fault Rule.Rows l ∷ rule_fault Rule.Cells l ∷ cell_faults) ≡ None
-    after_payoffs = (or_none (rule_fault Rule.Payoff l) _ (or_none (count_fault l) _ (or_none (lists_fault l) _ none).1).1).1
-
-    rows_none : rule_fault Rule.Rows l ≡ None
-    rows_none = (or_none (rule_fault Rule.Rows l) _ after_payoffs).0
-
-    columns_none : rule_fault Rule.Cells l ≡ None
-    columns_none = (or_none (rule_fault Rule.Cells l) _ (or_none (rule_fault Rule.Rows l) _ after_payoffs).1).0
-
+  module _ (p : IsTable l) where
     columns_some : (s : ℕ) (rows : List (List CellForm)) → s < length forms → form_at forms s ≡ Rows rows → 1 ≤ columns_in rows
     columns_some s rows here e =
         let inner : 1 ≤ table_rank l s = subst (λ (form : StateForm). IsRanked form (table_rank l s)) e (rank_told_at forms s here) in
         let told : table_moves l Two s ≡ columns_in rows = two_is s here ∙ ap columns_of e in
-        omega (arith, told, (moves_from l rows_none columns_none Two s (omega (arith, states_are)) inner).0)
+        omega (arith, told, p.moves_low Two s (omega (arith, states_are)) inner)
 
     columns_first : (s : ℕ) (form : StateForm) → s < length forms → form_at forms s ≡ form → columns_of form ≡ form_moves Two form
     columns_first s (End payoff) here e = refl
@@ -313,6 +304,42 @@ module _ (forms : List StateForm) (fine : list_all state_in_range forms ≡ true
     same_moves One s here = one_is s here
     same_moves Two s here = two_is s here ∙ columns_first s (form_at forms s) here refl
 
+    -- ---- the range of payoffs
+    end_value : (s : ℕ) (payoff : ℤ) → s < length forms → form_at forms s ≡ End payoff → (table_rank l s ≡ 0) × (table_value l s ≡ payoff)
+    end_value s payoff here e = (
+      subst (λ (form : StateForm). IsRanked form (table_rank l s)) e (rank_told_at forms s here),
+      value_is s here ∙ ap (value_told (before kept_cells forms s)) e,
+    )
+
+    end_told : (s : ℕ) (form : StateForm) → s < length forms → form_at forms s ≡ form → table_rank l s ≡ 0 → form ≡ End (table_value l s)
+    end_told s (End payoff) here e rank = ap End (sym (end_value s payoff here e).1)
+    end_told s (Rows rows) here e rank = absurd (omega (arith, subst (λ (form : StateForm). IsRanked form (table_rank l s)) e (rank_told_at forms s here)))
+
+    paid_told : (payoff : ℤ) → IsPaid l (state_count l) payoff → (s : ℕ) × (s < length forms) × (form_at forms s ≡ End payoff)
+    paid_told payoff paid =
+        let here : paid.0 < length forms = omega (arith, paid.1, states_are) in
+        (paid.0, here, end_told paid.0 (form_at forms paid.0) here refl paid.2 ∙ ap End paid.3)
+
+    -- the last state is an end
+    last_paid : (payoff : ℤ) → ((s : ℕ) → s < state_count l → table_rank l s ≡ 0 → table_value l s ≡ payoff) → IsPaid l (state_count l) payoff
+    last_paid payoff h =
+        let s = state_count l - 1 in
+        let here : s < state_count l = omega (arith, p.some) in
+        let rank = last_is_end l p s (omega (arith, p.some)) in
+        (s, here, rank, h s here rank)
+
+    low_paid : IsPaid l (state_count l) (table_low l)
+    low_paid = elim (least_found l (state_count l)) [
+      | inl none ↦ last_paid (table_low l) (λ s here rank. omega (arith, ints, none, p.payoff_high s here rank, least_at l (state_count l) s here rank))
+      | inr found ↦ found
+    ]
+
+    high_paid : IsPaid l (state_count l) (table_high l)
+    high_paid = elim (greatest_found l (state_count l)) [
+      | inl none ↦ last_paid (table_high l) (λ s here rank. omega (arith, ints, none, p.payoff_low s here rank, payoff_at l (state_count l) s here rank))
+      | inr found ↦ found
+    ]
+
     pub nested_game : IsNestedGame forms (table_game l)
     nested_game = record {
       root = refl;
@@ -322,11 +349,17 @@ module _ (forms : List StateForm) (fine : list_all state_in_range forms ≡ true
       draws = same_draws;
       chance = λ s a b d m below. same_chance s a b m d below;
       drawn = λ s a b d m below. (let e = same_state s a b m d below in λ i. record { number = e i });
-      ends = λ s payoff here e. (
-        subst (λ (form : StateForm). IsRanked form (table_rank l s.number)) e (rank_told_at forms s.number here),
-        value_is s.number here ∙ ap (value_told (before kept_cells forms s.number)) e,
-      );
+      ends = λ s payoff here e. end_value s.number payoff here e;
       inner = λ s rows here e. subst (λ (form : StateForm). IsRanked form (table_rank l s.number)) e (rank_told_at forms s.number here);
+      low_least = λ s payoff here e.
+          let paid = end_value s payoff here e in
+          omega (arith, ints, least_at l (state_count l) s (omega (arith, here, states_are)) paid.0, paid.1);
+      low_there = paid_told (table_low l) low_paid;
+      high_most = λ s payoff here e.
+          let paid = end_value s payoff here e in
+          omega (arith, ints, payoff_at l (state_count l) s (omega (arith, here, states_are)) paid.0, paid.1);
+      high_there = paid_told (table_high l) high_paid;
+      width_most = λ side s here. omega (arith, same_moves side s here, moves_width l p side s (omega (arith, here, states_are)));
     }
 
 -- ---- ranks that are refused
@@ -381,7 +414,9 @@ pub forms_fit : (forms : List StateForm) → are_in_range forms ≡ true → do_
 forms_fit forms h = nested_fits forms (states_in_range forms h)
 
 pub forms_tell_game : (forms : List StateForm) → are_in_range forms ≡ true → first_fault (lists_of_states forms) ≡ None → IsNestedGame forms (table_game (lists_of_states forms))
-forms_tell_game forms h none = nested_game forms (states_in_range forms h) none
+forms_tell_game forms h none =
+    let short = forms_in_range forms h in
+    nested_game forms (states_in_range forms h) (table_of (lists_of_states forms) none (omega (arith, short.ranks.few)) (omega (arith, short.draws.few)))
 
 pub forms_have_longest_ways : (forms : List StateForm) → are_in_range forms ≡ true → AreOrdered (lists_of_states forms) → HaveLongestWays (lists_of_states forms)
 forms_have_longest_ways forms h order = ways_told forms (states_in_range forms h) order

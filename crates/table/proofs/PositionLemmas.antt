@@ -1,5 +1,5 @@
 -- Lists that break no rule make a table.
-use Rattle.std.proofs.Common.{◌≡◌, ℕ, ◌+◌, ◌<◌, ◌≤◌, ◌^◌, ℤ, pos, neg_ℤ, ◌≤ℤ◌, Bool, true, not, ◌||◌, eqb, leb, length, None, arith}
+use Rattle.std.proofs.Common.{◌≡◌, ℕ, ◌+◌, ◌<◌, ◌≤◌, ◌^◌, ℤ, pos, neg_ℤ, ◌≤ℤ◌, Bool, true, not, ◌||◌, eqb, leb, length, None, arith, zero, suc, cond, Some}
 use Rattle.std.proofs.lemmas.Bool.{and_parts, eq-eqb, eqb-true, leb-true, ne_eqb}
 use Rattle.std.proofs.lemmas.Int.{ints}
 use Rattle.sums.specs.Sums.{count_below}
@@ -10,8 +10,10 @@ use Rattle.table.specs.declared.rules.CellRule.TheVariants.{Draws, Weights, Orde
 use Rattle.table.specs.declared.rules.Rule.TheVariants.{Payoff, Rows, Cells, Each, Turns}
 use Rattle.table.specs.declared.TableError.TheVariants as errors
 use Rattle.table.specs.Below.{all_below}
-use Rattle.table.specs.BelowLemmas.{all_at, greatest_at, none_at}
-use Rattle.table.specs.Faults.{are_moves, fault_at, is_payoff, is_rank, is_weight, rule_fault}
+use Rattle.table.specs.BelowLemmas.{all_at, greatest_at, none_at, or_none}
+use Rattle.table.proofs.FitLemmas.{fits_from}
+use Rattle.table.specs.declared.TableError.{TableError}
+use Rattle.table.specs.Faults.{count_fault, do_fit, first_fault, lists_fault, are_moves, fault_at, is_payoff, is_rank, is_weight, rule_fault}
 use Rattle.table.specs.Lists.{Lists, cells_of, draws_at, table_moves, place_at, table_rank, table_state, state_count, table_value, table_weight, cell_rank, next_rank}
 use Rattle.table.specs.Position.{AreFitting, IsTableCell, IsTable}
 use Rattle.table.proofs.RuleLemmas.{keeps_all, kept, leads_behind, leads_there}
@@ -35,7 +37,7 @@ module _ (l : Lists) where
       let fine = kept (not (eqb (table_rank l s) 0) || is_payoff (table_value l s)) (errors.PayoffRange s) (none_at (state_count l) (fault_at Payoff l) s none here) in
       payoff_range (table_value l s) (at_end (table_rank l s) (is_payoff (table_value l s)) fine e)
 
-  pub moves_from : rule_fault Rows l ≡ None → rule_fault Cells l ≡ None → (side : Side) (s : ℕ) → s < state_count l → 1 ≤ table_rank l s → (1 ≤ table_moves l side s) × (table_moves l side s ≤ 32)
+  moves_from : rule_fault Rows l ≡ None → rule_fault Cells l ≡ None → (side : Side) (s : ℕ) → s < state_count l → 1 ≤ table_rank l s → (1 ≤ table_moves l side s) × (table_moves l side s ≤ 32)
   moves_from rows cells One s here inner =
       let fine = kept (eqb (table_rank l s) 0 || are_moves (table_moves l One s)) (errors.RowsRange s) (none_at (state_count l) (fault_at Rows l) s rows here) in
       moves_range (table_moves l One s) (at_inner (table_rank l s) (are_moves (table_moves l One s)) fine inner)
@@ -89,3 +91,21 @@ module _ (l : Lists) where
       rank_high = λ s here. (ranks turns s here).0;
       longest = λ s here inner. (ranks turns s here).1 inner;
     }
+
+some_states : (n : ℕ) (fault : TableError) → cond (eqb n 0) (Some fault) None ≡ None → 1 ≤ n
+some_states zero fault h = absurd (cc)
+some_states (suc n) fault h = omega arith
+
+pub table_of : (l : Lists) → first_fault l ≡ None → state_count l < 2 ^ 31 → length l.draws < 2 ^ 31 → IsTable l
+table_of l none few few_draws =
+    let fits = or_none (lists_fault l) _ none in
+    let some = or_none (count_fault l) _ fits.1 in
+    let payoffs = or_none (rule_fault Payoff l) _ some.1 in
+    let rows = or_none (rule_fault Rows l) _ payoffs.1 in
+    let columns = or_none (rule_fault Cells l) _ rows.1 in
+    let draws = or_none (rule_fault (Each Draws) l) _ columns.1 in
+    let weights = or_none (rule_fault (Each Weights) l) _ draws.1 in
+    let order = or_none (rule_fault (Each Order) l) _ weights.1 in
+    let turns = or_none (rule_fault Turns l) _ order.1 in
+    table_from l draws.0 weights.0 order.0 turns.0
+    (fits_from l (kept (do_fit l) errors.Lists fits.0)) (some_states (state_count l) errors.NoStates some.0) few few_draws payoffs.0 rows.0 columns.0

@@ -44,7 +44,7 @@ most_high l p (suc n) h =
     cond_both (eqb (table_rank l n) 0) (int_max (greatest_of l n) (table_value l n)) (greatest_of l n) (λ (z : ℤ). z ≤ℤ pos 4000)
     (λ e. omega (arith, ints, clamps, before, p n (omega arith) (eqb-true (table_rank l n) 0 e))) (λ _. before)
 
-least_at : (l : Lists) (n s : ℕ) → s < n → table_rank l s ≡ 0 → least_of l n ≤ℤ table_value l s
+pub least_at : (l : Lists) (n s : ℕ) → s < n → table_rank l s ≡ 0 → least_of l n ≤ℤ table_value l s
 least_at l zero s h e = absurd (omega arith)
 least_at l (suc n) s h e = elim (cases_lt s n) [
   | inl earlier ↦
@@ -56,7 +56,7 @@ least_at l (suc n) s h e = elim (cases_lt s n) [
       rw same (rw (eq-eqb (table_rank l n) 0 (rw (sym same) e)) (omega (arith, ints, clamps)))
 ]
 
-payoff_at : (l : Lists) (n s : ℕ) → s < n → table_rank l s ≡ 0 → table_value l s ≤ℤ greatest_of l n
+pub payoff_at : (l : Lists) (n s : ℕ) → s < n → table_rank l s ≡ 0 → table_value l s ≤ℤ greatest_of l n
 payoff_at l zero s h e = absurd (omega arith)
 payoff_at l (suc n) s h e = elim (cases_lt s n) [
   | inl earlier ↦
@@ -153,7 +153,7 @@ module _ (l : Lists) (p : IsTable l) where
   turn_cell s t r turn = is_cell s.number t.one t.two (sound s r) turn.one_below turn.two_below
 
   -- the last state is an end
-  last_is_end : (s : ℕ) → s + 1 ≡ state_count l → table_rank l s ≡ 0
+  pub last_is_end : (s : ℕ) → s + 1 ≡ state_count l → table_rank l s ≡ 0
   last_is_end s last = elim (cases_lt 0 (table_rank l s)) [
     | inl more ↦
         let here : s < state_count l = omega arith in
@@ -171,7 +171,7 @@ module _ (l : Lists) (p : IsTable l) where
       let rank = last_is_end s last in
       omega (arith, ints, least_at l (state_count l) s (omega arith) rank, payoff_at l (state_count l) s (omega arith) rank)
 
-  moves_width : (side : Side) (s : ℕ) → s < state_count l → table_moves l side s ≤ table_width l
+  pub moves_width : (side : Side) (s : ℕ) → s < state_count l → table_moves l side s ≤ table_width l
   moves_width One s here = omega (arith, greatest_at (length l.moves) (count_in l.moves) (2 * s) (omega (arith, p.fits.moves_count)))
   moves_width Two s here = omega (arith, greatest_at (length l.moves) (count_in l.moves) (2 * s + 1) (omega (arith, p.fits.moves_count)))
 

@@ -1,5 +1,5 @@
 -- The game of a table, told by its nested form alone: no list of cells or draws, no place.
-use Rattle.std.specs.Prelude.{◌≡◌, ℕ, ◌<◌, ◌≤◌, ℤ, pos, unsigned_abs, List, [], length, slice_index_or}
+use Rattle.std.specs.Prelude.{◌≡◌, ℕ, ◌<◌, ◌≤◌, ℤ, pos, ◌≤ℤ◌, unsigned_abs, List, [], length, slice_index_or}
 use Rattle.sim_game.specs.declared.Side.{Side}
 use Rattle.sim_game.specs.declared.Side.TheVariants.{One, Two}
 use Rattle.sim_game.specs.Model.{whole_chance, GameModel, IsEnd}
@@ -57,3 +57,9 @@ pub record IsNestedGame (forms : List StateForm) (m : GameModel State) : Type 0 
       → m.drawn s a b d ≡ record { number = cell_follows (form_cell (form_at forms s.number) a b) d }
   pub ends : (s : State) (payoff : ℤ) → s.number < length forms → form_at forms s.number ≡ End payoff → IsEnd m s × (m.payoff s ≡ payoff)
   pub inner : (s : State) (rows : List (List CellForm)) → s.number < length forms → form_at forms s.number ≡ Rows rows → 1 ≤ m.rank s
+  -- the range of payoffs is that of all ends, the width the greatest number of moves of either side
+  pub low_least : (s : ℕ) (payoff : ℤ) → s < length forms → form_at forms s ≡ End payoff → m.low ≤ℤ payoff
+  pub low_there : (s : ℕ) × (s < length forms) × (form_at forms s ≡ End m.low)
+  pub high_most : (s : ℕ) (payoff : ℤ) → s < length forms → form_at forms s ≡ End payoff → payoff ≤ℤ m.high
+  pub high_there : (s : ℕ) × (s < length forms) × (form_at forms s ≡ End m.high)
+  pub width_most : (side : Side) (s : ℕ) → s < length forms → form_moves side (form_at forms s) ≤ m.width

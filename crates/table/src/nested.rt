@@ -18,7 +18,8 @@ pub fn states_fit()
     ensures { (forms : List StateForm) → are_in_range forms ≡ true → do_fit (lists_of_states forms) ≡ true }
 {}
 
-/// The game of the lists is the one that the states tell: its moves, draws, chances, next states and payoffs.
+/// The game of the lists is the one that the states tell: its moves, draws, chances, next states, payoffs and their
+/// range.
 pub fn states_have_one_game()
     ensures { (forms : List StateForm) → are_in_range forms ≡ true → first_fault (lists_of_states forms) ≡ None
         → IsNestedGame forms (table_game (lists_of_states forms)) }

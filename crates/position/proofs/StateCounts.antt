@@ -1,15 +1,14 @@
 -- How many cells and draws there are, by counts that stop at a number.
-use Rattle.std.proofs.Common.{◌≡◌, ℕ, ◌+◌, ◌≤◌, min, List, [], ◌∷◌, ◌++◌, Bool, true, false, cond, map, length, Some, None, Option, refl, ap, sym, ◌∙◌, is_some, arith, sum, zero-add, leb, ◌&&◌}
+use Rattle.std.proofs.Common.{◌≡◌, ℕ, ◌+◌, ◌≤◌, min, List, [], ◌∷◌, ◌++◌, Bool, true, false, cond, map, length, refl, ap, sym, ◌∙◌, arith, sum, zero-add, leb, ◌&&◌}
 use Rattle.std.specs.List.{flat_map, fold, sum_by, list_all}
 use Rattle.std.proofs.lemmas.List.{length-map, length-append}
 use Rattle.std.proofs.lemmas.List.Folds.{flat_map-map, list_all-map}
 use Rattle.std.proofs.lemmas.List.Sums.{sum-map, sum_by-append}
 use Rattle.serde_json.specs.Data.{Data, null, boolean, number, string, array, object}
-use Rattle.serde_json.specs.Find.{as_i64}
 use Rattle.serde_json.specs.View.{view}
 use Rattle.serde_json.specs.declared.value.Value.{Value}
-use Rattle.table.specs.Nested.{CellForm, Follows, Draws, StateForm, End, Rows, given_cells, draws_of_form, draw_count_of, state_in_range, are_in_range}
-use Rattle.position.specs.Objects.{list_of, is_whole, whole_in}
+use Rattle.table.specs.Nested.{CellForm, End, Rows, given_cells, draws_of_form, draw_count_of, state_in_range, are_in_range}
+use Rattle.position.specs.Objects.{is_whole}
 use Rattle.position.specs.States.{elements_of, whole_of, cell_form_of, row_form_of, state_form_of}
 
 pub map-map : {A B C : Type 0} (f : B → C) (g : A → B) (xs : List A) → map f (map g xs) ≡ map (λ x. f (g x)) xs
@@ -77,26 +76,26 @@ pub cells_in_states : (most : ℕ) (vs : List Value)
     → fold (λ n v. min (n + min (length (given_cells (state_form_of (view v)))) most) most) 0 vs ≡ min (length (flat_map (λ v. given_cells (state_form_of (view v))) vs)) most
 cells_in_states most vs =
     capped_parts most (λ v. min (length (given_cells (state_form_of (view v)))) most) (λ v. given_cells (state_form_of (view v))) (λ cells. length cells) refl (λ xs ys. length-append xs ys)
-        (λ v. capped_twice (length (given_cells (state_form_of (view v)))) most) vs
+    (λ v. capped_twice (length (given_cells (state_form_of (view v)))) most) vs
 
 pub draws_in_cells : (most : ℕ) (vs : List Value)
     → fold (λ n v. min (n + length (draws_of_form (cell_form_of (view v)))) most) 0 vs ≡ min (draw_count_of (map (λ v. cell_form_of (view v)) vs)) most
 draws_in_cells most vs =
     capped_parts most (λ v. length (draws_of_form (cell_form_of (view v)))) (λ v. cell_form_of (view v) ∷ []) draw_count_of refl draw_count_append
-        (λ v. ap (λ (n : ℕ). min n most) (sym (zero-add (length (draws_of_form (cell_form_of (view v))))))) vs
+    (λ v. ap (λ (n : ℕ). min n most) (sym (zero-add (length (draws_of_form (cell_form_of (view v))))))) vs
     ∙ ap (λ (cells : List CellForm). min (draw_count_of cells) most) (single_cells (λ v. cell_form_of (view v)) vs)
 
 pub draws_in_rows : (most : ℕ) (vs : List Value)
     → fold (λ n v. min (n + min (draw_count_of (row_form_of (view v))) most) most) 0 vs ≡ min (draw_count_of (flat_map (λ v. row_form_of (view v)) vs)) most
 draws_in_rows most vs =
     capped_parts most (λ v. min (draw_count_of (row_form_of (view v))) most) (λ v. row_form_of (view v)) draw_count_of refl draw_count_append
-        (λ v. capped_twice (draw_count_of (row_form_of (view v))) most) vs
+    (λ v. capped_twice (draw_count_of (row_form_of (view v))) most) vs
 
 pub draws_in_states : (most : ℕ) (vs : List Value)
     → fold (λ n v. min (n + min (draw_count_of (given_cells (state_form_of (view v)))) most) most) 0 vs ≡ min (draw_count_of (flat_map (λ v. given_cells (state_form_of (view v))) vs)) most
 draws_in_states most vs =
     capped_parts most (λ v. min (draw_count_of (given_cells (state_form_of (view v)))) most) (λ v. given_cells (state_form_of (view v))) draw_count_of refl draw_count_append
-        (λ v. capped_twice (draw_count_of (given_cells (state_form_of (view v)))) most) vs
+    (λ v. capped_twice (draw_count_of (given_cells (state_form_of (view v)))) most) vs
 
 -- ---- all of the range
 in_range_parts : (vs : List Value) → are_in_range (map (λ v. state_form_of (view v)) vs) ≡ (list_all (λ v. state_in_range (state_form_of (view v))) vs && (leb (length vs) 524288
@@ -106,7 +105,7 @@ in_range_parts vs =
 
 pub in_range_is : (vs : List Value) (all few : Bool) → all ≡ list_all (λ v. state_in_range (state_form_of (view v))) vs
     → few ≡ (leb (length vs) 524288 &&
-        (leb (length (flat_map (λ v. given_cells (state_form_of (view v))) vs)) 524288 && leb (draw_count_of (flat_map (λ v. given_cells (state_form_of (view v))) vs)) 262144))
+    (leb (length (flat_map (λ v. given_cells (state_form_of (view v))) vs)) 524288 && leb (draw_count_of (flat_map (λ v. given_cells (state_form_of (view v))) vs)) 262144))
     → (all && few) ≡ are_in_range (map (λ v. state_form_of (view v)) vs)
 in_range_is vs all few a f = rw (a, f) (sym (in_range_parts vs))
 

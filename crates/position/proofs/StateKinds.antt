@@ -1,5 +1,5 @@
 -- A `Value`'s elements as the list that the definitions read.
-use Rattle.std.proofs.Common.{◌≡◌, ℕ, ℤ, List, [], ◌∷◌, Bool, true, false, ◌&&◌, ◌||◌, map, length, Some, None, Option, refl, ap, sym, ◌∙◌, option_map, unwrap_or, is_some}
+use Rattle.std.proofs.Common.{◌≡◌, ℕ, List, [], ◌∷◌, Bool, true, false, ◌&&◌, ◌||◌, map, length, Some, None, Option, refl, ap, sym, ◌∙◌, option_map, unwrap_or, is_some}
 use Rattle.std.specs.List.{list_all}
 use Rattle.std.proofs.lemmas.List.{length-map}
 use Rattle.std.proofs.lemmas.List.Folds.{list_all-map}
@@ -7,7 +7,7 @@ use Rattle.serde_json.specs.Data.{Data, Items}
 use Rattle.serde_json.specs.Find.{as_array}
 use Rattle.serde_json.specs.View.{view, items_view}
 use Rattle.serde_json.specs.declared.value.Value.{Value}
-use Rattle.table.specs.Nested.{CellForm, Follows, Draws, StateForm, End, Rows}
+use Rattle.table.specs.Nested.{Follows, Draws, End, Rows}
 use Rattle.position.specs.Objects.{list_of, is_whole}
 use Rattle.position.specs.States.{elements_of, is_list_of, whole_of, draw_form_of, cell_form_of, row_form_of, state_form_of}
 

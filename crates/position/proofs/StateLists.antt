@@ -1,7 +1,7 @@
 -- Lists that grow at their end, as cells and states are told.
-use Rattle.std.proofs.Common.{◌≡◌, ℕ, ℤ, pos, negsuc, ◌+◌, ◌-◌, ◌<◌, ◌≤◌, ◌≤ℤ◌, List, [], ◌∷◌, ◌++◌, Bool, true, false, cond, ◌&&◌, map, length, take, drop, get_or, refl, ap, sym, ◌∙◌, subst, arith, zero-add, leb, eqb, suc, int_le, append_assoc, ◌⊎◌, inl, inr}
+use Rattle.std.proofs.Common.{◌≡◌, ℕ, ℤ, pos, negsuc, ◌+◌, ◌<◌, ◌≤◌, ◌≤ℤ◌, List, [], ◌∷◌, ◌++◌, Bool, true, false, cond, ◌&&◌, map, length, take, drop, get_or, refl, ap, sym, ◌∙◌, subst, arith, zero-add, leb, eqb, suc, int_le, append_assoc, ◌⊎◌, inl, inr}
 use Rattle.std.specs.List.{flat_map, list_all}
-use Rattle.std.proofs.lemmas.Bool.{cond_both, and_parts, and_from, leb-true, eqb-true, eq-eqb, ne_eqb}
+use Rattle.std.proofs.lemmas.Bool.{cond_both, and_parts, leb-true, eq-eqb}
 use Rattle.std.proofs.lemmas.Float.{T_from_true}
 use Rattle.std.proofs.lemmas.Grind.{flat_map-append}
 use Rattle.std.proofs.lemmas.List.{append-nil, flat_map_more, length-map, length-append, take_more, map_more, take-append-drop, take_all}
@@ -11,12 +11,12 @@ use Rattle.std.proofs.lemmas.List.Sums.{AllPass-from_list_all}
 use Rattle.serde_json.specs.Data.{Data}
 use Rattle.serde_json.specs.View.{view}
 use Rattle.serde_json.specs.declared.value.Value.{Value}
-use Rattle.table.specs.Nested.{CellForm, Follows, Draws, StateForm, End, Rows, is_within, names_state, draw_in_range, cell_in_range, row_in_range, state_in_range, draws_of_form, draw_count_of, cells_told, draws_told, values_told, moves_told, kept_cells, given_cells, are_in_range, columns_in}
+use Rattle.table.specs.Nested.{CellForm, Follows, Draws, StateForm, End, Rows, is_within, cell_in_range, row_in_range, state_in_range, draws_of_form, draw_count_of, cells_told, draws_told, values_told, moves_told, kept_cells, given_cells, are_in_range, columns_in}
 use Rattle.position.specs.declared.states.lists.Cells.{Cells}
 use Rattle.position.specs.declared.states.lists.Lists.{Lists}
 use Rattle.position.specs.Objects.{is_whole}
 use Rattle.position.specs.States.{elements_of, whole_of, draw_form_of, cell_form_of, row_form_of, state_form_of, AddsCells, AddsState, AreListsOf}
-use Rattle.position.proofs.StateKinds.{all_elements, few_forms, cell_whole, cell_list, state_whole, state_list}
+use Rattle.position.proofs.StateKinds.{all_elements, few_forms, state_list}
 use Rattle.position.proofs.StateCounts.{draw_count_append, map-map, whole_has_none}
 
 -- ---- ranges
@@ -122,7 +122,7 @@ columns_first (x ∷ xs) first n long some is at test = rw test (sym (columns_ar
 kept_are : (d : Data) → kept_cells (state_form_of d) ≡ cond (eqb (columns_in (map row_form_of (elements_of d))) 0) [] (flat_map row_form_of (elements_of d))
 kept_are d =
     elim (is_whole d) as (λ b. is_whole d ≡ b → kept_cells (cond b (End (whole_of d)) (Rows (map row_form_of (elements_of d))))
-        ≡ cond (eqb (columns_in (map row_form_of (elements_of d))) 0) [] (flat_map row_form_of (elements_of d))) [
+    ≡ cond (eqb (columns_in (map row_form_of (elements_of d))) 0) [] (flat_map row_form_of (elements_of d))) [
       | true ↦ λ is. sym (ap (λ (es : List Data). cond (eqb (columns_in (map row_form_of es)) 0) [] (flat_map row_form_of es)) (whole_has_none d is))
       | false ↦ λ is. ap (λ (cells : List CellForm). cond (eqb (columns_in (map row_form_of (elements_of d))) 0) [] cells) (flat_map-map (λ row. row) row_form_of (elements_of d))
     ] refl
@@ -132,7 +132,7 @@ pub kept_is : (vs : List Value) (d : Data) (n : ℕ) → map view vs ≡ element
     → cond (eqb n 0) [] (flat_map (λ v. row_form_of (view v)) vs) ≡ kept_cells (state_form_of d)
 kept_is vs d n is count =
     rw (count, forms_are row_form_of vs d is) (ap (λ (cells : List CellForm). cond (eqb (columns_in (map row_form_of (elements_of d))) 0) [] cells) (sym (flat_map-map row_form_of view vs)
-        ∙ ap (flat_map row_form_of) is) ∙ sym (kept_are d))
+    ∙ ap (flat_map row_form_of) is) ∙ sym (kept_are d))
 
 -- the cells of a row
 pub row_cells : (vs : List Value) (d : Data) → map view vs ≡ elements_of d → flat_map (λ v. cell_form_of (view v) ∷ []) vs ≡ row_form_of d
@@ -193,7 +193,7 @@ lists_more xs form mid new before here =
           ∙ sym (values_told-append 0 xs (form ∷ []));
       cells = here.cells.numbers ∙ ap (λ (zs : List ℤ). zs ++ cells_told mid.cells.count (kept_cells form)) before.cells
           ∙ ap (λ (n : ℕ). cells_told 0 (flat_map kept_cells xs) ++ cells_told n (kept_cells form)) (before.count ∙ told) ∙ sym (cells_told-append 0 (flat_map kept_cells xs) (kept_cells form))
-              ∙ ap (cells_told 0) (sym kept);
+          ∙ ap (cells_told 0) (sym kept);
       draws = here.cells.draws ∙ ap (λ (zs : List ℤ). zs ++ flat_map draws_told (kept_cells form)) before.draws ∙ sym (flat_map-append draws_told (flat_map kept_cells xs) (kept_cells form))
           ∙ ap (flat_map draws_told) (sym kept);
       count = omega (arith, here.cells.count, before.count, draw_count_append (flat_map kept_cells xs) (kept_cells form), ap draw_count_of kept);

@@ -1,15 +1,15 @@
 -- Ranks, from the last state to the first.
-use Rattle.std.proofs.Common.{◌≡◌, ℕ, ℤ, pos, negsuc, zero, suc, ◌+◌, ◌-◌, ◌<◌, ◌≤◌, max, List, [], ◌∷◌, ◌++◌, Bool, true, false, cond, map, length, get_or, set, drop, replicate, refl, ap, sym, ◌∙◌, subst, arith, add-one, leb, inl, inr, All, unsigned_abs}
+use Rattle.std.proofs.Common.{◌≡◌, ℕ, ℤ, pos, negsuc, zero, suc, ◌+◌, ◌-◌, ◌<◌, ◌≤◌, max, List, [], ◌∷◌, ◌++◌, map, length, get_or, set, drop, replicate, refl, ap, sym, ◌∙◌, subst, arith, add-one, leb, inl, inr, All, unsigned_abs}
 use Rattle.std.specs.List.{flat_map, fold}
 use Rattle.std.proofs.lemmas.Bool.{cond_both, cases_lt, le-leb, lt-leb}
 use Rattle.std.proofs.lemmas.Grind.{flat_map-append}
-use Rattle.std.proofs.lemmas.List.{map-append, length-map, length-replicate, get_or-replicate, get_or_append_left, get_or-append_right, get_or-map, get_or_past, replicate_more, set_at, drop_more, drop_all, append-nil, append_assoc, length-drop}
+use Rattle.std.proofs.lemmas.List.{map-append, length-map, length-replicate, get_or-replicate, get_or_append_left, get_or-append_right, get_or_past, replicate_more, set_at, drop_more, drop_all, append-nil, append_assoc, length-drop}
 use Rattle.std.proofs.lemmas.List.Concat.{flat_map_single}
 use Rattle.std.proofs.lemmas.List.Elements.{All-nil, All-cons, All-weaker, All-append, All-map, All-replicate}
 use Rattle.std.proofs.lemmas.List.Folds.{flat_map-map}
 use Rattle.serde_json.specs.View.{view}
 use Rattle.serde_json.specs.declared.value.Value.{Value}
-use Rattle.table.specs.Nested.{CellForm, Follows, Draws, StateForm, End, Rows, kept_cells, greatest_in, named_by, rank_behind, rank_told, ranks_told, lists_of_states}
+use Rattle.table.specs.Nested.{CellForm, Draws, StateForm, End, Rows, kept_cells, greatest_in, named_by, rank_behind, rank_told, ranks_told, lists_of_states}
 use Rattle.position.specs.States.{draw_form_of, cell_form_of, row_form_of, state_form_of, rank_in, rank_among, AreListsOf, table_text_of}
 use Rattle.position.specs.declared.states.lists.Lists.{Lists}
 use Rattle.certificate.specs.declared.positions.PositionText.TheVariants as texts
@@ -39,7 +39,7 @@ ranks_low s (form ∷ forms) =
     let behind = ranks_told (suc s) forms in
     let low = ranks_low (suc s) forms in
     All-cons (λ r. r ≤ suc (length forms)) (rank_told s behind form) behind (rank_low (length forms) s behind form low)
-        (All-weaker (λ r. r ≤ length forms) (λ r. r ≤ suc (length forms)) (λ r h. omega arith) behind low)
+    (All-weaker (λ r. r ≤ length forms) (λ r. r ≤ suc (length forms)) (λ r h. omega arith) behind low)
 
 -- ---- the greatest
 greatest_append : (xs ys : List ℕ) → greatest_in (xs ++ ys) ≡ max (greatest_in xs) (greatest_in ys)
@@ -62,7 +62,7 @@ pub greatest_draw : (ranks : List ℤ) (vs : List Value) → fold (λ n v. max n
 greatest_draw ranks vs =
     greatest_of_parts (λ (v : Value). get_or (draw_form_of (view v)) 0 (pos 0) ∷ []) (rank_in ranks) (λ v. rank_in ranks (get_or (draw_form_of (view v)) 0 (pos 0))) (λ v. omega arith) 0 vs
     ∙ max_zero _ ∙ ap (λ (zs : List ℤ). greatest_in (map (rank_in ranks) zs)) (flat_map_single (λ (v : Value). get_or (draw_form_of (view v)) 0 (pos 0)) vs
-        ∙ sym (map-map (λ (draw : List ℤ). get_or draw 0 (pos 0)) (λ (v : Value). draw_form_of (view v)) vs))
+    ∙ sym (map-map (λ (draw : List ℤ). get_or draw 0 (pos 0)) (λ (v : Value). draw_form_of (view v)) vs))
 
 pub greatest_cell : (ranks : List ℤ) (vs : List Value) → fold (λ n v. max n (greatest_in (map (rank_in ranks) (named_by (cell_form_of (view v)))))) 0 vs
     ≡ greatest_in (map (rank_in ranks) (flat_map named_by (map (λ v. cell_form_of (view v)) vs)))
@@ -139,7 +139,7 @@ ranks_none vs ranks is = record {
   within = omega arith;
   told = is ∙ zeros_are vs
       ∙ sym (ap (λ (rest : List Value). ranks_from (length vs) (ranks_told (length vs) (map (λ v. state_form_of (view v)) rest))) (drop_all (length vs) vs (omega arith))
-          ∙ append-nil (replicate (length vs) (pos 0)));
+      ∙ append-nil (replicate (length vs) (pos 0)));
 }
 
 pub ranks_done : (vs : List Value) (ranks : List ℤ) (s : ℕ) → s ≡ 0 → AreRanksFrom s vs ranks → ranks ≡ map pos (ranks_told 0 (map (λ v. state_form_of (view v)) vs))
@@ -157,11 +157,11 @@ pub all_low : (s : ℕ) (vs : List Value) (ranks : List ℤ) → AreRanksFrom s 
 all_low s vs ranks h few =
     let rest = map (λ (v : Value). state_form_of (view v)) (drop s vs) in
     let low = All-weaker (λ r. r ≤ length rest) (λ r. r ≤ 524288) (λ r k. omega (arith, length-map (drop s vs) (λ (v : Value). state_form_of (view v)), length-drop s vs)) (ranks_told s rest)
-        (ranks_low s rest) in
+    (ranks_low s rest) in
     numbers_low 524288 ranks
     (subst (All (λ z. unsigned_abs z ≤ 524288)) (sym h.told)
     (All-append (λ z. unsigned_abs z ≤ 524288) (replicate s (pos 0)) (map pos (ranks_told s rest)) (All-replicate (λ z. unsigned_abs z ≤ 524288) s (pos 0) (omega arith))
-        (All-map (λ z. unsigned_abs z ≤ 524288) pos (ranks_told s rest) low)))
+    (All-map (λ z. unsigned_abs z ≤ 524288) pos (ranks_told s rest) low)))
 
 -- one state before
 pub ranks_more : (s left : ℕ) (vs : List Value) (v : Value) (ranks : List ℤ) (rank : ℕ) → left ≡ s + 1 → s < length vs → v ≡ get_or vs s v → AreRanksFrom left vs ranks

@@ -1,8 +1,6 @@
 -- The text of a table, where its states are in range, and what is told where they are not.
-use Rattle.std.proofs.Common.{◌≡◌, ℕ, ℤ, List, Bool, true, false, Ok, Err, map, refl, ap, sym, ◌∙◌}
+use Rattle.std.proofs.Common.{◌≡◌, ℕ, ℤ, List, true, false, Ok, Err, refl}
 use Rattle.serde_json.specs.Data.{Data}
-use Rattle.serde_json.specs.View.{view}
-use Rattle.serde_json.specs.declared.value.Value.{Value}
 use Rattle.certificate.specs.Numbers.{IsNumberList}
 use Rattle.certificate.specs.Ranges.{IsPositionInRange}
 use Rattle.certificate.specs.declared.fields.Field.TheVariants as fields
@@ -11,8 +9,7 @@ use Rattle.table.specs.Nested.{StateForm, are_in_range, lists_of_states}
 use Rattle.table.proofs.RangeLemmas.{forms_in_range}
 use Rattle.position.specs.declared.games.InputError.TheVariants as errors
 use Rattle.position.specs.Objects.{member_at}
-use Rattle.position.specs.States.{elements_of, state_form_of, forms_of, forms_in, are_state_kinds, table_text_of, table_text_in}
-use Rattle.position.proofs.StateLists.{forms_are}
+use Rattle.position.specs.States.{forms_of, forms_in, are_state_kinds, table_text_of, table_text_in}
 
 number_list : (low high : ℤ) (most : ℕ) (zs : List ℤ) → AreWithin low high most zs → IsNumberList low high most zs
 number_list low high most zs h = record { few = h.few; within = h.each }

@@ -1,9 +1,9 @@
-use Rattle.std.proofs.Common.{◌≡◌, List, ◌∙◌, ap, sym, true, subst}
+use Rattle.std.proofs.Common.{List, ◌∙◌, ap, sym, subst}
 use Rattle.serde_json.specs.View.{view}
 use Rattle.table.specs.Nested.{StateForm, are_in_range, lists_of_states}
 use Rattle.certificate.specs.declared.positions.PositionText.{PositionText}
 use Rattle.certificate.specs.Ranges.{IsPositionInRange}
-use Rattle.position.specs.States.{state_form_of, forms_of, table_text_of}
+use Rattle.position.specs.States.{state_form_of, table_text_of}
 use Rattle.position.proofs.StateLists.{forms_are}
 use Rattle.position.proofs.StateTexts.{text_in_range, wrong_kind, wrong_range, right}
 use Rattle.position.proofs.states.table_text.Goals as goal

@@ -1,4 +1,4 @@
-use Rattle.std.proofs.Common.{◌∙◌, ap, sym, ℕ, Bool, cond}
+use Rattle.std.proofs.Common.{◌∙◌, ap, sym, Bool, cond}
 use Rattle.position.proofs.StateLists.{columns_first}
 use Rattle.position.proofs.states.lists.columns.Goals as goal
 

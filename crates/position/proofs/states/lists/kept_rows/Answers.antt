@@ -1,8 +1,7 @@
-use Rattle.std.proofs.Common.{◌∙◌, ap, sym, [], ℕ, List, Bool, cond, eqb, inl, inr, refl}
+use Rattle.std.proofs.Common.{◌∙◌, ap, sym, [], Bool, cond, inl, inr, refl}
 use Rattle.std.specs.List.{flat_map}
 use Rattle.std.proofs.lemmas.Bool.{eq-eqb, ne_eqb}
 use Rattle.serde_json.specs.View.{view}
-use Rattle.table.specs.Nested.{CellForm}
 use Rattle.position.specs.States.{row_form_of}
 use Rattle.position.proofs.StateLists.{kept_is}
 use Rattle.position.proofs.states.lists.kept_rows.Goals as goal

@@ -1,10 +1,9 @@
-use Rattle.std.proofs.Common.{◌≡◌, ℕ, ◌+◌, ◌≤◌, List, [], ◌∷◌, ◌++◌, ◌∙◌, ap, sym, subst, map, take, length, arith, leb, eqb, true}
+use Rattle.std.proofs.Common.{◌+◌, List, ◌++◌, ◌∙◌, ap, sym, map, take, eqb}
 use Rattle.std.specs.List.{flat_map}
 use Rattle.serde_json.specs.View.{view}
 use Rattle.serde_json.specs.declared.value.Value.{Value}
-use Rattle.table.specs.Nested.{CellForm, StateForm, Draws, names_state, draw_in_range, cell_in_range, row_in_range, state_in_range, draw_count_of}
-use Rattle.position.specs.States.{whole_of, draw_form_of, cell_form_of, row_form_of, state_form_of, AddsCells}
-use Rattle.position.proofs.StateKinds.{cell_list}
+use Rattle.table.specs.Nested.{names_state, draw_in_range}
+use Rattle.position.specs.States.{whole_of, draw_form_of}
 use Rattle.std.proofs.Common.{ℤ}
 use Rattle.position.proofs.StateLists.{values_pass, all_read, appends_then, parts_more, forms_are}
 use Rattle.position.proofs.states.lists.push_draws.Goals as goal

@@ -2,7 +2,6 @@ use Rattle.std.proofs.Common.{◌≡◌, ℕ, ◌+◌, ◌∙◌, min, length, r
 use Rattle.std.specs.List.{fold}
 use Rattle.serde_json.specs.View.{view}
 use Rattle.serde_json.specs.declared.value.Value.{Value}
-use Rattle.table.specs.Nested.{CellForm}
 use Rattle.position.specs.States.{row_form_of}
 use Rattle.position.proofs.StateCounts.{cells_in_rows}
 use Rattle.position.proofs.states.ranges.cells_of_rows.Goals as goal

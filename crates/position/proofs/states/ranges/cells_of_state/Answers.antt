@@ -1,6 +1,6 @@
-use Rattle.std.proofs.Common.{ℕ, List, ◌∙◌, ap, min, length}
+use Rattle.std.proofs.Common.{List, ◌∙◌, ap, min, length}
 use Rattle.serde_json.specs.View.{view}
-use Rattle.table.specs.Nested.{CellForm, draw_count_of}
+use Rattle.table.specs.Nested.{CellForm}
 use Rattle.position.proofs.StateCounts.{cells_given}
 use Rattle.position.proofs.states.ranges.cells_of_state.Goals as goal
 

@@ -10,5 +10,5 @@ use Rattle.position.proofs.states.ranges.cells_of_states.Goals as goal
 pub returns : goal.returns
 returns c =
     let folded : c.fold.result ≡ fold (λ (n : ℕ) (v : Value). min (n + min (length (given_cells (state_form_of (view v)))) 18446744073709551615) 18446744073709551615) 0 c.args.states.now
-        = search rules in
+    = search rules in
     folded ∙ cells_in_states 18446744073709551615 c.args.states.now

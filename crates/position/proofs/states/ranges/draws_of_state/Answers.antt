@@ -1,4 +1,4 @@
-use Rattle.std.proofs.Common.{ℕ, List, ◌∙◌, ap, min, length}
+use Rattle.std.proofs.Common.{List, ◌∙◌, ap, min}
 use Rattle.serde_json.specs.View.{view}
 use Rattle.table.specs.Nested.{CellForm, draw_count_of}
 use Rattle.position.proofs.StateCounts.{cells_given}

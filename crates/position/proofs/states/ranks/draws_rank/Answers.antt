@@ -1,8 +1,7 @@
-use Rattle.std.proofs.Common.{◌≡◌, ℕ, ◌∙◌, max, map, pos, get_or, rules}
-use Rattle.std.specs.List.{fold, flat_map}
+use Rattle.std.proofs.Common.{◌≡◌, ℕ, ◌∙◌, max, pos, get_or, rules}
+use Rattle.std.specs.List.{fold}
 use Rattle.serde_json.specs.View.{view}
 use Rattle.serde_json.specs.declared.value.Value.{Value}
-use Rattle.table.specs.Nested.{CellForm}
 use Rattle.position.specs.States.{rank_in, draw_form_of}
 use Rattle.position.proofs.StateRanks.{greatest_draw}
 use Rattle.position.proofs.states.ranks.draws_rank.Goals as goal

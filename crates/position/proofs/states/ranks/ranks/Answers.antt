@@ -1,11 +1,6 @@
-use Rattle.std.proofs.Common.{◌≡◌, ℕ, ℤ, pos, ◌+◌, ◌-◌, ◌≤◌, List, [], ◌∷◌, ◌∙◌, ap, sym, subst, map, set, get_or, length, arith, w32}
-use Rattle.std.specs.List.{flat_map}
+use Rattle.std.proofs.Common.{ℤ, ◌-◌, ◌≤◌, List, ◌∙◌, ap, sym, subst, set, arith, w32}
 use Rattle.serde_json.specs.View.{view}
-use Rattle.serde_json.specs.declared.value.Value.{Value}
-use Rattle.table.specs.Nested.{CellForm, Draws, greatest_in, named_by}
-use Rattle.position.specs.States.{whole_of, draw_form_of, cell_form_of, row_form_of, state_form_of, rank_in, rank_among}
-use Rattle.position.proofs.StateKinds.{cell_list}
-use Rattle.position.proofs.StateLists.{forms_are}
+use Rattle.position.specs.States.{state_form_of, rank_in, rank_among}
 use Rattle.std.proofs.lemmas.Int.{to_z_pos}
 use Rattle.position.proofs.StateRanks.{AreRanksFrom, ranks_none, ranks_more, all_low}
 use Rattle.position.proofs.states.ranks.ranks.Goals as goal
@@ -24,5 +19,5 @@ loop-left-preserved c =
     let rank = c.rank-rank.ensures.exact ∙ ap (λ (zs : List ℤ). rank_among zs (state_form_of (view v))) c.as_slice.ensures.value in
     subst (λ (z : ℤ). AreRanksFrom s c.args.states.now (set c.loop-left.ranks.items s z)) (sym (to_z_pos w32 c.rank-rank.result (omega (arith, c.rank-rank.ensures.low))))
     (ranks_more s c.loop-left.left c.args.states.now v c.loop-left.ranks.items c.rank-rank.result (omega (arith, c.loop-left-test.true))
-        (omega (arith, c.loop-left-test.true, c.loop-left.invariant.within)) c.index-states-left.is
+    (omega (arith, c.loop-left-test.true, c.loop-left.invariant.within)) c.index-states-left.is
     c.loop-left.invariant rank)

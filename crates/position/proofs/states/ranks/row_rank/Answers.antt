@@ -1,10 +1,8 @@
-use Rattle.std.proofs.Common.{◌≡◌, ℕ, ℤ, pos, ◌+◌, ◌-◌, ◌≤◌, List, [], ◌∷◌, ◌∙◌, ap, sym, subst, map, set, get_or, length, arith, w32}
+use Rattle.std.proofs.Common.{List, ◌∙◌, ap, map}
 use Rattle.std.specs.List.{flat_map}
 use Rattle.serde_json.specs.View.{view}
-use Rattle.serde_json.specs.declared.value.Value.{Value}
-use Rattle.table.specs.Nested.{CellForm, Draws, greatest_in, named_by}
-use Rattle.position.specs.States.{whole_of, draw_form_of, cell_form_of, row_form_of, state_form_of, rank_in, rank_among}
-use Rattle.position.proofs.StateKinds.{cell_list}
+use Rattle.table.specs.Nested.{CellForm, greatest_in, named_by}
+use Rattle.position.specs.States.{cell_form_of, rank_in}
 use Rattle.position.proofs.StateLists.{forms_are}
 use Rattle.position.proofs.states.ranks.row_rank.Goals as goal
 

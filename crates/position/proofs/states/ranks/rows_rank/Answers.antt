@@ -1,4 +1,4 @@
-use Rattle.std.proofs.Common.{◌≡◌, ℕ, ◌∙◌, max, map, pos, get_or, rules}
+use Rattle.std.proofs.Common.{◌≡◌, ℕ, ◌∙◌, max, map, rules}
 use Rattle.std.specs.List.{fold, flat_map}
 use Rattle.serde_json.specs.View.{view}
 use Rattle.serde_json.specs.declared.value.Value.{Value}

@@ -1,7 +1,7 @@
-use Rattle.std.proofs.Common.{◌≡◌, ◌++◌, [], ◌∷◌, map, take}
+use Rattle.std.proofs.Common.{[], ◌∷◌, take}
 use Rattle.std.specs.List.{flat_map}
 use Rattle.serde_json.specs.View.{view}
-use Rattle.position.specs.States.{whole_of, draw_form_of, cell_form_of, row_form_of, AddsCells}
+use Rattle.position.specs.States.{cell_form_of, AddsCells}
 use Rattle.position.proofs.states.lists.Cells.push_row.Given as goal
 
 abbrev pub invariant-loop-cell : goal.invariant-loop-cell

@@ -1,17 +1,13 @@
-use Rattle.std.proofs.Common.{◌≡◌, ℕ, ◌+◌, ◌≤◌, List, [], ◌∷◌, ◌++◌, ◌∙◌, ap, sym, subst, map, take, length, arith, leb, eqb, true}
-use Rattle.std.specs.List.{flat_map}
 use Rattle.serde_json.specs.View.{view}
-use Rattle.serde_json.specs.declared.value.Value.{Value}
-use Rattle.table.specs.Nested.{CellForm, StateForm, Draws, names_state, draw_in_range, cell_in_range, row_in_range, state_in_range, draw_count_of}
-use Rattle.position.specs.States.{whole_of, draw_form_of, cell_form_of, row_form_of, state_form_of, AddsCells}
-use Rattle.position.proofs.StateKinds.{cell_list}
+use Rattle.table.specs.Nested.{state_in_range}
+use Rattle.position.specs.States.{state_form_of}
 use Rattle.position.proofs.StateLists.{all_read, are_states_in_range, few_so_far, room_so_far, lists_at}
 use Rattle.position.proofs.states.lists.Lists.of_states.Goals as goal
 
 pub push_state-requires-clause-range : goal.push_state-requires-clause-range
 push_state-requires-clause-range c =
     all_read (λ v. state_in_range (state_form_of (view v))) c.args.states.now c.loop-state.state-index c.state-item.result c.loop-state-test.true c.state-item.is
-        (are_states_in_range c.args.states.now c.requires).range
+    (are_states_in_range c.args.states.now c.requires).range
 
 pub push_state-requires-clause-few : goal.push_state-requires-clause-few
 push_state-requires-clause-few c =
@@ -21,7 +17,7 @@ push_state-requires-clause-few c =
 pub push_state-requires-clause-room : goal.push_state-requires-clause-room
 push_state-requires-clause-room c =
     room_so_far c.args.states.now c.loop-state.state-index c.state-item.result c.loop-state.lists
-        (are_states_in_range c.args.states.now c.requires) c.loop-state-test.true c.state-item.is c.loop-state.invariant
+    (are_states_in_range c.args.states.now c.requires) c.loop-state-test.true c.state-item.is c.loop-state.invariant
 
 pub loop-state-preserved : goal.loop-state-preserved
 loop-state-preserved c =

@@ -1,12 +1,9 @@
-use Rattle.std.proofs.Common.{◌≡◌, ℕ, ◌+◌, ◌≤◌, List, [], ◌∷◌, ◌++◌, ◌∙◌, ap, sym, subst, map, take, length, arith, leb, eqb, true}
-use Rattle.std.specs.List.{flat_map}
+use Rattle.std.proofs.Common.{◌≡◌, ℕ, List, [], ◌∷◌, ◌++◌, ◌∙◌, ap, sym, subst, length, arith}
 use Rattle.serde_json.specs.View.{view}
-use Rattle.serde_json.specs.declared.value.Value.{Value}
-use Rattle.table.specs.Nested.{CellForm, StateForm, Draws, names_state, draw_in_range, cell_in_range, row_in_range, state_in_range, draw_count_of}
-use Rattle.position.specs.States.{whole_of, draw_form_of, cell_form_of, row_form_of, state_form_of, AddsCells}
-use Rattle.position.proofs.StateKinds.{cell_list}
+use Rattle.table.specs.Nested.{CellForm}
+use Rattle.position.specs.States.{state_form_of, AddsCells}
 use Rattle.std.proofs.Common.{ℤ, pos, rules}
-use Rattle.table.specs.Nested.{moves_told, values_told, kept_cells}
+use Rattle.table.specs.Nested.{moves_told}
 use Rattle.position.proofs.StateLists.{are_rows, kept_range, appends_then, moves_are, values_are}
 use Rattle.position.proofs.states.lists.Lists.push_rows.Goals as goal
 

@@ -176,8 +176,9 @@ class Making(unittest.TestCase):
         self.assertEqual(drawn.listing, (((((1, 120120), (3, 240240)), 2),), 1, 0, -1))
 
     def test_what_is_no_matrix(self):
-        for given, words in (([[4001, 1]], "as large as 4001"), ([[1], [1, 2]], "equally long"),
-                             ([], "0 by 0 moves"), ([[]], "1 by 0 moves"),
+        for given, words in (([[4001, 1]], "as large as 4001"),
+                             ([[1], [1, 2]], "row 1 .* has the length 2, and row 0 has 1"),
+                             ([], "the matrix is empty"), ([[]], "the matrix is empty"),
                              ([[1] * 33], "1 by 33 moves"), (5, "a list of rows"),
                              ([5], "a list of rows"), ([["x"]], "'x' is no payoff"),
                              ([[float("nan")]], "nan is no payoff"), ([[True]], "True is no"),
@@ -203,7 +204,7 @@ class Making(unittest.TestCase):
         self.assertEqual((after.name, after.node), ("1 round left, sum 0", (1, 0)))
         self.assertEqual(table.at((1, 0)), after)
         self.assertEqual(Table.repeated([[1, -1], [-1, 1]], 31).root().rank, 31)
-        self.refused("32 turns", Table.repeated, [[1, -1], [-1, 1]], 32)
+        self.refused("rounds is 32, .* from 1 to 31", Table.repeated, [[1, -1], [-1, 1]], 32)
         self.refused("rounds is 0", Table.repeated, [[1]], 0)
 
     def test_chances_are_dealt_out(self):
@@ -451,8 +452,13 @@ class CommandLine(unittest.TestCase):
         for name, text, words, pattern in (
                 ("a.txt", "", [], "a.txt has to end with .csv, .json, .nfg, .efg or .py"),
                 ("a.json", "[", [], "a.json is no JSON: Expecting"), ("a.json", "5", [], "list of"),
-                ("a.csv", "0,x\n1,2\nz,3\n", [], "'z' is no payoff"),
-                ("a.csv", "", [], "0 by 0 moves"), ("a.py", "", [], "defines no function table"),
+                ("a.csv", "0,x\n1,2\nz,3\n", [], "'z' is no payoff: in row 1, column 0"),
+                ("a.csv", ",a,b\nx,1,no\n", [], "'no' is no payoff: in row x, column b"),
+                ("a.csv", ",a,b\nx,1,2\ny,3\n", [], "row 1 .* has the length 1"),
+                ("a.csv", "0;1\n1;0\n", [], "a.csv has semicolons"),
+                ("a.csv", "", [], "the matrix is empty"),
+                ("a.json", '{"game":"table"}', [], "a.json has to be a matrix, .* a position"),
+                ("a.py", "", [], "defines no function table"),
                 ("a.py", "def table(): return 5", [], "gives 5, and has to give a Table"),
                 ("a.py", "def table():\n    return [][1]", [],
                  "raised IndexError: list index out of range .*a.py, line 2"),

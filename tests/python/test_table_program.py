@@ -247,7 +247,7 @@ class Names(unittest.TestCase):
             (folder / "player.py").write_text(
                 "def play(side, state):\n    return [1 + state.node] + [0] * "
                 "(len(state.moves(side)) - 1)\n")
-            told = run("measure", folder / "game.py", folder / "player.py", "--games", 1)
+            told = run("measure", folder / "game.py", folder / "player.py", "--games", 2)
             self.assertEqual((told.returncode, told.stderr), (0, ""))
             self.assertIn("player one rows 1 guarantees 1.000000 short 0.000000", told.stdout)
             (folder / "m.json").unlink()

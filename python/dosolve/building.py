@@ -355,12 +355,14 @@ def _matrix(payoffs: Any) -> list[list[Any]]:
     return matrix
 
 
-def _cell(cell: Any, one: str, two: str) -> Outcomes:
+def _cell(cell: Any, one: str, two: str) -> list[tuple[Fraction, Fraction]]:
     """The payoffs of a pair of moves with their chances."""
     try:
         if not isinstance(cell, (list, tuple)):
             return [(exact(cell), Fraction(1))]
-        return merged([(exact(payoff), chance) for payoff, chance in cell])
+        pairs = [(exact(payoff), exact(chance, "chance")) for payoff, chance in cell]
+        merged(pairs)  # refused here where the chances are none
+        return pairs
     except NoTableError as fault:
         raise NoTableError(f"{fault}: in row {one}, column {two}") from None
     except (TypeError, ValueError):

@@ -8,6 +8,7 @@ import unittest
 from contextlib import redirect_stderr, redirect_stdout
 from fractions import Fraction
 from pathlib import Path
+from types import SimpleNamespace
 
 import dosolve
 from dosolve import NoTableError, Table, openspiel
@@ -342,6 +343,8 @@ class OpenSpiel(unittest.TestCase):
         refused("stands for states that go on differently", Bids([1, 2, 3], 1),
                 key=lambda state: repr((state.one, state.two, state.left, state.prize)))
         refused("has not the calls", object())
+        refused("lacks calls of OpenSpiel's State: is_chance_node, is_sim",
+                SimpleNamespace(is_terminal=lambda: False))
         refused("sum to 1 and to 0|sum to 0 and to 1", Nim(4, returns=lambda x: [x, 0.5]))
         refused("this game has 3", Nim(4, players=3))
         refused("do not see its whole state", Nim(4, information="IMPERFECT_INFORMATION"))

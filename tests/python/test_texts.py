@@ -79,7 +79,7 @@ class Reports(unittest.TestCase):
         self.assertGreater(refused, 10)
 
     def test_changed_reports_are_read_and_refused_alike(self):
-        source, told = random.Random(11), set()
+        source, told = random.Random(12), set()
         texts = [given for _, given, _, status in cases("check") if status == 0]
         for _ in range(400):
             text = changed(source.choice(texts), source)

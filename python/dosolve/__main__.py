@@ -24,6 +24,11 @@ from .values import as_points
 
 INTERRUPTED, PIPE_CLOSED = 130, 141
 
+_GAMES = (".csv", ".nfg", ".efg", ".py")
+"""The endings of files that tell a game, and ask for nothing."""
+
+_POSITION = "a position (.json), or a game: a matrix (.csv), a Gambit file, a Python file"
+
 _EXAMPLES = """examples:
   python3 -m dosolve solve examples/goofspiel_mixed.json -o mixed.report
   python3 -m dosolve solve python/examples/goofspiel_five.json --seconds 10
@@ -47,7 +52,12 @@ def _solver(words: argparse.Namespace) -> Solver:
 
 def _position(words: argparse.Namespace) -> Position:
     """The position of a file, with what the options ask for in place of what the file asks."""
-    return _asked(words, Position.load(words.position))
+    return _asked(words, _loaded(words.position))
+
+
+def _loaded(path: Path) -> Position:
+    """The position of a file; of a file that tells a game, the one with the package's defaults."""
+    return Position(_read_table(path, None)) if path.suffix in _GAMES else Position.load(path)
 
 
 def _asked(words: argparse.Namespace, position: Position) -> Position:
@@ -189,7 +199,7 @@ def _read_table(source: Path, rounds: int | None) -> Table:
 
 def _tournament(words: argparse.Namespace) -> None:
     players = {path.stem: load_player(path) for path in words.players}
-    positions = [Position.load(path) for path in words.position]
+    positions = [_loaded(path) for path in words.position]
     found = tournament(players, positions, None if words.no_solver else _solver(words),
                        words.games, words.seed)
     if words.json:
@@ -267,7 +277,7 @@ def _add_games(parser: argparse.ArgumentParser) -> None:
 
 def _add_solve(commands: Any) -> None:
     parser = _added(commands, "solve", _solve, "bounds of a position's value, with notes")
-    parser.add_argument("position", type=Path, metavar="POSITION", help="a JSON file")
+    parser.add_argument("position", type=Path, metavar="POSITION", help=_POSITION)
     parser.add_argument("-o", "--output", type=Path, metavar="REPORT", help="write the report")
     parser.add_argument("--report", action="store_true", help="print the report itself")
     _add_seconds(parser)
@@ -289,7 +299,7 @@ def _add_exploit(commands: Any) -> None:
 def _add_measure(commands: Any) -> None:
     parser = _added(commands, "measure", _measure,
                     "what a player guarantees, and how it does against the solver's plan")
-    parser.add_argument("position", type=Path, metavar="POSITION", help="a JSON file")
+    parser.add_argument("position", type=Path, metavar="POSITION", help=_POSITION)
     parser.add_argument("player", type=Path, metavar="PLAYER.py",
                         help="a file with a function play(side, state)")
     parser.add_argument("--side", choices=SIDES, help="one side alone")
@@ -322,7 +332,7 @@ def _add_tournament(commands: Any) -> None:
     parser = _added(commands, "tournament", _tournament, "each player against each")
     parser.add_argument("players", type=Path, nargs="+", metavar="PLAYER.py")
     parser.add_argument("--position", type=Path, action="append", required=True,
-                        metavar="POSITION", help="a JSON file; can be given several times")
+                        metavar="POSITION", help=f"{_POSITION}; can be given several times")
     parser.add_argument("--no-solver", action="store_true", help="without the solver's plans")
     parser.add_argument("--csv", action="store_true", help="print the meetings as CSV")
     _add_games(parser)

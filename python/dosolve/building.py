@@ -234,9 +234,19 @@ class _Walk:
                                f"moves, and has to have 1 to {MOST_MOVES} for each player")
         if len(widths) > 1:
             raise NoTableError(f"the rows of {shorten(node)} are not equally long")
-        rows = [[_dealt(merged(cell), self.rounded) for cell in row] for row in what.rows]
+        rows = [[self.draws(node, what.names, one, two, cell) for two, cell in enumerate(row)]
+                for one, row in enumerate(what.rows)]
         self.told[node], self.names[node] = rows, what.names
         return [after for row in rows for cell in row for after, _ in cell]
+
+    def draws(self, node: Hashable, names: Names, one: int, two: int,
+              outcomes: Outcomes) -> list[tuple[Hashable, int]]:
+        """The draws after a pair of moves; the message of a fault names both and the node."""
+        try:
+            return _dealt(merged(outcomes), self.rounded)
+        except NoTableError as fault:
+            raise NoTableError(f"{fault}: after {names[0][one]} and {names[1][two]} in "
+                               f"{shorten(node)}") from None
 
 
 def build(root: Hashable, expand: Expand, rounded: bool = False) -> Built:
@@ -270,8 +280,8 @@ def _scale(payoffs: Iterable[Fraction]) -> Fraction:
     if greatest * scale > MOST_PAYOFF:
         scale /= math.gcd(*(int(payoff * scale) for payoff in given))
     if greatest * scale > MOST_PAYOFF:
-        raise NoTableError(f"payoffs are as large as {greatest * scale} as whole numbers (times "
-                           f"{scale}), and have to be at most {MOST_PAYOFF}; round them")
+        raise NoTableError(f"as whole numbers (times {scale}) the payoffs are as large as "
+                           f"{greatest * scale}, and have to be at most {MOST_PAYOFF}; round them")
     return scale
 
 
@@ -306,20 +316,13 @@ def _require_rank(rows: Sequence[Any]) -> None:
 def of_matrix(payoffs: Any, one: Sequence[Any] | None, two: Sequence[Any] | None,
               rounds: int | None) -> Built:
     """The table of a matrix, played once, or for some rounds whose payoffs are summed."""
-    matrix = as_plain(payoffs)
-    if rounds is not None and not (is_whole(rounds) and rounds > 0):
-        raise NoTableError(f"rounds is {shorten(rounds)}, and has to be a whole number from 1")
-    try:
-        rows = [[[(exact(payoff), exact(chance, "chance")) for payoff, chance in cell]
-                 if isinstance(cell, (list, tuple)) else [(exact(cell), Fraction(1))]
-                 for cell in as_plain(row)] for row in matrix]
-    except NoTableError:
-        raise
-    except (TypeError, ValueError):
-        raise NoTableError(f"a matrix is a list of rows of payoffs, not {shorten(payoffs)}"
-                           ) from None
-    width = max(map(len, rows), default=0)
-    names = (_named(one, len(rows), "one"), _named(two, width, "two"))
+    if rounds is not None and not (is_whole(rounds) and 0 < rounds <= MOST_RANK):
+        raise NoTableError(f"rounds is {shorten(rounds)}, and has to be a whole number from 1 to "
+                           f"{MOST_RANK}")
+    matrix = _matrix(payoffs)
+    names = (_named(one, len(matrix), "one"), _named(two, len(matrix[0]), "two"))
+    rows = [[_cell(cell, names[0][at], names[1][to]) for to, cell in enumerate(row)]
+            for at, row in enumerate(matrix)]
 
     def expand(node: tuple[int, Fraction]) -> End | Turn:
         left, total = node
@@ -331,6 +334,40 @@ def of_matrix(payoffs: Any, one: Sequence[Any] | None, two: Sequence[Any] | None
         return Turn(after, names)
 
     return build((1 if rounds is None else rounds, Fraction(0)), expand)
+
+
+def _matrix(payoffs: Any) -> list[list[Any]]:
+    """A matrix as a list of rows, all of one length."""
+    try:
+        matrix = [list(as_plain(row)) for row in as_plain(payoffs)]
+    except TypeError:
+        raise NoTableError(f"a matrix is a list of rows of payoffs, not {shorten(payoffs)}"
+                           ) from None
+    if not matrix or not matrix[0]:
+        raise NoTableError("the matrix is empty")
+    for number, row in enumerate(matrix):
+        if len(row) != len(matrix[0]):
+            raise NoTableError(f"row {number} of the matrix (from 0) has the length {len(row)}, "
+                               f"and row 0 has {len(matrix[0])}")
+    if len(matrix) > MOST_MOVES or len(matrix[0]) > MOST_MOVES:
+        raise NoTableError(f"the matrix has {len(matrix)} by {len(matrix[0])} moves, and each "
+                           f"player can have at most {MOST_MOVES}")
+    return matrix
+
+
+def _cell(cell: Any, one: str, two: str) -> list[tuple[Fraction, Fraction]]:
+    """The payoffs of a pair of moves with their chances."""
+    try:
+        if not isinstance(cell, (list, tuple)):
+            return [(exact(cell), Fraction(1))]
+        pairs = [(exact(payoff), exact(chance, "chance")) for payoff, chance in cell]
+        merged(pairs)  # refused here where the chances are none
+        return pairs
+    except NoTableError as fault:
+        raise NoTableError(f"{fault}: in row {one}, column {two}") from None
+    except (TypeError, ValueError):
+        raise NoTableError(f"{shorten(cell)} is no payoff, and no list of pairs of a payoff and "
+                           f"its chance: in row {one}, column {two}") from None
 
 
 def _named(names: Sequence[Any] | None, count: int, side: str) -> tuple[str, ...]:
@@ -349,12 +386,20 @@ def of_functions(root: Hashable, moves: Callable[[Any], Any], after: Callable[..
     def expand(node: Hashable) -> End | Turn:
         ones, twos = _both_moves(node, moves(node))
         if not ones and not twos:
-            return End(exact(payoff(node)))
+            return End(_payoff(node, payoff(node)))
         ones, twos = ones or [ONLY], twos or [ONLY]
         rows = [[_outcomes(after(node, one, two)) for two in twos] for one in ones]
         return Turn(rows, (unique(ones), unique(twos)))
 
     return build(_hashed(root), expand, rounded)
+
+
+def _payoff(node: Hashable, found: Any) -> Fraction:
+    """What One gets at an end; the message of a fault names the node."""
+    try:
+        return exact(found)
+    except NoTableError as fault:
+        raise NoTableError(f"{fault}: payoff({shorten(node)})") from None
 
 
 def _both_moves(node: Hashable, found: Any) -> tuple[list[Any], list[Any]]:

@@ -119,6 +119,9 @@ class ReportRefusedError(RefusedError):
 
 def _explained(words: list[str]) -> str:
     """What a refusal of `check` means, where its words do not say it."""
+    if words == ["report", "head"]:
+        return ("a report begins with the line `dosolve report 1` or `dosolve report 2`, and its "
+                "lines end with LF alone")
     if words[:2] == ["refused", "bound"] and len(words) == 7:
         least = "at least" if words[2] == "one" else "at most"
         return (f"in the state {words[3]} the row's weights yield {words[5]} against move "

@@ -20,6 +20,7 @@ def of_openspiel(game: Any, key: Key | None, rounded: bool,
                  trust: bool) -> tuple[Built, list[Any]]:
     """The table of the game that begins at a state or at the root of a game; and its states."""
     state = game if hasattr(game, "is_terminal") else _root(game)
+    _require_calls(state)
     _require_known(state, trust)
     walker = _Walker(key)
     first = walker.behind(state, 0)
@@ -34,6 +35,16 @@ def _root(game: Any) -> Any:
     if not callable(begin):
         raise NoTableError(f"{shorten(game)} has not the calls of OpenSpiel's State or Game")
     return begin()
+
+
+def _require_calls(state: Any) -> None:
+    """Refuses a state without the calls that every table needs."""
+    calls = ("is_terminal", "is_chance_node", "is_simultaneous_node", "current_player",
+             "legal_actions", "returns")
+    missing = [call for call in calls if not callable(getattr(state, call, None))]
+    if missing:
+        raise NoTableError(f"{shorten(state)} lacks calls of OpenSpiel's State: "
+                           f"{', '.join(missing)}")
 
 
 def _require_known(state: Any, trust: bool) -> None:

@@ -180,8 +180,10 @@ def _entries(data: bytes | str) -> dict[str, Any]:
         raise InputRefusedError("input 10 not json",
                                 f"arrays and objects stand more than {MOST_DEPTH} deep")
     if not isinstance(value, dict):
+        hint = ("; Table.from_matrix, or the command `table`, makes the position of a matrix"
+                if isinstance(value, list) else "")
         raise InputRefusedError("input 11 not an object",
-                                f"a position is one object {{..}}, not {shorten(value)}")
+                                f"a position is one object {{..}}, not {shorten(value)}{hint}")
     return value
 
 

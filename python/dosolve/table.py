@@ -383,12 +383,19 @@ def read_matrix(path: FilePath) -> tuple[list[list[Any]], list[str] | None, list
     text = file.read_text(encoding="utf-8")
     if file.suffix == ".json":
         try:
-            return json.loads(text), None, None
+            matrix = json.loads(text)
         except ValueError as fault:
             raise NoTableError(f"{path} is no JSON: {fault}") from None
+        if not isinstance(matrix, list):
+            hint = ("; this is a position, which `solve` takes as it is"
+                    if isinstance(matrix, dict) and "game" in matrix else "")
+            raise NoTableError(f"{path} has to be a matrix, a list of rows of payoffs{hint}")
+        return matrix, None, None
     if file.suffix != ".csv":
         raise NoTableError(f"{path} has to end with .csv, .json, .nfg, .efg or .py")
     rows: list[list[Any]] = [row for row in csv.reader(text.splitlines()) if row]
+    if rows and all(len(row) == 1 and ";" in row[0] for row in rows):
+        raise NoTableError(f"{path} has semicolons, and commas have to stand between payoffs")
     two = rows.pop(0) if rows and rows[0][1:] and not any(map(_is_number, rows[0][1:])) else None
     one = None
     if rows and not any(_is_number(row[0]) for row in rows):

@@ -116,7 +116,8 @@ class Messages(unittest.TestCase):
                    "solve", file)
         for text, pattern in (("", "not json: the text is empty"),
                               ("{\n  'game'", "not json: Expecting .* at line 2, column 3"),
-                              ((TOP / REPORT).read_text(), "this is a report, not a position")):
+                              ((TOP / REPORT).read_text(), "this is a report, not a position"),
+                              ("[[1, 2]]", "not an object: .*makes the position of a matrix")):
             file.write_text(text)
             self.fails(text, pattern, "solve", file)
         self.fails("no file", "No such file or directory: 'no.json'", "solve", "no.json")
@@ -130,6 +131,7 @@ class Messages(unittest.TestCase):
                                "report number 3: '6' has to be a number from 8192")):
             file.write_bytes(text.encode())
             self.fails(text, pattern, "show", file, "-o", self.folder / "x.svg")
+        self.fails("a position", "report head: a report begins with the line", "check", POSITION)
         file.write_text(good.replace("335595772 -500000", "335595772 -499999", 1))
         self.fails("a wrong row", r"refused bound one 335595772 0 -32768000000 -32767934464: .*"
                    r"yield -32768000000 against move 0 .* requires at least", "check", file)

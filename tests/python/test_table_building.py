@@ -8,6 +8,7 @@ import unittest
 from contextlib import redirect_stderr, redirect_stdout
 from fractions import Fraction
 from pathlib import Path
+from types import SimpleNamespace
 
 import dosolve
 from dosolve import NoTableError, Table, openspiel
@@ -176,8 +177,9 @@ class Making(unittest.TestCase):
         self.assertEqual(drawn.listing, (((((1, 120120), (3, 240240)), 2),), 1, 0, -1))
 
     def test_what_is_no_matrix(self):
-        for given, words in (([[4001, 1]], "as large as 4001"), ([[1], [1, 2]], "equally long"),
-                             ([], "0 by 0 moves"), ([[]], "1 by 0 moves"),
+        for given, words in (([[4001, 1]], "as large as 4001"),
+                             ([[1], [1, 2]], "row 1 .* has the length 2, and row 0 has 1"),
+                             ([], "the matrix is empty"), ([[]], "the matrix is empty"),
                              ([[1] * 33], "1 by 33 moves"), (5, "a list of rows"),
                              ([5], "a list of rows"), ([["x"]], "'x' is no payoff"),
                              ([[float("nan")]], "nan is no payoff"), ([[True]], "True is no"),
@@ -203,7 +205,7 @@ class Making(unittest.TestCase):
         self.assertEqual((after.name, after.node), ("1 round left, sum 0", (1, 0)))
         self.assertEqual(table.at((1, 0)), after)
         self.assertEqual(Table.repeated([[1, -1], [-1, 1]], 31).root().rank, 31)
-        self.refused("32 turns", Table.repeated, [[1, -1], [-1, 1]], 32)
+        self.refused("rounds is 32, .* from 1 to 31", Table.repeated, [[1, -1], [-1, 1]], 32)
         self.refused("rounds is 0", Table.repeated, [[1]], 0)
 
     def test_chances_are_dealt_out(self):
@@ -341,6 +343,8 @@ class OpenSpiel(unittest.TestCase):
         refused("stands for states that go on differently", Bids([1, 2, 3], 1),
                 key=lambda state: repr((state.one, state.two, state.left, state.prize)))
         refused("has not the calls", object())
+        refused("lacks calls of OpenSpiel's State: is_chance_node, is_sim",
+                SimpleNamespace(is_terminal=lambda: False))
         refused("sum to 1 and to 0|sum to 0 and to 1", Nim(4, returns=lambda x: [x, 0.5]))
         refused("this game has 3", Nim(4, players=3))
         refused("do not see its whole state", Nim(4, information="IMPERFECT_INFORMATION"))
@@ -451,8 +455,13 @@ class CommandLine(unittest.TestCase):
         for name, text, words, pattern in (
                 ("a.txt", "", [], "a.txt has to end with .csv, .json, .nfg, .efg or .py"),
                 ("a.json", "[", [], "a.json is no JSON: Expecting"), ("a.json", "5", [], "list of"),
-                ("a.csv", "0,x\n1,2\nz,3\n", [], "'z' is no payoff"),
-                ("a.csv", "", [], "0 by 0 moves"), ("a.py", "", [], "defines no function table"),
+                ("a.csv", "0,x\n1,2\nz,3\n", [], "'z' is no payoff: in row 1, column 0"),
+                ("a.csv", ",a,b\nx,1,no\n", [], "'no' is no payoff: in row x, column b"),
+                ("a.csv", ",a,b\nx,1,2\ny,3\n", [], "row 1 .* has the length 1"),
+                ("a.csv", "0;1\n1;0\n", [], "a.csv has semicolons"),
+                ("a.csv", "", [], "the matrix is empty"),
+                ("a.json", '{"game":"table"}', [], "a.json has to be a matrix, .* a position"),
+                ("a.py", "", [], "defines no function table"),
                 ("a.py", "def table(): return 5", [], "gives 5, and has to give a Table"),
                 ("a.py", "def table():\n    return [][1]", [],
                  "raised IndexError: list index out of range .*a.py, line 2"),

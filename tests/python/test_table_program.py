@@ -237,6 +237,19 @@ class Names(unittest.TestCase):
             told = run("match", folder / "m.report", "--games", 10)
             self.assertIn("turn root: paper - paper\npayoff 0\n", told.stdout)
             self.assertEqual(run("check", folder / "m.report").returncode, 0)
+            told = run("solve", folder / "m.csv", "--workers", 1, "-o", folder / "c.report")
+            self.assertEqual((told.returncode, told.stdout), (0, solved.stdout))
+            self.assertTrue((folder / "c.names").is_file())
+            (folder / "game.py").write_text(
+                "import dosolve\n\n\ndef table():\n    return dosolve.Table.from_functions(\n"
+                "        0, lambda node: None if node else ('ab', 'c'), "
+                "lambda node, one, two: one, lambda node: int(node == 'a'))\n")
+            (folder / "player.py").write_text(
+                "def play(side, state):\n    return [1 + state.node] + [0] * "
+                "(len(state.moves(side)) - 1)\n")
+            told = run("measure", folder / "game.py", folder / "player.py", "--games", 2)
+            self.assertEqual((told.returncode, told.stderr), (0, ""))
+            self.assertIn("player one rows 1 guarantees 1.000000 short 0.000000", told.stdout)
             (folder / "m.json").unlink()
             (folder / "n.json").write_text("[[0, -1], [1, 0]]")
             made = run("table", folder / "n.json", "-o", folder / "n.position", "--rounds", 3,

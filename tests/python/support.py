@@ -6,6 +6,7 @@ from __future__ import annotations
 
 import random
 import re
+import signal
 from pathlib import Path
 
 import dosolve
@@ -13,6 +14,9 @@ import dosolve
 TOP = Path(__file__).resolve().parents[2]
 VECTORS = TOP / "tests" / "vectors"
 _FORMATS = (TOP / "docs" / "FORMATS.md").read_text()
+
+# A shell that runs the tests in the background ignores the signal, and so would the programs that they start.
+signal.signal(signal.SIGINT, signal.default_int_handler)
 
 
 def commands() -> set[str]:

@@ -6,15 +6,17 @@ import tarfile
 import tomllib
 import zipfile
 from pathlib import Path
+from typing import Any
 
 HERE = Path(__file__).resolve().parent
 
 
-def _project():
-    return tomllib.loads((HERE / "pyproject.toml").read_text())["project"]
+def _project() -> dict[str, Any]:
+    project: dict[str, Any] = tomllib.loads((HERE / "pyproject.toml").read_text())["project"]
+    return project
 
 
-def _metadata(project):
+def _metadata(project: dict[str, Any]) -> str:
     lines = ["Metadata-Version: 2.1", f"Name: {project['name']}", f"Version: {project['version']}",
              f"Summary: {project['description']}", f"License: {project['license']['text']}",
              f"Requires-Python: {project['requires-python']}"]
@@ -25,12 +27,12 @@ def _metadata(project):
     return "\n".join([*lines, "Description-Content-Type: text/markdown", "", readme])
 
 
-def _record(name, data):
+def _record(name: str, data: bytes) -> str:
     digest = base64.urlsafe_b64encode(hashlib.sha256(data).digest()).rstrip(b"=").decode()
     return f"{name},sha256={digest},{len(data)}\n"
 
 
-def _write_wheel(folder, files):
+def _write_wheel(folder: str, files: dict[str, bytes]) -> str:
     """Writes a wheel of these files into a folder, and gives its name."""
     project = _project()
     stem = f"{project['name']}-{project['version']}"
@@ -51,19 +53,21 @@ def _write_wheel(folder, files):
     return name
 
 
-def build_wheel(wheel_directory, config_settings=None, metadata_directory=None):
+def build_wheel(wheel_directory: str, config_settings: Any = None,
+                metadata_directory: str | None = None) -> str:
     """Writes the wheel into a folder, and gives its name."""
     sources = sorted(file for file in (HERE / "dosolve").iterdir() if file.is_file())
     return _write_wheel(wheel_directory, {str(file.relative_to(HERE)): file.read_bytes()
                                           for file in sources})
 
 
-def build_editable(wheel_directory, config_settings=None, metadata_directory=None):
+def build_editable(wheel_directory: str, config_settings: Any = None,
+                   metadata_directory: str | None = None) -> str:
     """Writes a wheel that puts this folder on Python's path, and gives its name."""
     return _write_wheel(wheel_directory, {"dosolve.pth": f"{HERE}\n".encode()})
 
 
-def build_sdist(sdist_directory, config_settings=None):
+def build_sdist(sdist_directory: str, config_settings: Any = None) -> str:
     """Writes the sources into a folder as an archive, and gives its name."""
     project = _project()
     stem = f"{project['name']}-{project['version']}"

@@ -1,7 +1,8 @@
 #!/usr/bin/env bash
 # many_workers.sh PROGRAM [RUNS [OTHER]]: solves four games RUNS times (200) by 2, 4 and 16 workers each, and two larger ones
-# a tenth as often. Each report is checked: by the program's `check`, and by `OTHER verify`, which works out what both plans
-# are worth, where another program is given; and its gap is at most one and a half times that of one worker. The schedule is
+# a tenth as often, with stages of both kinds. Each report is checked: by the program's `check`, and by `OTHER verify`, which
+# works out what both plans are worth, where another program is given; and its gap is at most one and a half times that of one
+# worker, and with linear stages, whose gaps are a few millionths, 50 millionths more. The schedule is
 # another one in each run, so this is no part of the gate: it looks for what no contract says of threads, as a run that does
 # not end, or workers that leave states too early.
 set -u
@@ -29,10 +30,13 @@ large=(
     "$(cards 1,2,3,4,5,6)"
     '"game":"oshi_zumo","size":3,"one":15,"two":15,"least":1,"place":0'
 )
-# The gap of the report, with the words that `check` says of it in `answer`; nothing where it is not accepted.
+# The gap of the report of GAME by WORKERS with STAGES, with the words that `check` says of it in `answer`; nothing where it is
+# not accepted.
 answer=
 gap_by() {
-    echo "{$1,\"gap\":0,\"weight\":8192,\"turns\":100000,\"visits\":1000000,\"rows\":65536,\"workers\":$2}" |
+    local weight=8192
+    [ "$3" = regret ] || weight=1048576
+    echo "{$1,\"gap\":0,\"weight\":$weight,\"turns\":100000,\"visits\":1000000,\"rows\":65536,\"workers\":$2,\"stages\":\"$3\"}" |
         timeout -k 1 120 "$program" solve > "$report"
     local status=$?
     answer=$("$program" check < "$report")
@@ -46,25 +50,28 @@ gap_by() {
 solved=0
 failed=0
 solve() {
-    gap_by "$1" 1
-    local alone=$gap
+    gap_by "$1" 1 "$3"
+    local alone=$gap more=0
+    [ "$3" = regret ] || more=50
     for workers in 2 4 16; do
         for _ in $(seq "$2"); do
-            gap_by "$1" "$workers"
-            if [ -n "$gap" ] && [ -n "$alone" ] && [ $((2 * gap)) -le $((3 * alone)) ]; then
+            gap_by "$1" "$workers" "$3"
+            if [ -n "$gap" ] && [ -n "$alone" ] && [ $((2 * gap)) -le $((3 * alone + 2 * more)) ]; then
                 solved=$((solved + 1))
             else
                 failed=$((failed + 1))
-                echo "FAILED with $workers workers (gap $gap, one worker $alone; $answer)"
+                echo "FAILED with $workers workers and $3 (gap $gap, one worker $alone; $answer)"
             fi
         done
     done
 }
-for game in "${small[@]}"; do
-    solve "$game" "$runs"
-done
-for game in "${large[@]}"; do
-    solve "$game" $(((runs + 9) / 10))
+for stages in regret linear; do
+    for game in "${small[@]}"; do
+        solve "$game" "$runs" "$stages"
+    done
+    for game in "${large[@]}"; do
+        solve "$game" $(((runs + 9) / 10)) "$stages"
+    done
 done
 echo "$solved accepted, $failed failed"
 [ "$failed" -eq 0 ]

@@ -16,24 +16,32 @@ fails() {
     failed=$((failed + 1))
 }
 
-# The report, standard error and status of a search by WORKERS, each of TURNS; `took` is its time in milliseconds.
+# The report, standard error and status of a search by WORKERS, each of TURNS, with the stages that `stages` says; `took`
+# is its time in milliseconds.
+stages=regret
 search() {
     local from cards=[1,2,3,4,5,6,7,8]
     echo "{\"game\":\"goofspiel\",\"one\":$cards,\"two\":$cards,\"prizes\":$cards,\"score\":0,\"pay\":\"margin\",\"gap\":0," \
-        "\"weight\":8192,\"turns\":$2,\"visits\":200000,\"rows\":1000000,\"workers\":$1}" > "$folder/position"
+        "\"weight\":8192,\"turns\":$2,\"visits\":200000,\"rows\":1000000,\"workers\":$1,\"stages\":\"$stages\"}" > "$folder/position"
     from=$(date +%s%3N)
     "$program" solve < "$folder/position" > "$folder/$3.report" 2> "${4:-$folder/$3.told}"
     echo $? > "$folder/$3.status"
     took=$(($(date +%s%3N) - from))
 }
 
-# Whether each of WORKERS told at least LEAST lines, whose seconds rise and whose turns do not fall from line to line.
+# Whether each of WORKERS told at least LEAST lines, whose seconds rise and whose turns do not fall from line to line, and
+# whose bounds, once there are any, close and are as far apart as the line says.
 told() {
     awk -v workers="$1" -v least="$2" -v most=$((took / 1000)) '
-        !/^worker (0|[1-9][0-9]*) turns (0|[1-9][0-9]*) seconds [1-9][0-9]*$/ { bad = 1 }
+        !/^worker [0-9]+ turns [0-9]+ seconds [1-9][0-9]*( lower -?[0-9]+ upper -?[0-9]+ gap [0-9]+)?$/ { bad = 1 }
+        NF == 6 && known[$2] { bad = 1 }
+        NF == 12 {
+            if ($12 != $10 - $8 || known[$2] && ($8 < lower[$2] || $10 > upper[$2])) bad = 1
+            known[$2] = 1; lower[$2] = $8; upper[$2] = $10
+        }
         $2 >= workers || $4 < turns[$2] || $6 <= seconds[$2] || $6 > most { bad = 1 }
         { turns[$2] = $4; seconds[$2] = $6; lines[$2]++ }
-        END { for (worker = 0; worker < workers; worker++) if (lines[worker] < least) bad = 1; exit bad }' "$folder/$3.told"
+        END { for (worker = 0; worker < workers; worker++) if (lines[worker] < least || least && !known[worker]) bad = 1; exit bad }' "$folder/$3.told"
 }
 
 same() {
@@ -54,6 +62,11 @@ told 1 $((took / 2000)) with || fails "what one worker tells in $took ms: $(cat 
 
 DOSOLVE_PROGRESS=1 search 2 "$turns" two
 told 2 1 two || fails "what two workers tell in $took ms: $(cat "$folder/two.told")"
+
+stages=linear
+DOSOLVE_PROGRESS=1 search 1 1099511627776 linear
+told 1 $((took / 2000)) linear || fails "what a search with linear stages tells in $took ms: $(cat "$folder/linear.told")"
+stages=regret
 
 DOSOLVE_PROGRESS=1 search 1 "$turns" refused /dev/full
 same refused || fails "another report where standard error takes nothing"

@@ -1,35 +1,18 @@
 #!/usr/bin/env bash
 # run.sh [RUNS [SOLVER]]: times the stage solver of matrix_game, RUNS times (5), in nanoseconds a round; beside it the plain
 # solver in the Rust file SOLVER, which has the types Matrix and Turns, where one is given. The two run in turn; a line of the
-# table has the least of each, and their ratio. Builds main.rt.txt in a scratch folder, over copies of the crates that it
-# stands on, which are proved there. Needs rt and awk, and rustc for SOLVER.
+# table has the least of each, and their ratio. Builds main.rt.txt in a scratch folder, as build.sh tells. Needs rt and awk,
+# and rustc for SOLVER.
 set -eu
 runs=${1:-5}
 solver=
 [ $# -ge 2 ] && solver=$(realpath "$2")
 here=$(dirname "$(realpath "$0")")
-top=$(realpath "$here/../..")
 work=$(mktemp -d)
 trap 'rm -rf "$work"' EXIT
 
-mkdir -p "$work/repository/crates/bench_matrix/src" "$work/repository/crates/bench_matrix/specs" \
-    "$work/repository/crates/bench_matrix/proofs" "$work/reference"
-for crate in seq sums matrix_game; do
-    mkdir "$work/repository/crates/$crate"
-    # With out/, what checks have proved here before is not proved again.
-    for part in src specs proofs out; do
-        [ ! -e "$top/crates/$crate/$part" ] || cp -r "$top/crates/$crate/$part" "$work/repository/crates/$crate/"
-    done
-done
-cp "$top/HANDLES" "$work/repository/"
-{ grep -E '^(seq|sums|matrix_game):' "$top/crates.txt"; echo 'bench_matrix: matrix_game'; } > "$work/repository/crates.txt"
-cp "$here/main.rt.txt" "$work/repository/crates/bench_matrix/src/main.rt"
-touch "$work/repository/crates/bench_matrix/specs/Lib.antt" "$work/repository/crates/bench_matrix/proofs/Lib.antt"
-
-(cd "$work/repository/crates/bench_matrix" && rt run > "$work/build.log" 2>&1) || {
-    tail -20 "$work/build.log"
-    exit 1
-}
+mkdir "$work/reference"
+program=$("$here/build.sh" "$here/main.rt.txt" "$work")
 if [ -n "$solver" ]; then
     cp "$here/reference_main.rs.txt" "$work/reference/main.rs"
     cp "$solver" "$work/reference/matrix.rs"
@@ -38,7 +21,7 @@ fi
 
 for run in $(seq "$runs"); do
     [ -z "$solver" ] || "$work/reference/main" | sed 's/^/plain /'
-    "$work/repository/crates/bench_matrix/out/bench_matrix" | sed 's/^/ours /'
+    "$program" | sed 's/^/ours /'
 done | awk '
     { kind = $2 " " $3 " " $4; if (!(kind in seen)) { seen[kind] = 1; kinds[++count] = kind }
       time = $5 / (8 * $4); if (!(($1, kind) in least) || time < least[$1, kind]) least[$1, kind] = time

@@ -5,6 +5,8 @@ import argparse
 import json
 import os
 import sys
+from collections.abc import Iterator
+from contextlib import contextmanager
 from dataclasses import replace
 from pathlib import Path
 from typing import Any
@@ -57,7 +59,25 @@ def _position(words: argparse.Namespace) -> Position:
 
 def _loaded(path: Path) -> Position:
     """The position of a file; of a file that tells a game, the one with the package's defaults."""
-    return Position(_read_table(path, None)) if path.suffix in _GAMES else Position.load(path)
+    with _naming(path):
+        return Position(_read_table(path, None)) if path.suffix in _GAMES else Position.load(path)
+
+
+@contextmanager
+def _naming(path: Path) -> Iterator[None]:
+    """Has a refusal of what is in a file name the file."""
+    try:
+        yield
+    except DosolveError as fault:
+        if str(path) not in str(fault):
+            fault.add_note(str(path))
+        raise
+
+
+def _report(path: Path) -> Report:
+    """The report of a file."""
+    with _naming(path):
+        return Report.load(path)
 
 
 def _asked(words: argparse.Namespace, position: Position) -> Position:
@@ -81,7 +101,8 @@ def _solve(words: argparse.Namespace) -> None:
 
 
 def _check(words: argparse.Namespace) -> None:
-    found = _solver(words).check(words.report.read_bytes())
+    with _naming(words.report):
+        found = _solver(words).check(words.report.read_bytes())
     if words.json:
         _print_record({"lower": found.lower, "upper": found.upper, "outcome": found.outcome})
     else:
@@ -92,7 +113,8 @@ def _check(words: argparse.Namespace) -> None:
 def _exploit(words: argparse.Namespace) -> None:
     report, solver = words.report.read_bytes(), _solver(words)
     sides: tuple[Side, ...] = (words.side,) if words.side else SIDES
-    found = [solver.exploit(report, side) for side in sides]
+    with _naming(words.report):
+        found = [solver.exploit(report, side) for side in sides]
     if words.json:
         _print_record([{"side": worst.side, "guarantees": worst.guaranteed / SCALE,
                         "low": float(worst.low / SCALE), "high": float(worst.high / SCALE),
@@ -101,18 +123,20 @@ def _exploit(words: argparse.Namespace) -> None:
     for worst in found:
         print(f"player {worst.side} guarantees {as_points(worst.guaranteed)}")
     if len(found) == len(SIDES):
-        print(f"nash_conv {float(found[1].payoff - found[0].payoff):.6f}")
+        print(f"nash_conv {float(found[1].payoff - found[0].payoff):z.6f}")
 
 
 def _measure(words: argparse.Namespace) -> None:
     position, player = _position(words), load_player(words.player)
-    solver = _solver(words)
-    solved = solver.solve(position, words.seconds, progress=sys.stderr.isatty())
+    solver, shown = _solver(words), sys.stderr.isatty()
+    sides: tuple[Side, ...] = (words.side,) if words.side else SIDES
+    # First the player, so that its faults are found before a long search.
+    plans = {side: plan_of(position, player, side, progress=shown) for side in sides}
+    solved = solver.solve(position, words.seconds, progress=shown)
     if not words.json:
         print(solved_text(solved), end="")
     records = []
-    for side in [words.side] if words.side else SIDES:
-        mine = plan_of(position, player, side, progress=sys.stderr.isatty())
+    for side, mine in plans.items():
         found = measure(position, mine, side, solved, words.games, words.seed, words.program)
         records.append(found.record())
         if not words.json:
@@ -129,7 +153,7 @@ def _show(words: argparse.Namespace) -> None:
         pictures.save(pictures.history(read_progress(words.report.read_text().splitlines())),
                       words.output)
         return
-    report = Report.load(words.report)
+    report = _report(words.report)
     if words.tree:
         pictures.save(pictures.tree(report, words.tree), words.output)
     else:
@@ -159,7 +183,7 @@ def _sweep(words: argparse.Namespace) -> None:
 
 
 def _match(words: argparse.Namespace) -> None:
-    report = Report.load(words.report)
+    report = _report(words.report)
     found = _solver(words).match(report, words.games, words.seed)
     told = found.told(report.game)
     if words.json:
@@ -169,12 +193,13 @@ def _match(words: argparse.Namespace) -> None:
         return
     for line in told:
         print(f"turn {line}")
-    print(f"payoff {found.payoff}\ngames {found.games} mean {float(found.mean):.6f} error "
-          f"{found.error or 0:.6f} least {found.least} most {found.most}")
+    print(f"payoff {found.payoff}\ngames {found.games} mean {float(found.mean):z.6f} error "
+          f"{found.error or 0:z.6f} least {found.least} most {found.most}")
 
 
 def _table(words: argparse.Namespace) -> None:
-    table = _read_table(words.source, words.rounds)
+    with _naming(words.source):
+        table = _read_table(words.source, words.rounds)
     _asked(words, Position(table)).save(words.output)
     if words.json:
         _print_record({"states": len(table.listing), "scale": str(table.scale)})
@@ -377,7 +402,8 @@ def main(arguments: list[str] | None = None) -> int:
         print("dosolve: interrupted", file=sys.stderr)
         return INTERRUPTED
     except (DosolveError, OSError, UnicodeDecodeError) as fault:
-        print(f"dosolve: {fault}", file=sys.stderr)
+        where = "".join(f"{note}: " for note in getattr(fault, "__notes__", ()))
+        print(f"dosolve: {where}{fault}", file=sys.stderr)
         return 1
     return 0
 

@@ -295,7 +295,8 @@ def _numbered(told: Told, place: Mapping[Hashable, int]) -> tuple[Any, ...]:
             sums: dict[int, int] = {}
             for node, part in cell:
                 sums[place[node]] = sums.get(place[node], 0) + part
-            cells.append(tuple(sums.items()) if len(sums) > 1 else next(iter(sums)))
+            draws = tuple(sums.items())
+            cells.append(draws if len(draws) > 1 else draws[0][0])
         rows.append(tuple(cells))
     return tuple(rows)
 
@@ -450,9 +451,10 @@ def of_game(game: Game) -> tuple[Built, list[Any]]:
         state = states[key]
         if state.is_end:
             return End(Fraction(state.payoff))
-        rows = [[[(number(state._after(one, two, draw)), Fraction(chance, CHANCE))
-                  for draw, chance in enumerate(state._chances(one, two))]
-                 for two in state.moves("two")] for one in state.moves("one")]
+        rows: list[list[Outcomes]] = [
+            [[(number(state._after(one, two, draw)), Fraction(chance, CHANCE))
+              for draw, chance in enumerate(state._chances(one, two))]
+             for two in state.moves("two")] for one in state.moves("one")]
         return Turn(rows, (state.names("one"), state.names("two")))
 
     built = build(number(game.root()), expand)

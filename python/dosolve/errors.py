@@ -61,11 +61,12 @@ class RefusedError(DosolveError):
 
 # The field that a rule is about, where it is one; -1 stands for the text's last word, 4 for its
 # fifth.
-_FIELDS: dict[int, str | int] = {
+_NAMED: dict[int, str | int] = {
     12: -1, 14: -1, 15: -1, 16: "game", 21: 4, 22: 4, 24: "prizes", 25: "score", 31: "size",
     33: "least", 34: "place", 71: "nodes", 72: "edges", 73: "edges", 74: "edges", 75: -1,
     76: "rounds",
-} | dict.fromkeys(range(81, 90), "states")
+}
+_FIELDS = _NAMED | {code: "states" for code in range(81, 90)}
 
 _TABLE = {
     81: "the five lists of the game's line do not fit each other",

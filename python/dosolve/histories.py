@@ -13,13 +13,10 @@ from .game import SIDES, Game, Side, State, side_of
 from .limits import MOST_WEIGHT
 from .plans import Sheet, chosen
 from .program import Match, Turn
-from .values import as_field, require_range
+from .values import as_field, can_take, require_range
 
 HistoryPlay = Callable[[Side, Any, Sequence[Turn]], Any]
 """A function from a side, a state and the turns played so far to probabilities or weights."""
-
-NO_PLAN = ("a player of histories has no plan by states: what it guarantees cannot be measured, "
-           "only how it does in matches (live_match, tournament)")
 
 
 @dataclass(frozen=True)
@@ -37,25 +34,12 @@ def takes_history(play: Callable[..., Any]) -> bool:
     """Whether a function takes a history beside its side and state."""
     if isinstance(play, HistoryPlayer):
         return True
-    try:
-        signature = inspect.signature(play)
-    except (TypeError, ValueError):
+    if can_take(play, 2):
         return False
-    if _can_take(signature, 2):
-        return False
-    if _can_take(signature, 3):
+    if can_take(play, 3):
         return True
     raise InvalidError(f"a player is a function play(side, state) or play(side, state, history), "
-                       f"not of {signature}")
-
-
-def _can_take(signature: inspect.Signature, count: int) -> bool:
-    """Whether a function can be called with so many arguments."""
-    try:
-        signature.bind(*range(count))
-    except TypeError:
-        return False
-    return True
+                       f"not of {inspect.signature(play)}")
 
 
 Contender = Sheet | Callable[..., Any]

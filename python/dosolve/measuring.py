@@ -14,8 +14,8 @@ from typing import Any
 from .errors import DosolveError, InvalidError, PlayerError
 from .exact import expected_of
 from .game import SIDES, Side, other, side_of
-from .histories import NO_PLAN, HistoryPlayer, takes_history
-from .plans import ASKED_AGAIN, Sheet, fault_place, plan
+from .histories import HistoryPlayer, takes_history
+from .plans import ASKED_AGAIN, NO_PLAN, Sheet, fault_place, plan
 from .positions import Position, require_position
 from .program import Match, Solver, WorstCase
 from .progress import PlanListener
@@ -58,8 +58,8 @@ class Measured:
                            for side in SIDES)
         return (f"player {self.side} rows {len(sheet.rows)} guarantees "
                 f"{as_points(self.worst.guaranteed)} short {as_points(self.short)}\n"
-                f"match {players} expected {float(self.expected):.6f} games {match.games} mean "
-                f"{float(match.mean):.6f} error {match.error or 0:.6f} least {match.least} most "
+                f"match {players} expected {float(self.expected):z.6f} games {match.games} mean "
+                f"{float(match.mean):z.6f} error {match.error or 0:z.6f} least {match.least} most "
                 f"{match.most}\n")
 
     def record(self) -> dict[str, Any]:

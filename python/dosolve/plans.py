@@ -1,6 +1,7 @@
 """Plans as sheets: made from any function, looked up, and sampled in live matches."""
 from __future__ import annotations
 
+import html
 import math
 import random
 from collections.abc import Callable, Iterable, Iterator, Mapping, Sequence, Set
@@ -17,16 +18,22 @@ from .limits import (
     LEAST_WEIGHT, MOST_BOUND, MOST_KEY, MOST_MOVES, MOST_ROWS, MOST_WEIGHT, SUM_ERROR,
 )
 from .progress import Asking, Bar, PlanListener
-from .values import as_plain, cut, require_range, shorten
+from .values import as_plain, as_points, can_take, cut, html_table, require_range, shorten
+
+SHOWN = 10
+"""How many states of a plan a notebook shows."""
 
 ASKED_AGAIN = 64
 """How many states of a plan a player is asked about once more, to see that its answer stays."""
 
+NO_PLAN = ("a player of histories has no plan by states: what it guarantees cannot be measured, "
+           "only how it does in matches (live_match, tournament)")
+
 _SOURCE = random.Random()
 
-Choice = Callable[[Any], Sequence[Any] | Mapping[Any, Any]]
-"""A function from a state to one probability or weight for each move, or to a mapping from labels
-to them."""
+Choice = Callable[[Any], Any]
+"""A function from a state to one probability or weight for each move, as a list or an array, or
+to a mapping from labels to them."""
 
 
 class Source(Protocol):
@@ -161,6 +168,20 @@ class Sheet:
                 })
         return records
 
+    def _repr_html_(self) -> str:
+        """What the plan plays at the root and in a few more states, for notebooks."""
+        states = [self.game.root()]
+        others = [row.key for row in self.rows[:SHOWN] if row.key != states[0].key]
+        states += [self.game.state(key) for key in others]
+        lines = []
+        for state in states[:SHOWN]:
+            if not state.is_end:
+                moves = [f"{name} {100 * float(share):.1f}%"
+                         for name, share in self.named(state).items() if share]
+                lines.append((state, as_points(self.bound(state)), ", ".join(moves)))
+        table = html_table(("state", "bound", "moves"), lines)
+        return f"<p>{html.escape(repr(self))}</p>{table}"
+
     @property
     def root_bound(self) -> int:
         """What the sheet says that it guarantees at the root, in millionths."""
@@ -212,7 +233,7 @@ def _listed(values: Any, labels: Sequence[int] | None, names: Sequence[str]) -> 
         if labels is None:
             raise InvalidError(f"{shorten(values)} is a mapping, and the labels are not known")
         by_name = any(isinstance(label, str) for label in values)
-        known: Sequence[int | str] = names if by_name else labels
+        known: Sequence[object] = names if by_name else labels
         unknown = [label for label in values if as_plain(label) not in known]
         if unknown:
             raise InvalidError(f"{shorten(unknown[0])} is no label of a move")
@@ -252,6 +273,7 @@ def plan(game: Game, side: Side, choose: Choice, weight: int = MOST_WEIGHT,
     """
     require_range("the weight of a row", weight, LEAST_WEIGHT, MOST_WEIGHT)
     side_of(side)
+    _require_choice(choose)
     asked: dict[int, tuple[int, ...]] = {}
     bar = Bar()
     asking = Asking(bar if progress is True else progress or None)
@@ -273,6 +295,18 @@ def plan(game: Game, side: Side, choose: Choice, weight: int = MOST_WEIGHT,
     bounds = _proved(graph, side, asked, weight)
     rows = (Row(key, bounds[key], asked[key]) for key in sorted(asked))
     return Sheet(game, side, weight, tuple(rows))
+
+
+def _require_choice(choose: Any) -> None:
+    """Refuses what is no function of a state."""
+    if not callable(choose):
+        raise InvalidError(f"plan takes a function of a state, not {shorten(choose)}")
+    if can_take(choose, 1):
+        return
+    if not can_take(choose, 2) and can_take(choose, 3):
+        raise InvalidError(NO_PLAN)
+    raise InvalidError("plan takes a function of a state alone; of a player play(side, state), "
+                       "functools.partial(play, side) is one, and measure takes it as it is")
 
 
 def chosen(choose: Choice, state: State, side: Side, weight: int,

@@ -21,11 +21,12 @@ from .errors import (
 )
 from .exact import BestResponse, expected_of, respond
 from .game import SCALE, SIDES, Game, Side, State, other, side_of
+from .library import find_library
 from .limits import MOST_GAMES, MOST_SEED
 from .plans import Sheet
 from .positions import Position, require_position
 from .progress import Bar, Follower, Listener
-from .reports import Report
+from .reports import Report, head_fault
 from .values import FilePath, as_field, cut, require_range, shorten
 
 BLOCKS = 40
@@ -278,12 +279,18 @@ class Solver:
                 follower: Follower | None = None, timeout: float | None = None) -> str:
         """What the program prints with one of the good statuses; every other answer is an
         exception."""
-        text = given.text() if isinstance(given, Report) else given
-        if not isinstance(text, (bytes, str)):
+        said = given.text() if isinstance(given, Report) else given
+        if not isinstance(said, (bytes, str)):
             raise InvalidError(f"{words[0]} takes a Report or its text, not {shorten(given)}")
-        data = text.encode() if isinstance(text, str) else text
-        status, answer, told = _run([find_program(self.program), *words], data, follower,
-                                    self.timeout if timeout is None else timeout)
+        data = said.encode() if isinstance(said, str) else said
+        limit = self.timeout if timeout is None else timeout
+        # A call of the library cannot be followed, and not be ended when time is up.
+        library = find_library() if (self.program, follower, limit) == (None, None, None) else None
+        if library is not None:
+            status, text, told = *library.answer(words, data), ""
+            answer = text.decode("utf-8", "replace")
+        else:
+            status, answer, told = _run([find_program(self.program), *words], data, follower, limit)
         if status in good:
             return answer
         raise self._refusal(words, data, status, answer.removesuffix("\n"), told)
@@ -299,7 +306,7 @@ class Solver:
                                                "not know the game")
             return InputRefusedError(text)
         if status == 9 and text.startswith(("report ", "refused ")):
-            return ReportRefusedError(text)
+            return ReportRefusedError(text, head_fault(given) if text == "report head" else "")
         if status in (4, 5) and re.fullmatch(r"visits spent \w+|board full|states full", text):
             return LimitReachedError(text)
         if status == 1 and text.startswith("usage: dosolve "):

@@ -74,39 +74,53 @@ Listener = Callable[[Progress], object]
 """What is called with each step of a search."""
 
 
+class _Lines:
+    """The lines that the workers of one search print, put together.
+
+    Each worker tells its own turns, and the bounds at the root as it last saw them, once it has
+    seen any. All bounds are true, so the narrowest of all workers are those of the search.
+    """
+
+    def __init__(self, bounds: tuple[int | None, int | None] = (None, None)) -> None:
+        self.lower, self.upper = bounds
+        self.turns: dict[int, int] = {}
+
+    def take(self, line: str, seconds: float | None = None) -> Progress | None:
+        """The step of a line, at these seconds or at its own; None where it is no progress."""
+        found = _LINE.fullmatch(line.strip())
+        if found is None:
+            return None
+        self.turns[int(found[1])] = int(found[2])
+        if found[4] is not None:
+            lower, upper = int(found[4]), int(found[5])
+            self.lower = lower if self.lower is None else max(lower, self.lower)
+            self.upper = upper if self.upper is None else min(upper, self.upper)
+        at = float(found[3]) if seconds is None else seconds
+        return Progress(sum(self.turns.values()), at, self.lower, self.upper)
+
+
 class Follower:
-    """Makes a step of each line that the workers of one search print."""
+    """Calls a listener with a step for each line that the workers of one search print."""
 
     def __init__(self, listener: Listener, since: float | None = None,
                  bounds: tuple[int | None, int | None] = (None, None)) -> None:
-        self.listener, self.bounds = listener, bounds
+        self.listener, self.lines = listener, _Lines(bounds)
         self.since = time.monotonic() if since is None else since
-        self.turns: dict[int, int] = {}
 
     def hear(self, line: str) -> bool:
         """Whether the line was one of progress; then the listener was called."""
-        found = _LINE.fullmatch(line.strip())
-        if found is None:
-            return False
-        self.turns[int(found[1])] = int(found[2])
-        if found[4] is not None:
-            self.bounds = int(found[4]), int(found[5])
-        seconds = time.monotonic() - self.since
-        self.listener(Progress(sum(self.turns.values()), seconds, *self.bounds))
-        return True
+        step = self.lines.take(line, time.monotonic() - self.since)
+        if step is not None:
+            self.listener(step)
+        return step is not None
 
 
 def read_progress(lines: Iterable[str]) -> list[Progress]:
-    """The steps of a search whose lines of progress were kept in a file; other lines are left
-    out."""
-    found, turns = [], {}
-    for line in lines:
-        step = _LINE.fullmatch(line.strip())
-        if step is not None:
-            turns[int(step[1])] = int(step[2])
-            bounds = (int(step[4]), int(step[5])) if step[4] is not None else (None, None)
-            found.append(Progress(sum(turns.values()), float(step[3]), *bounds))
-    return found
+    """The steps of a search whose lines of progress were kept, as those of a file; other lines
+    are left out."""
+    taken = _Lines()
+    steps = (taken.take(line) for line in lines)
+    return [step for step in steps if step is not None]
 
 
 class Bar:

@@ -119,7 +119,7 @@ class Report:
         if "rows" in self.used_up:
             found.append("the board had no row left: more rows can narrow the gap")
         if self.turns == 0 and self.gap > self.asked:
-            found.append("no turns were given, so no matrix game was solved")
+            found.append("no turns were given, or no time for any, so no matrix game was solved")
         if self.game.scale != 1:
             found.append(f"payoffs and bounds are those of the rules times {self.game.scale}")
         return tuple(found)
@@ -359,7 +359,7 @@ class _Reader:
             if self.data.startswith(head):
                 self.line()
                 return version
-        raise ReportRefusedError("report head", _head_fault(self.data))
+        raise ReportRefusedError("report head", head_fault(self.data))
 
     def report(self) -> Report:
         version = self.head()
@@ -384,7 +384,7 @@ class _Reader:
         return Report(game, *numbers, outcome, *bounds, spent, *sheets)
 
 
-def _head_fault(data: bytes) -> str:
+def head_fault(data: bytes) -> str:
     """Why a text does not begin as a report does."""
     if not data.strip():
         return "the text is empty"

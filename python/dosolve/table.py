@@ -103,7 +103,7 @@ class TableState(State):
 
     def _draws(self, one: int, two: int) -> Sequence[tuple[int, int]]:
         """The states that can follow, with their weights."""
-        cell = self.game.listing[self.number][one][two]
+        cell: int | Sequence[tuple[int, int]] = self.game.listing[self.number][one][two]
         return ((cell, CHANCE),) if isinstance(cell, int) else cell
 
     def _chances(self, one: int, two: int) -> tuple[int, ...]:
@@ -267,9 +267,9 @@ class Table(Game):
 
     def names_text(self) -> str:
         """The names as a line of JSON, with what tells which table they are of."""
+        moves = [[list(one), list(two)] for one, two in self.move_names]
         return json.dumps({"table": self._digest, "scale": str(self.scale),
-                           "states": list(self.state_names),
-                           "moves": [list(map(list, names)) for names in self.move_names]}) + "\n"
+                           "states": list(self.state_names), "moves": moves}) + "\n"
 
     def named(self, text: str) -> Table:
         """The same table with names that `names_text` gave."""

@@ -16,7 +16,7 @@ from .histories import Contender, live_match, takes_history
 from .measuring import plan_of
 from .plans import Sheet
 from .positions import Position, require_position
-from .values import cut
+from .values import cut, html_table
 
 SOLVER = "solver"
 """The name under which the solver's plans take part."""
@@ -66,6 +66,13 @@ class Tournament:
     def markdown(self) -> str:
         """The standings and the meetings as tables of Markdown."""
         return _markdown(self.standings()) + "\n" + _markdown(self.table())
+
+    def _repr_html_(self) -> str:
+        """The standings as a table, for notebooks."""
+        records = self.standings()
+        return html_table(list(records[0]) if records else [], (
+            [f"{value:z.6f}" if isinstance(value, float) else value for value in record.values()]
+            for record in records))
 
     def csv(self) -> str:
         """The meetings as comma-separated values."""
@@ -132,6 +139,6 @@ def _markdown(records: list[dict[str, Any]]) -> str:
     if not records:
         return ""
     lines = [list(records[0]), ["---"] * len(records[0])]
-    lines += [[f"{value:.6f}" if isinstance(value, float) else cut(str(value), 60)
+    lines += [[f"{value:z.6f}" if isinstance(value, float) else cut(str(value), 60)
                for value in record.values()] for record in records]
     return "".join(f"| {' | '.join(line)} |\n" for line in lines)

@@ -1,8 +1,10 @@
 """Numbers and lists as users have them: Python's own, and those of numpy and pandas."""
 from __future__ import annotations
 
+import html
+import inspect
 import os
-from collections.abc import Sequence, Set
+from collections.abc import Callable, Iterable, Sequence, Set
 from numbers import Integral
 from typing import Any, TypeGuard
 
@@ -39,6 +41,17 @@ def require_range(what: str, value: object, low: int, high: int) -> None:
                            f"to {high}")
 
 
+def can_take(function: Callable[..., Any], count: int) -> bool:
+    """Whether a function can be called with so many arguments, as far as it tells."""
+    try:
+        inspect.signature(function).bind(*range(count))
+    except TypeError:
+        return False
+    except ValueError:
+        return True
+    return True
+
+
 def shorten(value: object, most: int = 60) -> str:
     """A value to show in a message."""
     if isinstance(value, Set) and not isinstance(value, frozenset):
@@ -49,6 +62,14 @@ def shorten(value: object, most: int = 60) -> str:
 def cut(text: str, most: int) -> str:
     """A text, its end left out where it is long."""
     return text if len(text) <= most else text[:most - 2] + ".."
+
+
+def html_table(head: Sequence[str], lines: Iterable[Iterable[object]]) -> str:
+    """A table for notebooks."""
+    found = [f"<tr>{''.join(f'<th>{html.escape(name)}</th>' for name in head)}</tr>"]
+    found += [f"<tr>{''.join(f'<td>{html.escape(str(cell))}</td>' for cell in line)}</tr>"
+              for line in lines]
+    return f"<table>{''.join(found)}</table>"
 
 
 def as_points(millionths: int) -> str:

@@ -126,12 +126,17 @@ class Messages(unittest.TestCase):
         file, good = self.folder / "x.report", (TOP / REPORT).read_text()
         for text, pattern in ((good.replace("\n", "\r\n"), "report head: its lines end with CR LF"),
                               ("", "report head: the text is empty"),
-                              (json.dumps(GOOD), "this is a position, not a report"),
+                              (json.dumps(GOOD), "report head: this is a position, not"),
                               (good.replace("weight 65536", "weight 6"),
                                "report number 3: '6' has to be a number from 8192")):
             file.write_bytes(text.encode())
-            self.fails(text, pattern, "show", file, "-o", self.folder / "x.svg")
-        self.fails("a position", "report head: a report begins with the line", "check", POSITION)
+            for words in (("show", file, "-o", self.folder / "x.svg"), ("match", file)):
+                self.fails(text, f"^dosolve: {file}: {pattern}", *words)
+        file.write_bytes(good.replace("\n", "\r\n").encode())
+        for words in (("check", file), ("exploit", file)):
+            self.fails("CRLF", f"^dosolve: {file}: report head: its lines end with CR LF", *words)
+        self.fails("a position", f"^dosolve: {POSITION}: report head: this is a position, not",
+                   "check", POSITION)
         file.write_text(good.replace("335595772 -500000", "335595772 -499999", 1))
         self.fails("a wrong row", r"refused bound one 335595772 0 -32768000000 -32767934464: .*"
                    r"yield -32768000000 against move 0 .* requires at least", "check", file)

@@ -50,9 +50,25 @@ class Sheets(unittest.TestCase):
                          [(67127548, -1000000, (65536,)), (67143933, 0, (65536,)), (268454139, 0, (65536,)),
                           (268470523, -1000000, (65536,)), (ROOT, -500000, (32768, 32768))])
 
+    def test_what_is_no_function_of_a_state_is_refused(self):
+        for player, words in ((lambda side, state: [1], "partial"), (3, "not 3"), (lambda: [1], "of a state alone"),
+                              (lambda side, state, history: [1], "player of histories has no plan")):
+            with self.assertRaisesRegex(dosolve.InvalidError, words):
+                dosolve.plan(GAME, "one", player)
+
     def test_a_wrong_answer_names_side_state_and_moves(self):
         with self.assertRaisesRegex(dosolve.Invalid, r"3 weights for 2 moves: player two in .*moves are \(2, 3\)"):
             dosolve.plan(GAME, "two", lambda state: [1, 1, 1])
+
+    def test_a_notebook_shows_the_root_first(self):
+        sheet = dosolve.plan(GAME, "one", lambda state: [1 for _ in state.moves("one")])
+        shown = sheet._repr_html_()
+        self.assertIn("&lt;Sheet of player one", shown)
+        self.assertIn("</tr><tr><td>GoofspielState(one=(1, 3), two=(2, 3), score=0)</td><td>-0.500000</td><td>1 50.0%, 3 50.0%</td>",
+                      shown)
+        self.assertEqual(shown.count("<tr>"), 1 + len(sheet.rows))
+        over = dosolve.Sheet(dosolve.Goofspiel([], [], []), "one", 8192)
+        self.assertEqual(over._repr_html_().count("<tr>"), 1)
 
     def test_rows_that_are_no_good_play_the_first_move(self):
         root = GAME.root()

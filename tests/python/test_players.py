@@ -187,6 +187,7 @@ class Matches(unittest.TestCase):
         names = [standing["player"] for standing in found.standings()]
         self.assertEqual(set(names), {"even", "last", "past", "solver"})
         self.assertIn("| player | as one | as two | mean |", found.markdown())
+        self.assertIn("<th>as one</th>", found._repr_html_())
         self.assertEqual(found.csv().splitlines()[0], "position,game,one,two,payoff,error,games")
         self.assertEqual(len(json.loads(found.json())["meetings"]), 16)
         with self.assertRaisesRegex(dosolve.InvalidError, "named solver"):

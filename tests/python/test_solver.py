@@ -97,6 +97,14 @@ class Steps(unittest.TestCase):
         self.assertEqual([step.gap for step in found], [None, None, 1_500_000])
         self.assertEqual(str(found[2]), "2 s, 25 turns, -1.000000 to 0.500000, gap 1.500000")
 
+    def test_the_narrowest_bounds_of_all_workers_are_told(self):
+        lines = ["worker 0 turns 9 seconds 1 lower -30 upper 40 gap 70",
+                 "worker 1 turns 3 seconds 1 lower -50 upper 20 gap 70",
+                 "worker 2 turns 4 seconds 1", "worker 1 turns 5 seconds 2 lower 0 upper 20 gap 20"]
+        found = dosolve.read_progress(lines)
+        self.assertEqual([(step.turns, step.lower, step.upper) for step in found],
+                         [(9, -30, 40), (12, -30, 20), (16, -30, 20), (18, 0, 20)])
+
     def test_the_bar_is_for_terminals(self):
         class Terminal(io.StringIO):
             def isatty(self):

@@ -1,9 +1,11 @@
 """Sweeps: in order, resumed, failures kept, and nothing lost where a worker is killed."""
 import concurrent.futures
+import importlib.util
 import json
 import logging
 import os
 import random
+import shutil
 import signal
 import subprocess
 import sys
@@ -14,6 +16,7 @@ import unittest
 from pathlib import Path
 
 import dosolve
+import guide
 from support import TOP, children, random_game
 
 try:
@@ -114,6 +117,28 @@ class Sweeps(unittest.TestCase):
         self.assertEqual([swept.number for swept in results], list(range(60)))
         self.assertEqual([swept.error for swept in results], [None] * 60)
         self.assertEqual(results[59].report, dosolve.solve(given[59]))
+
+    @unittest.skipUnless(importlib.util.find_spec("mpi4py") and shutil.which("mpiexec"),
+                         "MPI is missing: Debian's python3-mpi4py")
+    def test_mpi_runs_the_snippet_of_the_page(self):
+        snippet = next(block for block in guide.parts()[1::2] if "MPIPoolExecutor" in block)
+        (self.folder / "sweep.py").write_text(snippet)
+        given = positions(10, random.Random(5))
+        lines = "".join(position.text() for position in given)
+        (self.folder / "positions.jsonl").write_text(lines)
+        more = dict.fromkeys(("OMPI_ALLOW_RUN_AS_ROOT", "OMPI_ALLOW_RUN_AS_ROOT_CONFIRM",
+                              "OMPI_MCA_rmaps_base_oversubscribe"), "1")
+        for _ in range(2):
+            run = subprocess.run(
+                ["mpiexec", "-n", "3", sys.executable, "-m", "mpi4py.futures", "sweep.py"],
+                cwd=self.folder, capture_output=True, text=True, timeout=100, check=False,
+                env=os.environ | {"PYTHONPATH": str(TOP / "python")} | more)
+            self.assertEqual((run.returncode, run.stdout.count("<Report on ")), (0, 10), run.stderr)
+        written = (self.folder / "results.jsonl").read_text()
+        results = [json.loads(line) for line in written.splitlines()]
+        self.assertEqual({result["position"] for result in results},
+                         {position.text().strip() for position in given})
+        self.assertEqual(len(results), 10)
 
     def start(self, words, environment):
         """A process that is ended with the test."""

@@ -1,5 +1,5 @@
 """The package is clean under mypy --strict, ruff and flake8 where they are installed, and so are
-the snippets of the page on measuring; its help begins with what one looks for."""
+the snippets of the pages; its help begins with what one looks for."""
 import importlib.util
 import pydoc
 import re
@@ -23,10 +23,12 @@ def run(*words, **more):
 
 
 class Types(unittest.TestCase):
-    def setUp(self):
+    @classmethod
+    def setUpClass(cls):
+        # One folder for all of them, so that mypy looks at the package once.
         folder = tempfile.TemporaryDirectory()
-        self.addCleanup(folder.cleanup)
-        self.folder = Path(folder.name)
+        cls.addClassCleanup(folder.cleanup)
+        cls.folder = Path(folder.name)
 
     def mypy(self, *files):
         """What mypy says of files beside the package."""
@@ -44,7 +46,7 @@ class Types(unittest.TestCase):
         opening = dosolve.__doc__.split("\n\n")[1]
         files.append(self.folder / "opening.py")
         files[-1].write_text(re.sub(r"^ {4}", "", opening, flags=re.MULTILINE))
-        found = self.mypy(PACKAGE / "dosolve", *files)
+        found = self.mypy(PACKAGE / "dosolve", PACKAGE / "wheel_backend.py", *files)
         self.assertEqual(found.returncode, 0, found.stdout + found.stderr)
 
     @unittest.skipUnless(shutil.which("mypy"), "mypy is missing")
@@ -59,7 +61,7 @@ class Types(unittest.TestCase):
 
     @unittest.skipUnless(shutil.which("ruff"), "ruff is missing")
     def test_ruff(self):
-        found = run("ruff", "check", "--no-cache", "dosolve", cwd=PACKAGE)
+        found = run("ruff", "check", "--no-cache", "dosolve", "wheel_backend.py", cwd=PACKAGE)
         self.assertEqual(found.returncode, 0, found.stdout)
 
     @unittest.skipUnless(importlib.util.find_spec("flake8"), "flake8 is missing")

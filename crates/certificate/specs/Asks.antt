@@ -1,5 +1,5 @@
 -- What is asked, as values of its fields.
-use Rattle.std.specs.Prelude.{List, map}
+use Rattle.std.specs.Prelude.{ℕ, ℤ, List, map}
 use Rattle.certificate.specs.declared.fields.FieldKind.{FieldKind}
 use Rattle.certificate.specs.declared.fields.Value.{Value}
 use Rattle.certificate.specs.declared.fields.Word.{Word}
@@ -28,4 +28,16 @@ ask_with vs = record {
   rows = count_at 4 vs;
   workers = count_at 5 vs;
   stages = method_of (word_value_at 6 vs);
+}
+
+-- what these numbers ask, where each other field has its default
+abbrev pub ask_of : ℤ → ℕ → ℕ → ℕ → ℕ → ℕ → Ask
+ask_of gap weight turns visits rows workers = record {
+  gap = gap;
+  weight = weight;
+  turns = turns;
+  visits = visits;
+  rows = rows;
+  workers = workers;
+  stages = Regret;
 }

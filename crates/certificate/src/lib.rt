@@ -19,5 +19,5 @@ pub use goofspiel::Pay;
 pub use numbers::natural;
 pub use positions::{FIELDS, GameKind, PositionText};
 pub use reading::{read, reading_undoes_writing, texts_are_short};
-pub use report::{ASK, ASKED, Ask, Outcome, Report, StageMethod};
+pub use report::{ASK, ASKED, Ask, LEAST, Outcome, Report, StageMethod};
 pub use writing::write;

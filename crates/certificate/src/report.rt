@@ -48,6 +48,17 @@ pub struct Ask {
     pub stages: StageMethod,
 }
 
+/// The least that can be asked, with the default of each field that has one.
+pub const LEAST: Ask = Ask {
+    gap: 0,
+    weight: 8192,
+    turns: 0,
+    visits: 0,
+    rows: 1,
+    workers: 1,
+    stages: StageMethod::Regret,
+};
+
 /// How many fields tell what is asked.
 pub const ASKED: usize = 7;
 
@@ -85,6 +96,23 @@ pub const ASK: [AskRow; ASKED] = [
         Absent::Word(Word::Regret),
     ),
 ];
+
+/// Does the same with each of these fields.
+#[macro_export]
+macro_rules! each_asked {
+    ($row:ident => $then:expr) => {{
+        let [a, b, c, d, e, f, g] = $crate::ASK;
+        [
+            { let $row = a; $then },
+            { let $row = b; $then },
+            { let $row = c; $then },
+            { let $row = d; $then },
+            { let $row = e; $then },
+            { let $row = f; $then },
+            { let $row = g; $then },
+        ]
+    }};
+}
 
 impl Ask {
     /// What these values of the fields ask.

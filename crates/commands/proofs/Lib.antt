@@ -6,3 +6,5 @@ pub mod SampleLemmas
 pub mod SizeLemmas
 pub mod AnswerLemmas
 pub mod RootLemmas
+pub mod AloneLemmas
+pub mod MeasureLemmas

@@ -7,3 +7,4 @@ pub mod Measured
 pub mod Matches
 pub mod Samples
 pub mod Runs
+pub mod Alone

@@ -6,11 +6,11 @@ use Rattle.sim_game.specs.Model.{GameModel}
 use Rattle.plan_book.specs.Serial.{serial_bound}
 use Rattle.goofspiel.specs.declared.Pay.TheVariants.{Margin}
 use Rattle.certificate.specs.declared.report.Ask.{Ask}
-use Rattle.certificate.specs.declared.report.StageMethod.TheVariants.{Regret}
 use Rattle.certificate.specs.declared.report.Outcome.TheVariants.{Closed, Settled}
 use Rattle.certificate.specs.declared.positions.PositionText.{PositionText}
 use Rattle.certificate.specs.declared.positions.PositionText.TheVariants.{Goofspiel}
 use Rattle.certificate.specs.declared.report.Report.{Report}
+use Rattle.certificate.specs.Asks.{ask_of}
 use Rattle.certificate.specs.Outcomes.{gap_of}
 use Rattle.text.specs.Texts.{line_text}
 use Rattle.certificate.specs.Texts.{outcome_word}
@@ -34,8 +34,7 @@ sample_position n = Goofspiel sample_cards sample_cards (sample_prizes n) (pos 0
 
 -- what is asked for each sample
 abbrev pub sample_ask : Ask
-sample_ask =
-    record { gap = pos 0; weight = 8192; turns = 262144; visits = 40000; rows = 65536; workers = 1; stages = Regret }
+sample_ask = ask_of (pos 0) 8192 262144 40000 65536 1
 
 -- ---- what is found
 -- both bounds and the gap between them

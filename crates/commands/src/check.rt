@@ -1,6 +1,6 @@
 //! The answer to the bytes of a report.
 
-ghost use Rattle.std.specs.Prelude.{◌≡◌, ◌≢◌, ◌≤◌, length, IfOk, MatchResult};
+ghost use Rattle.std.specs.Prelude.{◌≡◌, ◌≢◌, ◌≤◌, ℕ, List, length, IfOk, MatchResult};
 ghost use Rattle.std.specs.declared.result.Result.TheVariants.{Ok, Err};
 ghost use Rattle.certificate.specs.Ranges.{IsInRange};
 ghost use Rattle.checker.specs.Verdicts.{IsVerdict};
@@ -21,14 +21,14 @@ use text::Text;
 
 /// A report whose position breaks no rule of its game.
 #[derive(Drop)]
-pub(crate) struct ReportedGame {
-    pub(crate) report: Report,
+pub struct ReportedGame {
+    pub report: Report,
     ghost has_game: { HasGame report.position } by { HasGame-prop report.position },
 }
 
 impl ReportedGame {
     /// The game of the report's position, which borrows from its text.
-    pub(crate) fn game(&self) -> AnyGame
+    pub fn game(&self) -> AnyGame
         ensures { IsGameOf self.now.report.position result }
     {
         game_of(&self.report.position)
@@ -79,16 +79,26 @@ pub(crate) fn checked(alloc: Global, bytes: &[u8]) -> Result<Answer, NoMemory>
     requires { length bytes.now ≤ most_report }
     ensures { IfOk result (λ a. IsChecked bytes.now a.status a.text) }
 {
-    match report_in(alloc, bytes) {
-        Ok(found) => match found.game().accept(Judge {
-            alloc,
-            report: &found.report,
-        }) {
-            Ok(Verdict::Accepted) => accepted(alloc, &found.report),
-            Ok(Verdict::Refused(why)) => faulty(alloc, ReportFault::Refused(why)),
-            Err(_) => Err(NoMemory),
+    match read(alloc, bytes) {
+        Ok(report) => match build(&report.position) {
+            Ok(game) => judged(alloc, &report, game),
+            Err(error) => faulty(alloc, ReportFault::Position(error)),
         },
-        Err(fault) => faulty(alloc, fault),
+        Err(error) => faulty(alloc, ReportFault::Text(error)),
+    }
+}
+
+/// The answer to a report whose game this is.
+fn judged(alloc: Global, report: &Report, game: AnyGame) -> Result<Answer, NoMemory>
+    requires range { IsInRange report.now }
+    requires built { IsGameOf report.now.position game }
+    ensures { IfOk result (λ a. (bytes : List ℕ) → report_in bytes ≡ Ok report.now
+        → IsChecked bytes a.status a.text) }
+{
+    match game.accept(Judge { alloc, report }) {
+        Ok(Verdict::Accepted) => accepted(alloc, report),
+        Ok(Verdict::Refused(why)) => faulty(alloc, ReportFault::Refused(why)),
+        Err(_) => Err(NoMemory),
     }
 }
 

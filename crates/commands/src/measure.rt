@@ -3,10 +3,11 @@
 ghost use Rattle.std.specs.Prelude.{◌≡◌, ◌≤◌, length, IfOk, OnOk};
 ghost use Rattle.text.specs.Texts.{Adds};
 ghost use Rattle.certificate.specs.Ranges.{IsInRange};
+ghost use Rattle.position.specs.Games.{OfGame};
 ghost use Rattle.commands.specs.Checks.{most_report};
 ghost use Rattle.commands.specs.Measured.{IsExploited, IsMeasured, full_text, measured_text, sheet_of, worth_words};
 
-use crate::check::{faulty, report_in};
+use crate::check::{ReportedGame, faulty, report_in};
 use crate::run::{Answer, written};
 use certificate::Report;
 use exploit::{WorstCase, WorstError, Worth, is_worst, worst};
@@ -44,7 +45,8 @@ impl<'a> GameVisitor for Measurer<'a> {
     }
 }
 
-fn sheet_of<'a>(report: &'a Report, side: Side) -> &'a Sheet
+/// The sheet of a side.
+pub fn sheet_of<'a>(report: &'a Report, side: Side) -> &'a Sheet
     ensures { result.now ≡ sheet_of side report.now }
 {
     match side {
@@ -53,17 +55,26 @@ fn sheet_of<'a>(report: &'a Report, side: Side) -> &'a Sheet
     }
 }
 
+/// The worst case of the plan of a side of a report, which need not be lawful, where it comes to at most 1048576 states
+/// that are no ends.
+pub fn worst_of(alloc: Global, found: &ReportedGame, side: Side) -> Result<WorstCase, WorstError>
+    requires { IsInRange found.now.report }
+    ensures { let r = found.now.report in OfGame r.position (λ S m. IsMeasured m (sheet_of side r) result) }
+{
+    found.game().accept(Measurer {
+        alloc,
+        report: &found.report,
+        side,
+    })
+}
+
 /// The answer to the bytes of a report, which are not too many.
 pub(crate) fn exploited(alloc: Global, side: Side, bytes: &[u8]) -> Result<Answer, NoMemory>
     requires { length bytes.now ≤ most_report }
     ensures { IfOk result (λ a. IsExploited side bytes.now a.status a.text) }
 {
     match report_in(alloc, bytes) {
-        Ok(found) => match found.game().accept(Measurer {
-            alloc,
-            report: &found.report,
-            side,
-        }) {
+        Ok(found) => match worst_of(alloc, &found, side) {
             Ok(case) => measured(alloc, side, case.worth),
             Err(WorstError::TooMany { .. }) => full(alloc),
             Err(WorstError::NoMemory) => Err(NoMemory),

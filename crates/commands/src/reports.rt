@@ -15,7 +15,7 @@ use text::Text;
 
 /// Why a report is refused.
 #[derive(Clone, Copy, Debug, PartialEq, Eq)]
-pub(crate) enum ReportFault {
+pub enum ReportFault {
     /// There are more bytes than a report may have.
     TooLong,
     /// The bytes are no report.

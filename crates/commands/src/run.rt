@@ -23,9 +23,9 @@ use text::Text;
 
 /// What is answered: the status of the program, and its whole text.
 #[derive(Drop)]
-pub(crate) struct Answer {
-    pub(crate) status: u8,
-    pub(crate) text: Seq<u8>,
+pub struct Answer {
+    pub status: u8,
+    pub text: Seq<u8>,
 }
 
 /// The answer that has the text.
@@ -67,7 +67,7 @@ pub fn run<R: Threads + Sync, S: Source, K: Sink, T: Gate + Sync>(
 }
 
 /// The most bytes that a command reads.
-fn limit_of(command: ReadingCommand) -> u64
+pub(crate) fn limit_of(command: ReadingCommand) -> u64
     ensures { result ≡ limit_of command }
 {
     match command {
@@ -100,7 +100,7 @@ fn answer_to<R: Threads + Sync, T: Gate + Sync>(
 }
 
 /// The answer to more bytes than the command reads.
-fn too_long(alloc: Global, command: ReadingCommand) -> Result<Answer, NoMemory>
+pub(crate) fn too_long(alloc: Global, command: ReadingCommand) -> Result<Answer, NoMemory>
     ensures { IfOk result (λ a. (bytes : List ℕ) → length bytes ≡ limit_of command + 1
         → IsAnswerTo command bytes a.status a.text) }
 {
@@ -126,7 +126,7 @@ fn respond<K: Sink>(sink: &mut K, answer: Result<Answer, NoMemory>) -> u8
     }
 }
 
-fn usage(alloc: Global) -> Result<Answer, NoMemory>
+pub(crate) fn usage(alloc: Global) -> Result<Answer, NoMemory>
     ensures { IfOk result (λ a. (a.status ≡ 1) × (a.text ≡ usage_text)) }
 {
     let mut text = Text::new(alloc);

@@ -11,7 +11,7 @@ ghost use Rattle.commands.specs.Samples.{sample_cards, sample_prizes, sample_pos
 use crate::reports::outcome;
 use crate::run::{Answer, written};
 use crate::solve::status_of;
-use certificate::{Ask, Pay, PositionText, Report, StageMethod};
+use certificate::{Ask, LEAST, Pay, PositionText, Report};
 use goofspiel::Goofspiel;
 use lazy_workers::solve;
 use oracle_search::Gate;
@@ -25,14 +25,14 @@ use text::Text;
 const CARDS: [u8; 5] = [1, 2, 3, 4, 5];
 
 /// What is asked of the search of each sample.
-const ASK: Ask = Ask {
+pub(crate) const ASK: Ask = Ask {
     gap: 0,
     weight: 8192,
     turns: 262_144,
     visits: 40_000,
     rows: 65_536,
     workers: 1,
-    stages: StageMethod::Regret,
+    ..LEAST
 };
 
 /// The answer to the number of a sample.
@@ -73,7 +73,7 @@ pub(crate) fn sample_game(number: u32) -> Goofspiel
     }
 }
 
-fn sample_position(alloc: Global, number: u32) -> Result<PositionText, NoMemory>
+pub(crate) fn sample_position(alloc: Global, number: u32) -> Result<PositionText, NoMemory>
     ensures { IfOk result (λ text. text ≡ sample_position number) }
 {
     let one = CARDS.to_vec(alloc)?;
@@ -89,7 +89,7 @@ fn sample_position(alloc: Global, number: u32) -> Result<PositionText, NoMemory>
 }
 
 /// The answer that tells of the report of one worker.
-fn told(alloc: Global, number: u32, report: &Report) -> Result<Answer, NoMemory>
+pub(crate) fn told(alloc: Global, number: u32, report: &Report) -> Result<Answer, NoMemory>
     requires range { IsInRange report.now }
     requires worker { length report.now.spent ≡ 1 }
     ensures { IfOk result (λ a. (a.status ≡ status_of report.now.outcome) × (a.text ≡ sample_line number report.now)) }

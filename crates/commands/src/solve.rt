@@ -56,7 +56,7 @@ pub(crate) fn solved<R: Threads + Sync, T: Gate + Sync>(
     }
 }
 
-fn reported(alloc: Global, report: &Report) -> Result<Answer, NoMemory>
+pub(crate) fn reported(alloc: Global, report: &Report) -> Result<Answer, NoMemory>
     requires { IsInRange report.now }
     ensures { IfOk result (λ a. (a.status ≡ status_of report.now.outcome) × (a.text ≡ report_text report.now)
         × (read_report (report_text report.now) ≡ Ok report.now)) }
@@ -68,7 +68,8 @@ fn reported(alloc: Global, report: &Report) -> Result<Answer, NoMemory>
     })
 }
 
-pub(crate) fn status_of(outcome: Outcome) -> u8
+/// The status of a report with the outcome.
+pub fn status_of(outcome: Outcome) -> u8
     ensures { result ≡ status_of outcome }
 {
     match outcome {

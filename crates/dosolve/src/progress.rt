@@ -1,18 +1,35 @@
 //! What a long search tells on standard error while it goes on.
 
-ghost use Rattle.std.specs.Prelude.{◌≡◌, ◌+◌, ◌/◌, ◌≤◌, ◌↔◌, IsTrue, Some, ◌++◌, codes, decimal};
+ghost use Rattle.std.specs.Prelude.{◌≡◌, ◌+◌, ◌/◌, ◌≤◌, ◌↔◌, ◌-ℤ◌, IsTrue, Some, ◌++◌, codes, decimal, unsigned_abs};
+ghost use Rattle.std.specs.Fmt.{signed_decimal};
 
 use oracle_search::Gate;
 use std::env::{Env, FillError};
-use std::sync::atomic::{AtomicU64, Ordering};
+use std::sync::atomic::{AtomicI64, AtomicU64, Ordering};
 use std::time::{Clock, Instant};
 use std::{array, fmt};
 
 /// The most workers of a search.
 const WORKERS: usize = 16;
 
-/// Tells each worker's spent turns and the seconds since it was made, at most once a second and a worker, and only
-/// where the environment has `DOSOLVE_PROGRESS`.
+/// The last bounds that a worker has told of, in millionths of a payoff. None are known while the upper is the lesser.
+#[derive(Drop)]
+struct LastBounds {
+    lower: AtomicI64,
+    upper: AtomicI64,
+}
+
+impl LastBounds {
+    fn unknown() -> LastBounds {
+        LastBounds {
+            lower: AtomicI64::new(0),
+            upper: AtomicI64::new(-1),
+        }
+    }
+}
+
+/// Tells each worker's spent turns and the seconds since it was made, with the bounds at the root once these are known,
+/// at most once a second and a worker, and only where the environment has `DOSOLVE_PROGRESS`.
 #[derive(Drop)]
 pub(crate) struct Progress<'a, R> {
     rt: &'a R,
@@ -20,6 +37,7 @@ pub(crate) struct Progress<'a, R> {
     start: Option<Instant>,
     /// When each worker has told last, in milliseconds since the start; 0 where it has not.
     told: [AtomicU64; WORKERS],
+    bounds: [LastBounds; WORKERS],
 }
 
 impl<'a, R: Clock + Env + Eprint> Progress<'a, R> {
@@ -32,6 +50,7 @@ impl<'a, R: Clock + Env + Eprint> Progress<'a, R> {
                 None
             },
             told: array::from_fn(|_| AtomicU64::new(0)),
+            bounds: array::from_fn(|_| LastBounds::unknown()),
         }
     }
 
@@ -47,9 +66,22 @@ impl<'a, R: Clock + Env + Eprint> Progress<'a, R> {
         let now = u64::try_from(elapsed.as_millis()).unwrap_or(u64::MAX);
         if is_due(told.load(Ordering::SeqCst), now) {
             told.store(now, Ordering::SeqCst);
-            // A search goes on whether its progress can be written or not.
-            let _ = self.rt.eprintln(Line::at(worker, turns, now));
+            self.write(worker, Line::at(worker, turns, now));
         }
+    }
+
+    /// A search goes on whether its progress can be written or not.
+    fn write(&self, worker: u32, line: Line) {
+        let Some(bounds) = self.bounds.get(worker as usize) else {
+            return;
+        };
+        let lower = bounds.lower.load(Ordering::SeqCst);
+        let upper = bounds.upper.load(Ordering::SeqCst);
+        let _ = if upper < lower {
+            self.rt.eprintln(line)
+        } else {
+            self.rt.eprintln(BoundedLine::new(line, lower, upper))
+        };
     }
 }
 
@@ -57,6 +89,13 @@ impl<R: Clock + Env + Eprint> Gate for Progress<'_, R> {
     fn at_turn(&self, worker: u32, turn: u64) {
         if let Some(start) = self.start {
             self.tell(start, worker, turn);
+        }
+    }
+
+    fn at_bounds(&self, worker: u32, lower: i64, upper: i64) {
+        if let Some(bounds) = self.bounds.get(worker as usize) {
+            bounds.lower.store(lower, Ordering::SeqCst);
+            bounds.upper.store(upper, Ordering::SeqCst);
         }
     }
 }
@@ -93,6 +132,49 @@ impl fmt::Display for Line {
             seconds,
         } = self;
         write!(f, "worker {worker} turns {turns} seconds {seconds}")
+    }
+}
+
+/// The same with the bounds at the root, in millionths of a payoff, and how far these are apart.
+#[derive(Drop)]
+struct BoundedLine {
+    line: Line,
+    lower: i64,
+    upper: i64,
+    gap: u64,
+}
+
+impl BoundedLine {
+    fn new(line: Line, lower: i64, upper: i64) -> BoundedLine
+        ensures { result ≡ record {
+          line = line;
+          lower = lower;
+          upper = upper;
+          gap = unsigned_abs (upper -ℤ lower);
+        } }
+    {
+        BoundedLine {
+            line,
+            lower,
+            upper,
+            gap: upper.abs_diff(lower),
+        }
+    }
+}
+
+impl fmt::Display for BoundedLine {
+    ghost output = { λ l. Some (codes "worker " ++ decimal l.line.worker ++ codes " turns " ++ decimal l.line.turns
+        ++ codes " seconds " ++ decimal l.line.seconds ++ codes " lower " ++ signed_decimal l.lower
+        ++ codes " upper " ++ signed_decimal l.upper ++ codes " gap " ++ decimal l.gap) };
+
+    fn fmt<W: fmt::Write>(&self, f: &mut fmt::Formatter<W>) -> fmt::Result {
+        let BoundedLine {
+            line,
+            lower,
+            upper,
+            gap,
+        } = self;
+        write!(f, "{line} lower {lower} upper {upper} gap {gap}")
     }
 }
 

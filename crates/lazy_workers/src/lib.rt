@@ -6,4 +6,4 @@ mod summary;
 mod workers;
 
 pub use summary::Solved;
-pub use workers::solve;
+pub use workers::{solve, solve_alone};

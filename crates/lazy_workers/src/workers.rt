@@ -96,6 +96,70 @@ where
     gather(alloc, g, board, ask, lead, done)
 }
 
+/// As `solve`, but the caller does the work of each worker, one after the other. It starts no thread.
+pub fn solve_alone<G: Game, T: Gate>(
+    alloc: Global,
+    g: G,
+    position: PositionText,
+    ask: &Ask,
+    gate: &T,
+) -> Result<Solved, NoMemory>
+    requires ask { IsAskInRange ask.now }
+    requires position { IsPositionInRange position }
+    ensures { IfOk result (IsSolvedGame (G.model g) position ask.now) }
+{
+    let found = if g.rank(g.root()) == 0 {
+        nothing(alloc, g, ask)?
+    } else {
+        search_alone(alloc, g, ask, gate)?
+    };
+    report_of(alloc, g, position, ask, found)
+}
+
+/// What all workers find on one board, one after the other.
+fn search_alone<G: Game, T: Gate>(
+    alloc: Global,
+    g: G,
+    ask: &Ask,
+    gate: &T,
+) -> Result<Found, NoMemory>
+    requires ask { IsAskInRange ask.now }
+    requires goes_on { 1 ≤ (G.model g).rank (G.model g).root }
+    ensures total { IfOk result (λ found. found.book.total ≡ ask.now.weight) }
+    ensures searched { IfOk result (λ found.
+        IsSearched (G.model g) ask.now found.book.entries found.kept found.turns found.was_full) }
+{
+    let (board, mut lead) = Board::create(alloc, g, ask.rows, ask.weight)?;
+    let jobs = split_all(alloc, &board, &mut lead, ask.workers)?;
+    let done = work_all(alloc, g, &board, ask, gate, jobs)?;
+    gather(alloc, g, board, ask, lead, done)
+}
+
+/// Does the work of each job, that of the last first, and stops at want of memory.
+fn work_all<G: Game, T: Gate>(
+    alloc: Global,
+    g: G,
+    board: &Board<G>,
+    ask: &Ask,
+    gate: &T,
+    mut jobs: Vec<Job<G>>,
+) -> Result<Vec<Result<Done<G>, NoMemory>>, NoMemory>
+    requires board { IsBoardFor G.model g board.now ask.now }
+    requires jobs { All (IsJob G.model board.now) jobs.items }
+    ensures count { IfOk result (λ found. length found.items ≡ length jobs.items) }
+    ensures done { IfOk result (λ found. All (λ r. IfOk r (IsJobDone G.model g board.now ask.now)) found.items) }
+{
+    match jobs.pop() {
+        None => Ok(Vec::new(alloc)),
+        Some(job) => {
+            let done = work(alloc, g, board, ask, gate, job)?;
+            let mut all = work_all(alloc, g, board, ask, gate, jobs)?;
+            all.push(Ok(done))?;
+            Ok(all)
+        }
+    }
+}
+
 /// What the workers have found together: their passes are joined to the lead's, and the board is closed.
 fn gather<G: Game>(
     alloc: Global,

@@ -101,14 +101,13 @@ gap_closed m game s v gap both is none =
 
 -- a gap read as at most none
 pub gap_within : {S G N : Type 0} (m : GameModel S) (game : IsGame m) (s : S) (v : BoardView G N) (gap goal : ℤ) → IsEnclosure m (v.seen One (m.key s)) (v.seen Two (m.key s)) s
-    → gap ≡ v.seen Two (m.key s) -ℤ v.seen One (m.key s) → goal ≡ pos 0 → IsTrue (le_z (to_z w64 (of_z w64 gap)) (to_z w64 (of_z w64 goal))) → IsWithin v (m.key s) (pos 0)
-gap_within m game s v gap goal both is none enough =
+    → gap ≡ v.seen Two (m.key s) -ℤ v.seen One (m.key s) → SFits w64 goal → IsTrue (le_z (to_z w64 (of_z w64 gap)) (to_z w64 (of_z w64 goal))) → IsWithin v (m.key s) goal
+gap_within m game s v gap goal both is small enough =
     let a = game.low_least in let b = game.high_most in
     let c = both.lower_low in let d = both.lower_high in let e = both.upper_low in let f = both.upper_high in
     let fits : SFits w64 gap = rw is (omega (arith, ints)) in
-    let same : to_z w64 (of_z w64 gap) ≡ gap = to_z-of_z w64 gap fits in
-    let test : le_z gap (pos 0) ≡ true = sym (ap (λ (x : ℤ). le_z x (pos 0)) same) ∙ sym (ap (λ (y : ℤ). le_z (to_z w64 (of_z w64 gap)) (to_z w64 (of_z w64 y))) none) ∙ enough in
-    let low : gap ≤ℤ pos 0 = le_z_yes {a = gap} {b = pos 0} (rw test tt) in
+    let test : le_z gap goal ≡ true = sym (ap (λ (x : ℤ). le_z x goal) (to_z-of_z w64 gap fits)) ∙ sym (ap (le_z (to_z w64 (of_z w64 gap))) (to_z-of_z w64 goal small)) ∙ enough in
+    let low : gap ≤ℤ goal = le_z_yes {a = gap} {b = goal} (rw test tt) in
     omega (arith, ints)
 
 pub serial_closed : {S G N : Type 0} (m : GameModel S) (game : IsGame m) (s : S) (v : BoardView G N) (gap : ℤ) → Reachable m s → IsEnclosure m (v.seen One (m.key s)) (v.seen Two (m.key s)) s

@@ -19,6 +19,7 @@ use Rattle.serial_ab.specs.Searches.{IsSerialKept, IsPureEntry}
 use Rattle.serial_ab.proofs.KeptLemmas.{grows_none}
 use Rattle.serial_ab.specs.Transpositions.{AreRemembered}
 use Rattle.serial_ab.proofs.TableLemmas.{remembered_later}
+use Rattle.restricted_game.specs.Runs.{IsOneMoveEntry}
 use Rattle.restricted_game.specs.declared.held.StepEnd.{StepEnd}
 use Rattle.restricted_game.specs.declared.held.StepEnd.TheVariants.{Grown, Done}
 use Rattle.restricted_game.specs.Held.{HeldMoves, count_held, held_after}
@@ -30,7 +31,7 @@ use Rattle.oracle_search.specs.declared.ends.Stop.{Stop}
 use Rattle.oracle_search.specs.declared.ends.Stop.TheVariants as stops
 use Rattle.oracle_search.specs.Searches.{IsWorked, IsWorkedBelow, HasTurned, TakesTurns, TakesAtMost, HasTaken, HasTurn, HasKept, IsFirstHeld, Ends, open_states, IsBoardFull, IsStop, stop_of, IsStoppedAs, IsEarlyEnd, IsDone, AreDone}
 use Rattle.oracle_search.specs.Workers.{WorkerView, WorkView, at_work, with_full, with_key}
-use Rattle.oracle_search.proofs.BetterLemmas.{better_quiet, better_serial}
+use Rattle.oracle_search.proofs.BetterLemmas.{grows_weaker, better_quiet, better_serial}
 use Rattle.std.proofs.Math.Nat.{mul-zero, mul-le-mul_right, div-lt_iff_lt-mul, mod-lt, mod-eq_of_lt, mod-add-mod, add-mod_right}
 use Rattle.std.proofs.lemmas.Nat.{div-mul-add, mod-mul-add}
 use Rattle.oracle_search.proofs.WorkLemmas.{visited_none, turned_none, worked_by, worked_none, worked_after, worked_under, full_kept, full_below, within_later, within_not_beyond, extended_after}
@@ -356,6 +357,14 @@ module _ {S G N : Type 0} (m : GameModel S) (s : S) (limit : ℕ) (v : BoardView
       (step_turned w.turns new.turns none one) (visited_none w.visits) refl (λ e. e) kept (remembered_later later kept.remembered) (λ e. inl e)
       (λ e. grows_none (IsPureEntry m v.total) v.entries board.entries (unposted e)))
 
+  -- posts of entries of one move, without a turn
+  pub worked_alone : (board : BoardView G N) → IsLater v board → Grows (IsOneMoveEntry m v.total) v.entries board.entries → IsWorkedBelow m s limit (at_work v w) (at_work board w)
+  worked_alone board later posted =
+      worked_by m s limit (at_work v w) (at_work board w)
+      (record { later = later; posted = grows_weaker (IsOneMoveEntry m v.total) (IsLawfulEntry m v.total) v.entries board.entries (λ e p. p.lawful) posted }) (turned_none w.turns)
+      (visited_none w.visits) refl (λ e. e) kept (remembered_later later kept.remembered) (λ e. inl e)
+      (λ e. grows_weaker (IsOneMoveEntry m v.total) (IsPureEntry m v.total) v.entries board.entries (λ f p. record { lawful = p.lawful; place = p.place; pure = p.one }) posted)
+
   -- a serial search
   pub worked_serial : (board : BoardView G N) (new : WorkerView) (side : Side) (most : ℕ) → IsSerialKept m side most v board w.visits new.visits → AreRemembered m board new.searches
       → new ≡ record w { visits = new.visits; searches = new.searches } → IsWorkedBelow m s limit (at_work v w) (at_work board new)
@@ -371,6 +380,18 @@ module _ {S G N : Type 0} (m : GameModel S) (s : S) (limit : ℕ) (v : BoardView
       (worked_by m s limit (at_work v w) (at_work board (with_full w)) (better_quiet m v.total v board later same) (turned_none w.turns)
       (visited_none w.visits) refl (λ _. refl) kept (remembered_later later kept.remembered) (λ _. inr was)
       (λ e. grows_none (IsPureEntry m v.total) v.entries board.entries same))
+
+-- bounds that were read, and then another part
+pub worked_read : {S G N : Type 0} (m : GameModel S) (s : S) (limit : ℕ) (v board : BoardView G N) (w : WorkerView) (x : WorkView G N)
+    → HasKept m (at_work v w) → IsLater v board → board.entries ≡ v.entries → IsWorked m s (at_work board w) x → m.rank s ≤ limit → IsWorkedBelow m s limit (at_work v w) x
+worked_read m s limit v board w x kept later same worked wide =
+    worked_after m s (m.rank s) (m.rank s) limit (at_work v w) (at_work board w) x wide wide (worked_quiet m s (m.rank s) v w kept board later same) worked
+
+-- a part, and then bounds that were read
+pub read_after : {S G N : Type 0} (m : GameModel S) (s : S) (u : WorkView G N) (v board : BoardView G N) (x : WorkerView)
+    → IsWorked m s u (at_work v x) → IsLater v board → board.entries ≡ v.entries → IsWorked m s u (at_work board x)
+read_after m s u v board x worked later same =
+    worked_after m s (m.rank s) (m.rank s) (m.rank s) u (at_work v x) (at_work board x) (omega arith) (omega arith) worked (worked_quiet m s (m.rank s) v x worked.kept board later same)
 
 -- the claim of a state after the moves of another, and its search
 pub worked_claimed : {S G N : Type 0} (m : GameModel S) (s child : S) (limit : ℕ) (v board : BoardView G N) (w : WorkerView) (x : WorkView G N)

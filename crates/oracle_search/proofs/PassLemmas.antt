@@ -1,5 +1,5 @@
 -- Passes, one part after another.
-use Rattle.std.proofs.Common.{◌≡◌, ◌⊎◌, ⊎_elim, ℕ, ◌+◌, ◌-◌, ◌*◌, ◌<◌, ◌≤◌, ℤ, pos, ◌≤ℤ◌, Bool, true, false, List, [], ◌∷◌, ◌++◌, length, Some, None, Option, Contains, refl, sym, ap, subst, ◌∙◌, append_assoc, append-nil, arith}
+use Rattle.std.proofs.Common.{◌≡◌, ⊎_elim, ℕ, ◌+◌, ◌*◌, ◌<◌, ◌≤◌, ℤ, pos, ◌≤ℤ◌, Bool, true, false, List, [], ◌∷◌, ◌++◌, length, Some, None, Option, Contains, refl, sym, ap, subst, ◌∙◌, append_assoc, append-nil, arith}
 use Rattle.std.specs.List.{range_with_len}
 use Rattle.std.proofs.lemmas.Int.{ints}
 use Rattle.std.proofs.lemmas.Bool.{cases_lt}
@@ -21,7 +21,7 @@ use Rattle.restricted_game.proofs.HeldLemmas.{all_moves_held}
 use Rattle.oracle_search.specs.declared.ends.SearchEnd.{SearchEnd}
 use Rattle.oracle_search.specs.declared.ends.SearchEnd.TheVariants.{Settled}
 use Rattle.oracle_search.specs.declared.ends.Stop.{Stop}
-use Rattle.oracle_search.specs.Finished.{IsWithin, IsClose, rank_gap}
+use Rattle.oracle_search.specs.Finished.{IsWithin, IsBeyond, IsClose, rank_gap}
 use Rattle.oracle_search.specs.Searches.{IsWorked, IsAtRow, Ends, IsDone, AreDone, HasTurn}
 use Rattle.oracle_search.specs.Workers.{WorkerView, at_work, with_passed}
 use Rattle.oracle_search.specs.Passes.{IsPassedKey, ArePassed, IsPassedOn, HasSwept, TakesOne, IsSweepEnd, IsFullHeld, TakesPasses, HasMade, HasPassed}
@@ -188,6 +188,13 @@ pub all_cols : {S : Type 0} (m : GameModel S) (s : S) (held : HeldMoves) → 1 �
 all_cols m s held some full two has =
     All-contains (λ (n : ℕ). n < m.moves Two s) (range_with_len 0 (m.moves Two s)) two (all_moves_held (m.moves Two s) some).within (subst (λ (l : List ℕ). Contains l two) full.cols has)
 
+-- bounds that meet are within each target
+pub met_not_beyond : {G N : Type 0} (v w : BoardView G N) (key : ℕ) (target : ℤ) → pos 0 ≤ℤ target → IsLater v w → IsWithin v key (pos 0) → IsBeyond w key target → ⊥
+met_not_beyond v w key target some later near far =
+    let low : v.seen One key ≤ℤ w.seen One key = later.seen One key in
+    let high : w.seen Two key ≤ℤ v.seen Two key = later.seen Two key in
+    absurd (omega (arith, ints))
+
 -- ---- the turns of whole passes
 module _ {S G N : Type 0} (m : GameModel S) where
   -- a pass that began with no state finished
@@ -281,7 +288,7 @@ module _ {S G N : Type 0} (m : GameModel S) where
       record { ends = made.ends; owed = λ not. owed_wider p q (m.rank s) w.turns.spent x.turns.spent v wide (made.owed not); turned = made.turned }
 
   pub made_last : (s : S) (target : ℤ) (is_last : Bool) (v : BoardView G N) (w x : WorkerView) → 1 ≤ m.rank s → is_last ≡ true → HasPassed m s target is_last v w x → HasMade m s target 1 v w x Settled
-  made_last s target is_last v w x goes_on last passed = record { ends = (goes_on, passed.beyond, passed.close last); owed = passed.owed; turned = λ is. passed.turned }
+  made_last s target is_last v w x goes_on last passed = record { ends = (goes_on, passed.beyond, passed.close last); owed = passed.owed; turned = λ is. passed.turned last }
 
   -- a pass, and those after it
   pub made_after : (passes : ℕ) (s : S) (target : ℤ) (is_last : Bool) (v t : BoardView G N) (w y x : WorkerView) (end : SearchEnd) → IsWorked m s (at_work v y) (at_work t x)
@@ -290,7 +297,7 @@ module _ {S G N : Type 0} (m : GameModel S) where
     ends = made.ends;
     owed = λ not. owed_after 1 passes (m.rank s) w.turns.spent y.turns.spent x.turns.spent v t worked.board.later
         (passed.owed (not_before y.settled.was_full x.settled.was_full worked.settled.full not)) (made.owed not);
-    turned = λ is. let first = passed.turned in let rises = worked.turns.rises in omega arith;
+    turned = λ is. let first = passed.rises in let after = made.turned is in omega arith;
   }
 
   -- passes that began after serial searches alone

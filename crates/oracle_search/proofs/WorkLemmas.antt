@@ -20,7 +20,7 @@ use Rattle.serial_ab.specs.Searches.{IsPureEntry}
 use Rattle.serial_ab.specs.Transpositions.{AreRemembered}
 use Rattle.serial_ab.proofs.KeptLemmas.{grows_none, grows_after}
 use Rattle.serial_ab.proofs.TableLemmas.{remembered_none}
-use Rattle.oracle_search.specs.Finished.{FinishedView, IsWithin, IsBeyond, IsFinished, AreFinished, IsExtended, IsClose, rank_gap, left_gap}
+use Rattle.oracle_search.specs.Finished.{FinishedView, IsWithin, IsBeyond, IsFinished, AreFinished, IsExtended, IsClose, IsLeftBelow, rank_gap, left_gap}
 use Rattle.oracle_search.specs.Searches.{IsBetter, HasTurned, HasKept, IsBoardFull, IsWorkedBelow, IsPureTight, IsPureWithin, IsAhead}
 use Rattle.oracle_search.specs.Workers.{WorkerView, WorkView, at_work}
 use Rattle.oracle_search.proofs.BetterLemmas.{better_refl, better_trans}
@@ -191,13 +191,22 @@ rank_below_root m game = reachable_induction m (λ s. m.rank s ≤ m.rank m.root
 pub rank_part : {S : Type 0} (m : GameModel S) (total n : ℕ) → 1 ≤ m.rank m.root → (r : IsResolution m total n) → n / m.rank m.root ≡ r.gap + 1 + cond m.chance_free 0 1
 rank_part m total n some r = ap (λ (k : ℕ). k / m.rank m.root) r.sums ∙ mul-div_cancel_left (r.gap + 1 + cond m.chance_free 0 1) some
 
--- the gap at which a state is left is within what its rank allows
-pub close_left : {S G N : Type 0} (m : GameModel S) (total stage : ℕ) (v : BoardView G N) (s : S) (gap : ℤ) → v.total ≡ total → IsStageGap m total stage
-    → gap ≡ v.seen Two (m.key s) -ℤ v.seen One (m.key s) → gap ≤ℤ pos (left_gap m stage (m.rank s)) → IsClose m v.total v s
-close_left m total stage v s gap same is is_gap near other other_is =
-    let there : IsStageGap m total other = subst (λ (n : ℕ). IsStageGap m n other) same other_is in
+-- there is one stage's gap
+pub left_below : {S : Type 0} (m : GameModel S) (total stage : ℕ) (s : S) (gap : ℤ) → IsStageGap m total stage → gap ≤ℤ pos (left_gap m stage (m.rank s)) → IsLeftBelow m total s gap
+left_below m total stage s gap is near other there =
     let one_gap : stage ≡ other = let a = is.least other there.enough in let b = there.least stage is.enough in omega arith in
+    subst (λ (k : ℕ). gap ≤ℤ pos (left_gap m k (m.rank s))) one_gap near
+
+-- bounds within a gap at which a state is left are as close as its rank allows
+pub close_below : {S G N : Type 0} (m : GameModel S) (total : ℕ) (v : BoardView G N) (s : S) (gap : ℤ) → v.total ≡ total → IsLeftBelow m total s gap
+    → IsWithin v (m.key s) gap → IsClose m v.total v s
+close_below m total v s gap same left near stage is =
+    let most = left stage (subst (λ (n : ℕ). IsStageGap m n stage) same is) in
     let each = stage + 1 + cond m.chance_free 0 1 in
     let part : div_ceil each 32 ≤ each = let rounded = (div_ceil_times each 32 (omega arith)).1 in omega arith in
     let less : m.rank s * div_ceil each 32 ≤ m.rank s * each = mul-le-mul_left (m.rank s) part in
-    subst (λ (k : ℕ). IsWithin v (m.key s) (pos (rank_gap m k (m.rank s)))) one_gap (omega (arith, ints))
+    omega (arith, ints)
+
+pub close_left : {S G N : Type 0} (m : GameModel S) (total stage : ℕ) (v : BoardView G N) (s : S) (gap : ℤ) → v.total ≡ total → IsStageGap m total stage
+    → gap ≡ v.seen Two (m.key s) -ℤ v.seen One (m.key s) → gap ≤ℤ pos (left_gap m stage (m.rank s)) → IsClose m v.total v s
+close_left m total stage v s gap same is is_gap near = close_below m total v s gap same (left_below m total stage s gap is near) (omega (arith, ints))

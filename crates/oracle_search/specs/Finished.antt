@@ -27,6 +27,10 @@ rank_gap m stage rank = rank * (stage + 1 + cond m.chance_free 0 1)
 abbrev pub left_gap : {S : Type 0} → GameModel S → ℕ → ℕ → ℕ
 left_gap m stage rank = rank * div_ceil (stage + 1 + cond m.chance_free 0 1) 32
 
+-- a gap at which the state may be left to another worker
+abbrev pub IsLeftBelow : {S : Type 0} → GameModel S → ℕ → S → ℤ → Type 0
+IsLeftBelow m total s gap = (stage : ℕ) → IsStageGap m total stage → gap ≤ℤ pos (left_gap m stage (m.rank s))
+
 -- the bounds seen at the state are as close as its rank allows
 abbrev pub IsClose : {S G N : Type 0} → GameModel S → ℕ → BoardView G N → S → Type 0
 IsClose m total v s = (stage : ℕ) → IsStageGap m total stage → IsWithin v (m.key s) (pos (rank_gap m stage (m.rank s)))

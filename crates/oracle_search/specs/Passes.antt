@@ -9,7 +9,7 @@ use Rattle.oracle_search.specs.declared.ends.SearchEnd.{SearchEnd}
 use Rattle.oracle_search.specs.declared.ends.SearchEnd.TheVariants.{Settled}
 use Rattle.oracle_search.specs.declared.ends.Stop.{Stop}
 use Rattle.oracle_search.specs.Finished.{IsBeyond, IsClose, AreApart}
-use Rattle.oracle_search.specs.Searches.{IsWorked, Ends, IsStop, IsDone}
+use Rattle.oracle_search.specs.Searches.{IsWorked, Ends, IsStop, IsDone, AreDone}
 use Rattle.oracle_search.specs.Workers.{WorkerView, at_work}
 
 -- ---- the states that a pass has finished
@@ -53,6 +53,10 @@ IsSweepEnd m s rank Known v old new (Some stop) = IsStop m s (at_work v new) sto
 abbrev pub IsPassDone : {S G N : Type 0} → GameModel S → Bool → BoardView G N → S → Type 0
 IsPassDone m is_last v s = is_last ≡ true → IsDone m v s
 
+-- each state after any moves is done
+abbrev pub AreAllDone : {S G N : Type 0} → GameModel S → BoardView G N → S → Type 0
+AreAllDone m v s = (one two : ℕ) → one < m.moves One s → two < m.moves Two s → AreDone m v s one two
+
 -- ---- whole passes
 -- so many passes took at most a turn each for each state of a list, none twice, of which each has a row, and for each rank
 pub record TakesPasses {S G N : Type 0} (m : GameModel S) (passes : ℕ) (v : BoardView G N) (rank old new : ℕ) : Type 0 where
@@ -71,7 +75,8 @@ pub record HasPassed {S G N : Type 0} (m : GameModel S) (s : S) (target : ℤ) (
   pub beyond : IsBeyond v (m.key s) target
   pub close : is_last ≡ true → IsClose m v.total v s
   pub owed : new.settled.was_full ≡ false → TakesPasses m 1 v (m.rank s) old.turns.spent new.turns.spent
-  pub turned : old.turns.spent + 1 ≤ new.turns.spent
+  pub rises : old.turns.spent ≤ new.turns.spent
+  pub turned : is_last ≡ true → old.turns.spent + 1 ≤ new.turns.spent
 
 -- how the search ends with a pass, if it does
 abbrev pub IsPassEnd : {S G N : Type 0} → GameModel S → S → ℤ → Bool → BoardView G N → WorkerView → WorkerView → Option SearchEnd → Type 0

@@ -5,12 +5,14 @@ ghost use Rattle.sim_game.specs.declared.Side.TheVariants.{One, Two};
 ghost use Rattle.sim_game.specs.Model.{Reachable};
 ghost use Rattle.sim_game.specs.Resolution.{IsStageGap};
 ghost use Rattle.bounds_board.specs.Views.{IsLater, IsEnclosure};
-ghost use Rattle.oracle_search.specs.Finished.{IsWithin, IsBeyond, left_gap};
+ghost use Rattle.oracle_search.specs.Finished.{IsWithin, IsBeyond, IsLeftBelow, left_gap};
 ghost use Rattle.oracle_search.specs.Searches.{IsStoppedAs, IsEarlyEnd};
 
 use crate::ends::{SearchEnd, Stop};
-use bounds_board::{Bounds, Row};
-use sim_game::{Game, resolution};
+use crate::gate::Gate;
+use crate::worker::Setup;
+use bounds_board::{Bounds, Enclosure, Row};
+use sim_game::{Game, Side, opening_bound, resolution};
 
 /// How far the bounds at the state are apart, read anew.
 pub(crate) fn gap_at<G: Game, B: Bounds<G>>(g: G, s: G::State, row: Row, board: &mut B) -> i64
@@ -26,6 +28,58 @@ pub(crate) fn gap_at<G: Game, B: Bounds<G>>(g: G, s: G::State, row: Row, board: 
 {
     let enclosure = board.read(row);
     enclosure.upper - enclosure.lower
+}
+
+/// The same, told to the gate where the game begins at the state.
+pub(crate) fn told_gap<G: Game, B: Bounds<G>, T: Gate>(
+    setup: &Setup<'_, G, T>,
+    s: G::State,
+    row: Row,
+    board: &mut B,
+) -> i64
+    requires game { (B.view board.old).game ≡ setup.now.game }
+    requires reachable { Reachable (G.model setup.now.game) s }
+    requires row { (B.view board.old).key_at row ≡ Some ((G.model setup.now.game).key s) }
+    ensures later { IsLater (B.view board.old) (B.view board.new) }
+    ensures entries { (B.view board.new).entries ≡ (B.view board.old).entries }
+    ensures gap { result ≡ (B.view board.new).seen Two ((G.model setup.now.game).key s)
+        -ℤ (B.view board.new).seen One ((G.model setup.now.game).key s) }
+{
+    let enclosure = board.read(row);
+    tell_bounds(setup, s, enclosure);
+    enclosure.upper - enclosure.lower
+}
+
+/// Tells the gate of bounds at a state, where the game begins there: no other state that it leads to has its rank.
+fn tell_bounds<G: Game, T: Gate>(setup: &Setup<'_, G, T>, s: G::State, enclosure: Enclosure)
+    requires reachable { Reachable (G.model setup.now.game) s }
+{
+    let g = setup.game;
+    if g.rank(s) == g.rank(g.root()) {
+        setup
+            .gate
+            .at_bounds(setup.worker, enclosure.lower, enclosure.upper);
+    }
+}
+
+/// Whether the bounds at the state are at most so far apart, read anew, and told to the gate where the game begins
+/// there.
+pub(crate) fn is_within_told<G: Game, B: Bounds<G>, T: Gate>(
+    setup: &Setup<'_, G, T>,
+    s: G::State,
+    row: Row,
+    target: i64,
+    board: &mut B,
+) -> bool
+    requires game { (B.view board.old).game ≡ setup.now.game }
+    requires reachable { Reachable (G.model setup.now.game) s }
+    requires row { (B.view board.old).key_at row ≡ Some ((G.model setup.now.game).key s) }
+    ensures later { IsLater (B.view board.old) (B.view board.new) }
+    ensures entries { (B.view board.new).entries ≡ (B.view board.old).entries }
+    ensures within { MatchBool result (IsWithin (B.view board.new) ((G.model setup.now.game).key s) target)
+        (IsBeyond (B.view board.new) ((G.model setup.now.game).key s) target) }
+{
+    told_gap(setup, s, row, board) <= target
 }
 
 /// Whether they are at most so far apart, read anew.
@@ -61,41 +115,58 @@ fn left_gap<G: Game>(g: G, s: G::State, total: u32) -> i64
     (g.rank(s) as u64 * each.div_ceil(32)) as i64
 }
 
+/// The gap, in millionths of a payoff, at which a state is left to another worker with linear stages: what these leave,
+/// a few millionths and a sixteenth of the range over the weight with each rank, and no more than with regret matching.
+pub(crate) fn linear_left_gap<G: Game>(g: G, s: G::State, total: u32) -> i64
+    requires reachable { Reachable (G.model g) s }
+    requires goes_on { 1 ≤ (G.model g).rank s }
+    requires low { 8192 ≤ total }
+    requires high { total ≤ 1048576 }
+    ensures least { pos 0 ≤ℤ result }
+    ensures left { IsLeftBelow (G.model g) total s result }
+{
+    let range = opening_bound(g, Side::Two).saturating_sub(opening_bound(g, Side::One));
+    let each = (range / (16 * total as i64)).saturating_add(2);
+    left_gap(g, s, total)
+        .min((g.rank(s) as i64).saturating_mul(each))
+        .max(0)
+}
+
 /// How the search of a state ends before its first turn, if it does: its gap is at most the target, or it is left to
 /// another worker, where that is allowed.
-pub(crate) fn ended_early<G: Game, B: Bounds<G>>(
-    g: G,
+pub(crate) fn ended_early<G: Game, B: Bounds<G>, T: Gate>(
+    setup: &Setup<'_, G, T>,
     s: G::State,
     row: Row,
     target: i64,
     may_leave: bool,
     board: &mut B,
 ) -> Option<SearchEnd>
-    requires game { (B.view board.old).game ≡ g }
-    requires reachable { Reachable (G.model g) s }
-    requires goes_on { 1 ≤ (G.model g).rank s }
-    requires row { (B.view board.old).key_at row ≡ Some ((G.model g).key s) }
+    requires game { (B.view board.old).game ≡ setup.now.game }
+    requires reachable { Reachable (G.model setup.now.game) s }
+    requires goes_on { 1 ≤ (G.model setup.now.game).rank s }
+    requires row { (B.view board.old).key_at row ≡ Some ((G.model setup.now.game).key s) }
     ensures later { IsLater (B.view board.old) (B.view board.new) }
     ensures entries { (B.view board.new).entries ≡ (B.view board.old).entries }
-    ensures end { IsEarlyEnd (G.model g) (B.view board.new) s target result }
+    ensures end { IsEarlyEnd (G.model setup.now.game) (B.view board.new) s target result }
     ensures leaves { result ≡ Some SearchEnd.Settled → IsTrue may_leave }
 {
-    let gap = gap_at(g, s, row, board);
+    let gap = told_gap(setup, s, row, board);
     if gap <= target {
         return Some(SearchEnd::Reached);
     }
     if !may_leave {
         return None;
     }
-    if gap <= left_gap(g, s, board.total()) {
+    if gap <= left_gap(setup.game, s, board.total()) {
         Some(SearchEnd::Settled)
     } else {
         None
     }
 }
 
-/// How the search of a state ends that stopped: it is reached all the same where its gap, read once more, is at most the
-/// target.
+/// How the search of a state ends that stopped: it is reached all the same where its gap, read once more, is at most
+/// the target.
 pub(crate) fn stopped<G: Game, B: Bounds<G>>(
     g: G,
     s: G::State,

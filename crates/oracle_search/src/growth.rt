@@ -14,7 +14,7 @@ ghost use Rattle.oracle_search.specs.Passes.{IsFullHeld};
 
 use crate::children::search_children;
 use crate::ends::{SearchEnd, Stop};
-use crate::gap::{is_within, stopped};
+use crate::gap::{is_within_told, stopped};
 use crate::gate::Gate;
 use crate::worker::{Setup, Worker};
 use bounds_board::{Bounds, Row};
@@ -24,7 +24,7 @@ use sim_game::{Game, NoMemory, Side};
 /// The moves that a restricted game at a state holds, and the rows of the states after pairs of moves.
 #[derive(Drop)]
 pub(crate) struct Growth {
-    held: Restricted,
+    pub(crate) held: Restricted,
     pub(crate) children: ChildRows,
 }
 
@@ -64,8 +64,8 @@ impl Growth {
     }
 }
 
-/// Plays a restricted game at a state, which begins with one move of each side that depends on the worker, until the gap
-/// is at most the target, no reply is fresh, or the search stops.
+/// Plays a restricted game at a state, which begins with one move of each side that depends on the worker, until the
+/// gap is at most the target, no reply is fresh, or the search stops.
 #[cycle(search)]
 pub(crate) fn grow<G: Game, B: Bounds<G>, T: Gate>(
     setup: &Setup<'_, G, T>,
@@ -101,7 +101,7 @@ pub(crate) fn grow<G: Game, B: Bounds<G>, T: Gate>(
         }
         match take_turn(setup, s, row, &mut growth, worker, board) {
             Ok(end) => {
-                if is_within(g, s, row, target, board) {
+                if is_within_told(setup, s, row, target, board) {
                     return Ok(SearchEnd::Reached);
                 }
                 match end {

@@ -7,7 +7,7 @@ ghost use Rattle.oracle_search.specs.Workers.{at_work};
 ghost use Rattle.oracle_search.specs.Searches.{IsAtRow, IsWorked, BoundsByPure};
 
 use crate::ends::{SearchEnd, Stop};
-use crate::gap::{gap_at, is_within, stopped};
+use crate::gap::{gap_at, is_within_told, stopped};
 use crate::gate::Gate;
 use crate::serial_bounds::bound_state;
 use crate::sweeps::sweep;
@@ -23,7 +23,7 @@ pub(crate) struct Pass {
     rank: u32,
     /// How much less is wanted with each rank below, since the stages between add their own gaps.
     slack: i64,
-    /// The last pass goes on at each state that has a gap.
+    /// The last pass goes on at each state that has a gap; with other workers on the board, a gap that is not small.
     pub(crate) is_last: bool,
 }
 
@@ -105,7 +105,7 @@ pub(crate) fn search_linear<G: Game, B: Bounds<G>, T: Gate>(
     }
     match bound_state(setup, s, row, worker, board) {
         Ok(_) => {
-            if is_within(g, s, row, target, board) {
+            if is_within_told(setup, s, row, target, board) {
                 Ok(SearchEnd::Reached)
             } else {
                 make_passes(setup, s, row, target, worker, board)
@@ -173,7 +173,7 @@ fn make_closer<G: Game, B: Bounds<G>, T: Gate>(
     }
 }
 
-/// Makes the last pass, which brings each state as close as its stages reach.
+/// Makes the last pass, which brings each state as close as its stages reach, or leaves it.
 fn make_last<G: Game, B: Bounds<G>, T: Gate>(
     setup: &Setup<'_, G, T>,
     pass: &Pass,
@@ -217,7 +217,7 @@ fn make_pass<G: Game, B: Bounds<G>, T: Gate>(
     worker.begin_pass();
     match sweep(setup, pass, s, row, worker, board) {
         Ok(None) => {
-            if is_within(setup.game, s, row, target, board) {
+            if is_within_told(setup, s, row, target, board) {
                 Ok(Some(SearchEnd::Reached))
             } else {
                 Ok(None)

@@ -24,9 +24,10 @@ use sim_game::{Game, NoMemory};
 /// side that grows by best replies, with its children searched before each turn. A state below this one at which the
 /// board shows more than its pure plans and a small gap is left to the worker that has brought it there.
 ///
-/// With linear stages, whose gaps are narrow from the first turn on, the search goes by passes over all states, with all
-/// moves held: one that brings the gap to a sixteenth of the range of payoffs, one for the target, and one that brings
-/// each state as close as its stages reach.
+/// With linear stages, whose gaps are narrow from the first turn on, the search goes by passes over all states, with
+/// all moves held: one that brings the gap to a sixteenth of the range of payoffs, one for the target, and one that
+/// brings each state as close as its stages reach; with other workers on the board it leaves a state below this one
+/// whose gap is small. A turn is taken only where pure plans over the children do not suffice.
 pub fn search<G: Game, B: Bounds<G>, T: Gate>(
     setup: &Setup<'_, G, T>,
     s: G::State,
@@ -136,7 +137,7 @@ pub(crate) fn search_row<G: Game, B: Bounds<G>, T: Gate>(
     match bound_state(setup, s, row, worker, board) {
         Ok(is_ahead) => {
             let is_left = worker.may_leave(may_leave, is_ahead);
-            match ended_early(g, s, row, target, is_left, board) {
+            match ended_early(setup, s, row, target, is_left, board) {
                 Some(end) => Ok(end),
                 None => grow(setup, s, row, target, worker, board),
             }

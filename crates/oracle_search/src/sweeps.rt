@@ -1,26 +1,28 @@
 //! One pass over the states that a state leads to: a turn for each, its children first.
 
-ghost use Rattle.std.specs.Prelude.{◌≡◌, ◌+◌, ◌-◌, ◌<◌, ◌≤◌, ℕ, pos, true, None, Ok, Err, IsTrue, IfOk, Contains};
+ghost use Rattle.std.specs.Prelude.{◌≡◌, ◌⊎◌, ◌+◌, ◌-◌, ◌<◌, ◌≤◌, ◌≤ℤ◌, ℕ, pos, true, None, Ok, Err, IsTrue, IsFalse, IfOk, Contains};
 ghost use Rattle.sim_game.specs.declared.Side.{Side};
 ghost use Rattle.sim_game.specs.Model.{Reachable};
+ghost use Rattle.matrix_game.specs.Budget.{left_of};
+ghost use Rattle.restricted_game.specs.declared.held.StepFault.{StepFault};
 ghost use Rattle.restricted_game.specs.Children.{AreChildRows, HasRow};
-ghost use Rattle.oracle_search.specs.Passes.{ArePassed, HasSwept, IsSweepEnd, IsPassDone};
+ghost use Rattle.oracle_search.specs.Passes.{ArePassed, HasSwept, IsSweepEnd, IsPassDone, IsFullHeld, AreAllDone};
 ghost use Rattle.oracle_search.specs.Workers.{at_work};
-ghost use Rattle.oracle_search.specs.Searches.{HasKept, IsAtRow, IsWorked, IsBoardFull, AreDone};
-ghost use Rattle.oracle_search.specs.Finished.{IsWithin};
+ghost use Rattle.oracle_search.specs.Searches.{HasKept, HasTurn, IsAtRow, IsWorked, IsBoardFull, IsDone, AreDone};
+ghost use Rattle.oracle_search.specs.Finished.{IsClose, IsLeftBelow, IsWithin};
 
 use crate::ends::Stop;
-use crate::gap::{gap_at, is_within};
+use crate::gap::{gap_at, is_within, linear_left_gap};
 use crate::gate::Gate;
 use crate::growth::{Growth, take_turn};
 use crate::passes::Pass;
 use crate::serial_bounds::bound_state;
 use crate::worker::{Setup, Worker};
 use bounds_board::{BoardFault, Bounds, Row};
-use restricted_game::{ChildRows, StepFault};
+use restricted_game::{ChildRows, Node, StepFault};
 use sim_game::{Game, NoMemory, Side};
 
-/// Makes the pass at the states that this one leads to, and takes one turn here, with all moves held.
+/// Makes the pass at the states that this one leads to, and then here, with all moves held.
 #[cycle(sweep)]
 pub(crate) fn sweep<G: Game, B: Bounds<G>, T: Gate>(
     setup: &Setup<'_, G, T>,
@@ -39,7 +41,9 @@ pub(crate) fn sweep<G: Game, B: Bounds<G>, T: Gate>(
     ensures ended { IfOk result (IsSweepEnd (G.model setup.now.game) s ((G.model setup.now.game).rank s)
         (IsPassDone (G.model setup.now.game) pass.now.is_last (B.view board.new) s)
         (B.view board.new) worker.old worker.new) }
-    ensures turned { result ≡ Ok None → worker.old.turns.spent + 1 ≤ worker.new.turns.spent }
+    ensures turned { result ≡ Ok None → pass.now.is_last ≡ true
+        → (worker.old.turns.spent + 1 ≤ worker.new.turns.spent)
+        ⊎ IsWithin (B.view board.new) ((G.model setup.now.game).key s) (pos 0) }
 {
     let mut growth = match Growth::full(setup, s) {
         Ok(growth) => growth,
@@ -50,8 +54,9 @@ pub(crate) fn sweep<G: Game, B: Bounds<G>, T: Gate>(
         Ok(Some(stop)) => return Ok(Some(stop)),
         Err(_) => return Err(NoMemory),
     }
-    match take_turn(setup, s, row, &mut growth, worker, board) {
-        Ok(_) => match worker.pass(setup.game.key(s)) {
+    match close_in(setup, pass, s, row, &mut growth, worker, board) {
+        Ok(false) => Ok(None),
+        Ok(true) => match worker.pass(setup.game.key(s)) {
             Ok(()) => Ok(None),
             Err(_) => Err(NoMemory),
         },
@@ -61,6 +66,54 @@ pub(crate) fn sweep<G: Game, B: Bounds<G>, T: Gate>(
             Ok(Some(Stop::Full))
         }
         Err(StepFault::NoMemory) => Err(NoMemory),
+    }
+}
+
+/// Posts the best pure plans of both sides over the states after all moves, where these bring the gap to what the pass
+/// wants, and takes a turn otherwise. The answer is whether it took one.
+fn close_in<G: Game, B: Bounds<G>, T: Gate>(
+    setup: &Setup<'_, G, T>,
+    pass: &Pass,
+    s: G::State,
+    row: Row,
+    growth: &mut Growth,
+    worker: &mut Worker,
+    board: &mut B,
+) -> Result<bool, StepFault>
+    requires here { IsAtRow (G.model setup.now.game) setup.now.game s row (at_work (B.view board.old) worker.old) }
+    requires held { IsFullHeld (G.model setup.now.game) s growth.old.held }
+    requires children { AreChildRows (G.model setup.now.game) (B.view board.old) s growth.old.children }
+    ensures worked { IsWorked (G.model setup.now.game) s
+        (at_work (B.view board.old) worker.old) (at_work (B.view board.new) worker.new) }
+    ensures same { worker.new ≡ record worker.old { turns = worker.new.turns } }
+    ensures close { IfOk result (λ has_turned. IsTrue has_turned
+        → AreAllDone (G.model setup.now.game) (B.view board.old) s
+        → IsClose (G.model setup.now.game) (B.view board.new).total (B.view board.new) s) }
+    ensures turn { IfOk result (λ has_turned. IsTrue has_turned → HasTurn worker.old.turns worker.new.turns) }
+    ensures pure { IfOk result (λ has_turned. IsFalse has_turned → (worker.new.turns ≡ worker.old.turns)
+        × (pass.now.is_last ≡ true → IsWithin (B.view board.new) ((G.model setup.now.game).key s) (pos 0))) }
+    ensures spent { result ≡ Err StepFault.Spent
+        → (left_of worker.old.turns ≡ 0) × (worker.new.turns ≡ worker.old.turns) }
+    ensures full { result ≡ Err StepFault.Full → IsBoardFull (G.model setup.now.game) s (B.view board.new) }
+{
+    let g = setup.game;
+    let node = Node { state: s, row };
+    let goal = pass.goal_at(g.rank(s));
+    match growth
+        .held
+        .post_alone(g, node, goal, &mut growth.children, board)
+    {
+        Ok(()) => {
+            if is_within(g, s, row, goal, board) {
+                return Ok(false);
+            }
+            match take_turn(setup, s, row, growth, worker, board) {
+                Ok(_) => Ok(true),
+                Err(fault) => Err(fault),
+            }
+        }
+        Err(BoardFault::Full) => Err(StepFault::Full),
+        Err(BoardFault::NoMemory) => Err(StepFault::NoMemory),
     }
 }
 
@@ -86,9 +139,7 @@ fn sweep_children<G: Game, B: Bounds<G>, T: Gate>(
     ensures swept { HasSwept (G.model setup.now.game) pass.now.is_last s ((G.model setup.now.game).rank s)
         (B.view board.old) (B.view board.new) worker.old worker.new }
     ensures ended { IfOk result (IsSweepEnd (G.model setup.now.game) s ((G.model setup.now.game).rank s - 1)
-        (pass.now.is_last ≡ true → (one two : ℕ) → one < (G.model setup.now.game).moves Side.One s
-        → two < (G.model setup.now.game).moves Side.Two s
-        → AreDone (G.model setup.now.game) (B.view board.new) s one two)
+        (pass.now.is_last ≡ true → AreAllDone (G.model setup.now.game) (B.view board.new) s)
         (B.view board.new) worker.old worker.new) }
 {
     let cols = setup.game.moves(Side::Two, s);
@@ -203,7 +254,8 @@ fn sweep_child<G: Game, B: Bounds<G>, T: Gate>(
     }
 }
 
-/// Whether the gap at a state is at most what the pass wants of it, after serial searches where these may help.
+/// Whether the gap at a state is at most what the pass wants of it, after serial searches where these may help. With
+/// other workers on the board the last pass leaves a state whose gap is small, whoever has made it so.
 fn is_enough<G: Game, B: Bounds<G>, T: Gate>(
     setup: &Setup<'_, G, T>,
     pass: &Pass,
@@ -218,10 +270,10 @@ fn is_enough<G: Game, B: Bounds<G>, T: Gate>(
     ensures same { worker.new ≡ record worker.old { visits = worker.new.visits; searches = worker.new.searches } }
     ensures full { result ≡ Err BoardFault.Full → IsBoardFull (G.model setup.now.game) s (B.view board.new) }
     ensures last { pass.now.is_last ≡ true → IfOk result (λ is_enough. IsTrue is_enough
-        → IsWithin (B.view board.new) ((G.model setup.now.game).key s) (pos 0)) }
+        → IsDone (G.model setup.now.game) (B.view board.new) s) }
 {
     let g = setup.game;
-    let goal = pass.goal_at(g.rank(s));
+    let goal = wanted_gap(setup, pass, s, board.total());
     if is_within(g, s, row, goal, board) {
         return Ok(true);
     }
@@ -236,5 +288,26 @@ fn is_enough<G: Game, B: Bounds<G>, T: Gate>(
     match worker.note_bounds(g.key(s), gap == 0) {
         Ok(()) => Ok(gap <= goal),
         Err(_) => Err(BoardFault::NoMemory),
+    }
+}
+
+/// The gap that the pass wants at a state below the one that was asked for.
+fn wanted_gap<G: Game, T: Gate>(
+    setup: &Setup<'_, G, T>,
+    pass: &Pass,
+    s: G::State,
+    total: u32,
+) -> i64
+    requires reachable { Reachable (G.model setup.now.game) s }
+    requires goes_on { 1 ≤ (G.model setup.now.game).rank s }
+    requires low { 8192 ≤ total }
+    requires high { total ≤ 1048576 }
+    ensures least { pos 0 ≤ℤ result }
+    ensures last { pass.now.is_last ≡ true → IsLeftBelow (G.model setup.now.game) total s result }
+{
+    if setup.has_others && pass.is_last {
+        linear_left_gap(setup.game, s, total)
+    } else {
+        pass.goal_at(setup.game.rank(s))
     }
 }

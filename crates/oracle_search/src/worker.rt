@@ -22,6 +22,8 @@ pub struct Setup<'a, G: Game, T: Gate> {
     pub game: G,
     /// The worker's number, which says with which moves it begins.
     pub worker: u32,
+    /// Whether other workers search on the same board.
+    pub has_others: bool,
     pub gate: &'a T,
 }
 
@@ -200,7 +202,7 @@ impl Worker {
 
     /// Whether a state may be left to another worker: it is below the state that was asked for, another worker has
     /// searched it, and no search of this worker has stopped half-way, since a turn is left and no board was full.
-    /// With linear stages none is left: their gaps are far narrower than those at which a state of regret matching is.
+    /// With linear stages the passes say what is left, at far narrower gaps.
     pub(crate) fn may_leave(&self, is_below: bool, is_ahead: bool) -> bool
         ensures { IsTrue result → (IsTrue is_below) × (IsTrue is_ahead)
             × (1 ≤ left_of self.now.turns) × (self.now.settled.was_full ≡ false) }

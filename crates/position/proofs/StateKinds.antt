@@ -9,11 +9,8 @@ use Rattle.serde_json.specs.View.{view, items_view}
 use Rattle.serde_json.specs.declared.value.Value.{Value}
 use Rattle.table.specs.Nested.{Follows, Draws, End, Rows}
 use Rattle.position.specs.Objects.{list_of, is_whole}
+use Rattle.position.proofs.ValueLemmas.{list_of_items}
 use Rattle.position.specs.States.{elements_of, is_list_of, whole_of, draw_form_of, cell_form_of, row_form_of, state_form_of}
-
-list_of_items : (vs : List Value) → list_of (items_view vs) ≡ map view vs
-list_of_items [] = refl
-list_of_items (v ∷ vs) = ap (λ (ds : List Data). view v ∷ ds) (list_of_items vs)
 
 pub elements_some : (vs : List Value) (d : Data) → Some (items_view vs) ≡ as_array d → map view vs ≡ elements_of d
 elements_some vs d is = sym (list_of_items vs) ∙ ap (λ (o : Option Items). unwrap_or (option_map list_of o) []) is

@@ -102,12 +102,13 @@ fault_of (texts.Table ranks moves values cells draws) = option_map errors.Table 
 
 -- the game is of the same kind, and its setting is that of the position
 abbrev pub IsGameOf : PositionText → AnyGame → Type 0
-IsGameOf (texts.Goofspiel one two prizes score pay) game = (g : GoofspielGame) × (game ≡ Goofspiel g) × goofspiel.IsSettingOf one two prizes score pay g.setting
-IsGameOf (texts.OshiZumo size one two least place) game = (g : OshiZumoGame) × (game ≡ OshiZumo g) × oshi_zumo.IsSettingOf size one two least place g.setting
-IsGameOf (texts.Tron height width walls one two) game = (g : TronGame) × (game ≡ Tron g) × tron.IsSettingOf height width walls one two g.setting
-IsGameOf (texts.GoofspielDrawn one two prizes score pay) game = (g : DrawnGame) × (game ≡ GoofspielDrawn g) × goofspiel.IsSettingOf one two prizes score pay g.setting
-IsGameOf (texts.Pursuit nodes edges one two rounds) game = (g : PursuitGame) × (game ≡ Pursuit g) × pursuit.IsSettingOf nodes edges one two rounds g.setting
-IsGameOf (texts.Table ranks moves values cells draws) game = (g : TableGame) × (game ≡ Table g) × IsSettingOf ranks moves values cells draws g.setting
+IsGameOf (texts.Goofspiel one two prizes score pay) (Goofspiel g) = goofspiel.IsSettingOf one two prizes score pay g.setting
+IsGameOf (texts.OshiZumo size one two least place) (OshiZumo g) = oshi_zumo.IsSettingOf size one two least place g.setting
+IsGameOf (texts.Tron height width walls one two) (Tron g) = tron.IsSettingOf height width walls one two g.setting
+IsGameOf (texts.GoofspielDrawn one two prizes score pay) (GoofspielDrawn g) = goofspiel.IsSettingOf one two prizes score pay g.setting
+IsGameOf (texts.Pursuit nodes edges one two rounds) (Pursuit g) = pursuit.IsSettingOf nodes edges one two rounds g.setting
+IsGameOf (texts.Table ranks moves values cells draws) (Table g) = IsSettingOf ranks moves values cells draws g.setting
+IsGameOf text game = ⊥
 
 -- ---- its model
 -- the states of the game

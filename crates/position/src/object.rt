@@ -13,6 +13,7 @@ ghost use Rattle.position.specs.Objects.{Gives, member_at, whole_at, between, te
 use crate::{Field, InputError};
 use certificate::{
     ASK, ASKED, Absent, AskRow, FIELDS, FieldKind, FieldRow, GameKind, Value as FieldValue,
+    each_asked,
 };
 use seq::Seq;
 use serde_json::{Category, Map, Value};
@@ -263,13 +264,5 @@ pub(crate) fn all_asked(alloc: Global, object: &Value) -> Result<[FieldValue; AS
     ensures exact { Gives (λ vs. vs) result (all_asked_at ASK (view object.now)) }
     ensures fits { IfOk result (AllFit asked_kinds) }
 {
-    let [a, b, c, d, e, f, g] = ASK;
-    let a = asked(alloc, a, object)?;
-    let b = asked(alloc, b, object)?;
-    let c = asked(alloc, c, object)?;
-    let d = asked(alloc, d, object)?;
-    let e = asked(alloc, e, object)?;
-    let f = asked(alloc, f, object)?;
-    let g = asked(alloc, g, object)?;
-    Ok([a, b, c, d, e, f, g])
+    Ok(each_asked!(row => asked(alloc, row, object)?))
 }

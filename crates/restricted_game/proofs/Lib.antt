@@ -1,3 +1,4 @@
+pub mod AloneLemmas
 pub mod CellLemmas
 pub mod ChildLemmas
 pub mod EndLemmas

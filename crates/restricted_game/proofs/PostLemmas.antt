@@ -1,6 +1,6 @@
 -- Entries that may be posted, and lists of entries that grow.
 use Rattle.std.proofs.Common.{◌≡◌, ℕ, List, [], ◌∷◌, ◌++◌, sym, ap, subst, ◌∙◌, append_assoc, append-nil}
-use Rattle.std.proofs.lemmas.List.Elements.{All-nil, All-cons, All-append}
+use Rattle.std.proofs.lemmas.List.Elements.{All-nil, All-cons, All-append, All-weaker}
 use Rattle.sim_game.specs.Model.{GameModel}
 use Rattle.plan_book.specs.declared.Entry.{Entry}
 use Rattle.plan_book.specs.Entries.{IsEntry, IsLawfulEntry}
@@ -17,12 +17,15 @@ grows_none P xs ys e = record { more = []; joins = e ∙ sym (append-nil xs); ea
 pub grows_one : (P : Entry → Type 0) (xs ys : List Entry) (e : Entry) → P e → ys ≡ xs ++ e ∷ [] → Grows P xs ys
 grows_one P xs ys e h joins = record { more = e ∷ []; joins = joins; each = All-cons P e [] h (All-nil P) }
 
-grows_after : (P : Entry → Type 0) (xs ys zs : List Entry) → Grows P xs ys → Grows P ys zs → Grows P xs zs
+pub grows_after : (P : Entry → Type 0) (xs ys zs : List Entry) → Grows P xs ys → Grows P ys zs → Grows P xs zs
 grows_after P xs ys zs p q = record {
   more = p.more ++ q.more;
   joins = q.joins ∙ ap (λ (l : List Entry). l ++ q.more) p.joins ∙ append_assoc xs p.more q.more;
   each = All-append P p.more q.more p.each q.each;
 }
+
+pub grows_weaker : (P Q : Entry → Type 0) (xs ys : List Entry) → ((e : Entry) → P e → Q e) → Grows P xs ys → Grows Q xs ys
+grows_weaker P Q xs ys f p = record { more = p.more; joins = p.joins; each = All-weaker P Q f p.more p.each }
 
 pub postable_later : {S G N : Type 0} (m : GameModel S) (u v : BoardView G N) (e : Entry) → IsLater u v → IsPostable m u e → IsPostable m v e
 postable_later m u v e later h =

@@ -73,7 +73,7 @@ module _ {S G N : Type 0} (m : GameModel S) (game : IsGame m) (s : S) (reach : R
   bound_high : IsNoTighter side bound (opening_bound m (other_side side))
   bound_high = backed_within m game side s bound reach (by_step s bound total plan numbers plan_step (λ move other draw p q t w. (weighted_read move other draw p q t w).backed))
 
-  plan_postable : v.total ≡ total → IsPostable m v (entry_at m side s bound plan (reads_of m side s plan numbers))
+  pub plan_postable : v.total ≡ total → IsPostable m v (entry_at m side s bound plan (reads_of m side s plan numbers))
   plan_postable is_total = let range = in_range m side bound bound_low bound_high in record {
     state = s;
     reachable = reach;

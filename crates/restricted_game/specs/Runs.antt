@@ -8,7 +8,8 @@ use Rattle.sim_game.specs.declared.Side.TheVariants.{One, Two}
 use Rattle.sim_game.specs.Model.{GameModel}
 use Rattle.sim_game.specs.Sides.{other_side, IsNoTighter, IsTighter, quotient, draws_of, child_of}
 use Rattle.plan_book.specs.declared.Entry.{Entry}
-use Rattle.plan_book.specs.Entries.{reads_of}
+use Rattle.plan_book.specs.Entries.{IsLawfulEntry, reads_of}
+use Rattle.plan_book.specs.Plans.{one_move}
 use Rattle.plan_book.specs.Steps.{cell, worth}
 use Rattle.matrix_game.specs.declared.solver.StageSolver.{StageSolver}
 use Rattle.matrix_game.specs.Grid.{Grid, cell_at, row_floor, col_ceiling}
@@ -65,6 +66,12 @@ pub record IsSideRun {S G N : Type 0} (m : GameModel S) (u v : BoardView G N) (s
 -- ---- posts
 abbrev pub entry_at : {S : Type 0} → GameModel S → Side → S → ℤ → List ℕ → List ℤ → Entry
 entry_at m side s bound weights reads = record { key = m.key s; side = side; bound = bound; weights = weights; reads = reads }
+
+-- a lawful entry whose weights stand on one move
+pub record IsOneMoveEntry {S : Type 0} (m : GameModel S) (total : ℕ) (e : Entry) : Type 0 where
+  pub lawful : IsLawfulEntry m total e
+  pub place : ℕ
+  pub one : e.weights ≡ one_move total (length e.weights) place
 
 -- an entry that is tighter than what an earlier view had seen was posted, or nothing was
 pub data IsPosted {G N : Type 0} (u : BoardView G N) (e : Entry) (old new : List Entry) : Type 0 where

@@ -1,7 +1,7 @@
 -- Tables of what a step reads, one place a draw, pair of moves by pair of moves, row by row; and lists that are made from them.
-use Rattle.std.specs.Prelude.{◌≡◌, Bool, ℕ, ◌+◌, ◌*◌, ◌/◌, ◌%◌, ◌<◌, ◌≤◌, ℤ, pos, ◌*ℤ◌, List, length, map, slice_index, slice_index_or}
+use Rattle.std.specs.Prelude.{◌≡◌, Bool, ℕ, ◌+◌, ◌*◌, ◌/◌, ◌%◌, ◌<◌, ◌≤◌, ℤ, pos, ◌*ℤ◌, List, [], ◌∷◌, length, map, slice_index, slice_index_or}
 use Rattle.std.specs.Bool.{then_some}
-use Rattle.std.specs.List.{range_with_len}
+use Rattle.std.specs.List.{Contains, range_with_len}
 use Rattle.sums.specs.Sums.{sum_below}
 use Rattle.sim_game.specs.declared.Side.{Side}
 use Rattle.sim_game.specs.declared.Side.TheVariants.{One, Two}
@@ -116,3 +116,9 @@ pub record ArePosted {S G N : Type 0} (m : GameModel S) (u v : BoardView G N) (s
   pub two_posted : IsPosted u (side_entry m Two s table plans.two) between v.entries
   pub one_seen : IsNoTighter One plans.one.bound (v.seen One (m.key s))
   pub two_seen : IsNoTighter Two plans.two.bound (v.seen Two (m.key s))
+
+-- a side's plan over the numbers of a table that puts all weight on one of its held moves
+pub record IsAlone {S : Type 0} (m : GameModel S) (side : Side) (s : S) (total : ℕ) (own others : List ℕ) (table : Table) (plan : SidePlan) : Type 0 where
+  pub place : ℕ
+  pub held : Contains own place
+  pub planned : IsPlan m side s total (place ∷ []) others (total ∷ []) (numbers_in side table) plan.weights.items plan.bound plan.fresh

@@ -10,8 +10,8 @@ use sim_game::{CHANCE, Game, NoMemory, Side};
 use std::alloc::Global;
 use sums::weighted;
 
-/// The cell of a side at a pair of moves, in millionths: the mean of its numbers at the draws, rounded so that it says no
-/// more for the side.
+/// The cell of a side at a pair of moves, in millionths: the mean of its numbers at the draws, rounded so that it says
+/// no more for the side.
 fn pair_cell<G: Game>(g: G, s: G::State, side: Side, one: u32, two: u32, table: &Table) -> i64
     requires reachable { Reachable (G.model g) s }
     requires shape { HasShape (G.model g) s table.now }

@@ -12,11 +12,13 @@ ghost use Rattle.restricted_game.specs.Children.{AreChildRows};
 ghost use Rattle.restricted_game.specs.Held.{AreMoves, HoldsAll, HasGrown, IsGrown, held_after, with_move};
 ghost use Rattle.restricted_game.specs.Gaps.{HasStepGap};
 ghost use Rattle.restricted_game.specs.Numbers.{IsReadChild};
-ghost use Rattle.restricted_game.specs.Runs.{IsStepEnd};
+ghost use Rattle.restricted_game.specs.Runs.{IsOneMoveEntry, IsStepEnd};
 ghost use Rattle.restricted_game.specs.Turns.{TakesStepTurn};
 
+use crate::alone::plan_alone;
 use crate::children::ChildRows;
 use crate::node::Node;
+use crate::plans::Plans;
 use crate::posts::post_both;
 use crate::reading::read_table;
 use bounds_board::{BoardFault, Bounds};
@@ -78,8 +80,8 @@ impl Model for Restricted {
 }
 
 impl Restricted {
-    /// Holds one move of each side, of `rows` moves of One and `cols` of Two. Room for all of them is taken here, so that
-    /// to hold another move takes no memory.
+    /// Holds one move of each side, of `rows` moves of One and `cols` of Two. Room for all of them is taken here, so
+    /// that to hold another move takes no memory.
     pub fn new(
         alloc: Global,
         rows: u32,
@@ -151,12 +153,12 @@ impl Restricted {
         self.cols.as_slice()
     }
 
-    /// Reads the states after held moves, solves the game on the held moves for one turn, posts what the weights of each
-    /// side prove against all replies, and holds the best replies that were not held.
+    /// Reads the states after held moves, solves the game on the held moves for one turn, posts what the weights of
+    /// each side prove against all replies, and holds the best replies that were not held.
     ///
-    /// The state is one that is no end, and has as many moves of each side as this game was made for; the row is its own,
-    /// and `children` keeps the rows of the states that it reads. `Spent` comes where no turn is left, before all else;
-    /// `Full` where the claim of a child found the board full.
+    /// The state is one that is no end, and has as many moves of each side as this game was made for; the row is its
+    /// own, and `children` keeps the rows of the states that it reads. `Spent` comes where no turn is left, before all
+    /// else; `Full` where the claim of a child found the board full.
     pub fn step<G: Game, B: Bounds<G>>(
         &mut self,
         g: G,
@@ -226,6 +228,60 @@ impl Restricted {
             row: fresh_row,
             col: fresh_col,
         })
+    }
+
+    /// Posts what one held move of each side proves alone against all replies, that which proves most, where this and
+    /// what is known bring the gap at the state to at most the goal, in millionths. It takes no turn; the rest is as in
+    /// `step`.
+    pub fn post_alone<G: Game, B: Bounds<G>>(
+        &self,
+        g: G,
+        node: Node<G::State>,
+        goal: i64,
+        children: &mut ChildRows,
+        board: &mut B,
+    ) -> Result<(), BoardFault>
+        requires game { (B.view board.old).game ≡ g }
+        requires reachable { Reachable (G.model g) node.state }
+        requires goes_on { 1 ≤ (G.model g).rank node.state }
+        requires row { (B.view board.old).key_at node.row ≡ Some ((G.model g).key node.state) }
+        requires rows { self.now.most_rows ≡ (G.model g).moves Side.One node.state }
+        requires cols { self.now.most_cols ≡ (G.model g).moves Side.Two node.state }
+        requires children { AreChildRows (G.model g) (B.view board.old) node.state children.old }
+        ensures later { IsLater (B.view board.old) (B.view board.new) }
+        ensures posted { Grows (IsOneMoveEntry (G.model g) (B.view board.old).total)
+            (B.view board.old).entries (B.view board.new).entries }
+        ensures children { AreChildRows (G.model g) (B.view board.new) node.state children.new }
+        ensures full { result ≡ Err BoardFault.Full → WasFull (G.model g) (B.view board.new)
+            (IsReadChild (G.model g) node.state self.now.rows self.now.cols) }
+    {
+        let alloc = *self.rows.allocator();
+        let s = node.state;
+        let rows = self.rows();
+        let cols = self.cols();
+        let total = board.total();
+        let table = match read_table(alloc, g, s, rows, cols, children, board) {
+            Ok(table) => table,
+            Err(BoardFault::Full) => return Err(BoardFault::Full),
+            Err(BoardFault::NoMemory) => return Err(BoardFault::NoMemory),
+        };
+        let one = match plan_alone(g, s, Side::One, total, &table, rows, cols) {
+            Ok(plan) => plan,
+            Err(_) => return Err(BoardFault::NoMemory),
+        };
+        let two = match plan_alone(g, s, Side::Two, total, &table, cols, rows) {
+            Ok(plan) => plan,
+            Err(_) => return Err(BoardFault::NoMemory),
+        };
+        let known = board.read(node.row);
+        let lower = known.lower.max(one.bound);
+        if known.upper.min(two.bound).saturating_sub(lower) > goal {
+            return Ok(());
+        }
+        match post_both(alloc, g, node, &table, Plans { one, two }, board) {
+            Ok(()) => Ok(()),
+            Err(_) => Err(BoardFault::NoMemory),
+        }
     }
 }
 

@@ -3,6 +3,7 @@
 
 ghost use Rattle.restricted_game.specs.Held.{FewSteps};
 
+mod alone;
 mod cells;
 mod children;
 mod held;

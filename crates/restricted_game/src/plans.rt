@@ -60,7 +60,7 @@ pub(crate) struct SidePlan {
 }
 
 /// Plans by the weights of the held moves, over the cells of the side.
-fn plan_side(
+pub(crate) fn plan_side(
     alloc: Global,
     side: Side,
     total: u32,
@@ -94,8 +94,8 @@ pub(crate) struct Plans {
 }
 
 impl Restricted {
-    /// Plans for both sides over what was read, by the weights that solve the game on the held moves: for one turn, which
-    /// out of memory may take as well.
+    /// Plans for both sides over what was read, by the weights that solve the game on the held moves: for one turn,
+    /// which out of memory may take as well.
     pub(crate) fn plan<G: Game>(
         &self,
         g: G,

@@ -1,5 +1,5 @@
 //! Posts of what the plans prove.
-ghost use Rattle.std.specs.Prelude.{◌≡◌, Some, IfOk, OnOk, length};
+ghost use Rattle.std.specs.Prelude.{◌≡◌, ◌⊎◌, Some, IfOk, OnOk, length};
 ghost use Rattle.sim_game.specs.Model.{Reachable};
 ghost use Rattle.sim_game.specs.Sides.{IsNoTighter};
 ghost use Rattle.plan_book.specs.Books.{Grows};
@@ -63,6 +63,8 @@ fn post_plan<G: Game, B: Bounds<G>>(
         (B.view board.old).entries (B.view board.new).entries }
     ensures posted { OnOk result (IsPosted (B.view board.old) (side_entry (G.model g) side node.state table.now plan)
         (B.view board.old).entries (B.view board.new).entries) }
+    ensures only { Grows (λ e. e ≡ side_entry (G.model g) side node.state table.now plan)
+        (B.view board.old).entries (B.view board.new).entries }
     ensures seen { OnOk result (IsNoTighter side plan.bound
         ((B.view board.new).seen side ((G.model g).key node.state))) }
 {
@@ -101,6 +103,9 @@ pub(crate) fn post_both<G: Game, B: Bounds<G>>(
         (B.view board.old).entries (B.view board.new).entries }
     ensures posted { OnOk result (ArePosted (G.model g)
         (B.view board.old) (B.view board.new) node.state table.now plans) }
+    ensures only { Grows (λ e. e ≡ side_entry (G.model g) Side.One node.state table.now plans.one
+        ⊎ e ≡ side_entry (G.model g) Side.Two node.state table.now plans.two)
+        (B.view board.old).entries (B.view board.new).entries }
 {
     let Plans { one, two } = plans;
     post_plan(alloc, g, node, Side::One, table, one, board)?;

@@ -18,7 +18,7 @@ use Rattle.oracle_search.specs.Workers.{WorkerView, at_work, with_key}
 use Rattle.oracle_search.specs.Searches.{HasKept, IsAtRow, IsBoardFull, IsWorked, IsWorkedBelow, TakesAtMost, HasEnded, HasSearched, open_states, IsStop, stop_of, IsStoppedAs, IsEarlyEnd, IsDone, AreDone, HasVisitsBelow, IsPureTight, BoundsByPure, IsLeavable}
 use Rattle.oracle_search.proofs.BetterLemmas.{gap_closed, serial_closed}
 use Rattle.oracle_search.proofs.WorkLemmas.{worked_none, worked_after, full_kept, pure_later, ahead_later, pure_within, within_not_beyond}
-use Rattle.oracle_search.proofs.GrowLemmas.{IsGrowing, taken_none, taken_by, taken_on, same_taken, turned_no_more, done_later, are_done_later, done_within, passed_none, passed_after, stopped_worked, stopped_taken, each_more, done_finished, not_again, added_worked, added_taken, drawn_below, worked_claimed, growing_worked, worked_quiet, worked_full, full_stop, full_taken, ended_close, ended_one, ended_stop, ended_open, stop_kept, stop_under, after_rows, after_cols, growing_none, growing_taken, growing_passed, growing_turn, growing_more, stopped_ends, stopped_open, stopped_unsettled, early_ends, early_reached, ring_contained, pair_inside, close_after}
+use Rattle.oracle_search.proofs.GrowLemmas.{IsGrowing, taken_none, taken_by, taken_on, same_taken, turned_no_more, done_later, are_done_later, done_within, passed_none, passed_after, stopped_worked, stopped_taken, each_more, done_finished, not_again, added_worked, added_taken, drawn_below, worked_claimed, growing_worked, worked_quiet, worked_read, read_after, worked_full, full_stop, full_taken, ended_close, ended_one, ended_stop, ended_open, stop_kept, stop_under, after_rows, after_cols, growing_none, growing_taken, growing_passed, growing_turn, growing_more, stopped_ends, stopped_open, stopped_unsettled, early_ends, early_reached, ring_contained, pair_inside, close_after}
 use Rattle.oracle_search.proofs.+search.Goals as goal
 
 pub children::search_child-returns-in-None-clause-worked : goal.children::search_child-returns-in-None-clause-worked
@@ -90,9 +90,7 @@ children::search_child-returns-in-Ok-add-clause-worked g t c =
     let m = g.G.Game.model c.args.setup.now.game in
     let x = at_work (g.B.Bounds.view c.search_row.new.board) c.search_row.new.worker in
     let worked : IsWorked m c.args.s (at_work (g.B.Bounds.view c.args.board.now) c.args.worker.now) x =
-    worked_after m c.args.s _ _ _ _ _ _ (omega arith) (omega arith)
-    (worked_quiet m c.args.s (m.rank c.args.s) (g.B.Bounds.view c.args.board.now) c.args.worker.now c.requires.kept
-    (g.B.Bounds.view c.gap_at.new.board) c.gap_at.ensures.later c.gap_at.ensures.entries) c.search_row.ensures.worked in
+    worked_read m c.args.s (m.rank c.args.s) _ _ c.args.worker.now _ c.requires.kept c.gap_at.ensures.later c.gap_at.ensures.entries c.search_row.ensures.worked (omega arith) in
     let is_row : IsRowOf m (g.B.Bounds.view c.args.board.now) c.args.s c.in-Some.row = subst (HasRow m (g.B.Bounds.view c.args.board.now) c.args.s) c.in-Some.is c.requires.row in
     let goes_on = is_row.goes_on in
     let is : c.add.new.self ≡ with_key c.search_row.new.worker (m.key c.args.s) = subst (λ (key : ℕ). c.add.new.self ≡ with_key c.search_row.new.worker key) c.key-key.ensures c.in-Ok-add.ensures.ok in
@@ -126,16 +124,12 @@ children::search_child-returns-in-Err-add-clause-worked g t c =
     let m = g.G.Game.model c.args.setup.now.game in
     subst (λ (w : WorkerView). IsWorkedBelow m c.args.s (m.rank c.args.s + 1) (at_work (g.B.Bounds.view c.args.board.now) c.args.worker.now)
     (at_work (g.B.Bounds.view c.search_row.new.board) w)) (sym c.in-Err-add.ensures.err)
-    (worked_after m c.args.s (m.rank c.args.s) (m.rank c.args.s) (m.rank c.args.s + 1) _ _ _ (omega arith) (omega arith)
-    (worked_quiet m c.args.s (m.rank c.args.s) (g.B.Bounds.view c.args.board.now) c.args.worker.now c.requires.kept
-    (g.B.Bounds.view c.gap_at.new.board) c.gap_at.ensures.later c.gap_at.ensures.entries) c.search_row.ensures.worked)
+    (worked_read m c.args.s (m.rank c.args.s + 1) _ _ c.args.worker.now _ c.requires.kept c.gap_at.ensures.later c.gap_at.ensures.entries c.search_row.ensures.worked (omega arith))
 
 pub children::search_child-returns-in-Some-stop-clause-worked : goal.children::search_child-returns-in-Some-stop-clause-worked
 children::search_child-returns-in-Some-stop-clause-worked g t c =
     let m = g.G.Game.model c.args.setup.now.game in
-    worked_after m c.args.s (m.rank c.args.s) (m.rank c.args.s) (m.rank c.args.s + 1) _ _ _ (omega arith) (omega arith)
-    (worked_quiet m c.args.s (m.rank c.args.s) (g.B.Bounds.view c.args.board.now) c.args.worker.now c.requires.kept
-    (g.B.Bounds.view c.gap_at.new.board) c.gap_at.ensures.later c.gap_at.ensures.entries) c.search_row.ensures.worked
+    worked_read m c.args.s (m.rank c.args.s + 1) _ _ c.args.worker.now _ c.requires.kept c.gap_at.ensures.later c.gap_at.ensures.entries c.search_row.ensures.worked (omega arith)
 
 pub children::search_child-returns-in-Some-stop-clause-searched : goal.children::search_child-returns-in-Some-stop-clause-searched
 children::search_child-returns-in-Some-stop-clause-searched g t c =
@@ -151,15 +145,12 @@ children::search_child-returns-in-Some-stop-clause-searched g t c =
 pub children::search_child-returns-in-Err-clause-worked : goal.children::search_child-returns-in-Err-clause-worked
 children::search_child-returns-in-Err-clause-worked g t c =
     let m = g.G.Game.model c.args.setup.now.game in
-    worked_after m c.args.s (m.rank c.args.s) (m.rank c.args.s) (m.rank c.args.s + 1) _ _ _ (omega arith) (omega arith)
-    (worked_quiet m c.args.s (m.rank c.args.s) (g.B.Bounds.view c.args.board.now) c.args.worker.now c.requires.kept
-    (g.B.Bounds.view c.gap_at.new.board) c.gap_at.ensures.later c.gap_at.ensures.entries) c.search_row.ensures.worked
+    worked_read m c.args.s (m.rank c.args.s + 1) _ _ c.args.worker.now _ c.requires.kept c.gap_at.ensures.later c.gap_at.ensures.entries c.search_row.ensures.worked (omega arith)
 
 pub children::search_draws-returns-in-Ok-Some-clause-worked : goal.children::search_draws-returns-in-Ok-Some-clause-worked
 children::search_draws-returns-in-Ok-Some-clause-worked g t c =
     let m = g.G.Game.model c.args.setup.now.game in
-    let count = c.draws-draw-end.ensures in
-    let inside = c.loop-draw-test.true in
+    let count = c.draws-draw-end.ensures in let inside = c.loop-draw-test.true in
     let below = drawn_below m
     (g.met.G.Game.lawful c.args.setup.now.game) c.args.s c.requires.reachable c.args.moves.0 c.args.moves.1 c.loop-draw.draw c.drawn.result c.requires.one c.requires.two
     (omega arith) c.drawn.ensures in let lower = below.1 in
@@ -170,8 +161,7 @@ children::search_draws-returns-in-Ok-Some-clause-worked g t c =
 pub children::search_draws-returns-in-Err-search_child-clause-worked : goal.children::search_draws-returns-in-Err-search_child-clause-worked
 children::search_draws-returns-in-Err-search_child-clause-worked g t c =
     let m = g.G.Game.model c.args.setup.now.game in
-    let count = c.draws-draw-end.ensures in
-    let inside = c.loop-draw-test.true in
+    let count = c.draws-draw-end.ensures in let inside = c.loop-draw-test.true in
     let below = drawn_below m
     (g.met.G.Game.lawful c.args.setup.now.game) c.args.s c.requires.reachable c.args.moves.0 c.args.moves.1 c.loop-draw.draw c.drawn.result c.requires.one c.requires.two
     (omega arith) c.drawn.ensures in let lower = below.1 in
@@ -182,8 +172,7 @@ children::search_draws-returns-in-Err-search_child-clause-worked g t c =
 pub children::search_draws-returns-in-Ok-Some-clause-searched : goal.children::search_draws-returns-in-Ok-Some-clause-searched
 children::search_draws-returns-in-Ok-Some-clause-searched g t c =
     let m = g.G.Game.model c.args.setup.now.game in
-    let count = c.draws-draw-end.ensures in
-    let inside = c.loop-draw-test.true in
+    let count = c.draws-draw-end.ensures in let inside = c.loop-draw-test.true in
     let below = drawn_below m
     (g.met.G.Game.lawful c.args.setup.now.game) c.args.s c.requires.reachable c.args.moves.0 c.args.moves.1 c.loop-draw.draw c.drawn.result c.requires.one c.requires.two
     (omega arith) c.drawn.ensures in let lower = below.1 in
@@ -213,8 +202,7 @@ pub children::search_draws-returns-in-Err-clause-worked : goal.children::search_
 children::search_draws-returns-in-Err-clause-worked g t c =
     let m = g.G.Game.model c.args.setup.now.game in
     let child = m.drawn c.args.s c.args.moves.0 c.args.moves.1 c.loop-draw.draw in
-    let count = c.draws-draw-end.ensures in
-    let inside = c.loop-draw-test.true in
+    let count = c.draws-draw-end.ensures in let inside = c.loop-draw-test.true in
     let below = drawn_below m
     (g.met.G.Game.lawful c.args.setup.now.game) c.args.s c.requires.reachable c.args.moves.0 c.args.moves.1 c.loop-draw.draw child c.requires.one c.requires.two
     (omega arith) refl in
@@ -227,8 +215,7 @@ pub children::search_draws-returns-in-Err-clause-searched : goal.children::searc
 children::search_draws-returns-in-Err-clause-searched g t c =
     let m = g.G.Game.model c.args.setup.now.game in
     let child = m.drawn c.args.s c.args.moves.0 c.args.moves.1 c.loop-draw.draw in
-    let count = c.draws-draw-end.ensures in
-    let inside = c.loop-draw-test.true in
+    let count = c.draws-draw-end.ensures in let inside = c.loop-draw-test.true in
     let below = drawn_below m
     (g.met.G.Game.lawful c.args.setup.now.game) c.args.s c.requires.reachable c.args.moves.0 c.args.moves.1 c.loop-draw.draw child c.requires.one c.requires.two
     (omega arith) refl in
@@ -244,8 +231,7 @@ children::search_draws-returns-in-Err-search_child-clause-children g t c = child
 pub children::search_draws-search_child-requires : goal.children::search_draws-search_child-requires
 children::search_draws-search_child-requires g t c =
     let m = g.G.Game.model c.args.setup.now.game in
-    let count = c.draws-draw-end.ensures in
-    let inside = c.loop-draw-test.true in
+    let count = c.draws-draw-end.ensures in let inside = c.loop-draw-test.true in
     let below = drawn_below m
     (g.met.G.Game.lawful c.args.setup.now.game) c.args.s c.requires.reachable c.args.moves.0 c.args.moves.1 c.loop-draw.draw c.drawn.result c.requires.one c.requires.two
     (omega arith) c.drawn.ensures in let lower = below.1 in
@@ -261,8 +247,7 @@ children::search_draws-search_child-requires g t c =
 pub children::search_draws-loop-draw-preserved : goal.children::search_draws-loop-draw-preserved
 children::search_draws-loop-draw-preserved g t c =
     let m = g.G.Game.model c.args.setup.now.game in
-    let count = c.draws-draw-end.ensures in
-    let inside = c.loop-draw-test.true in
+    let count = c.draws-draw-end.ensures in let inside = c.loop-draw-test.true in
     let below = drawn_below m
     (g.met.G.Game.lawful c.args.setup.now.game) c.args.s c.requires.reachable c.args.moves.0 c.args.moves.1 c.loop-draw.draw c.drawn.result c.requires.one c.requires.two
     (omega arith) c.drawn.ensures in let lower = below.1 in
@@ -397,13 +382,8 @@ pub state::search_row-returns-in-Some-clause-worked : goal.state::search_row-ret
 state::search_row-returns-in-Some-clause-worked g t c =
     let m = g.G.Game.model c.args.setup.now.game in
     let both : IsWorked m c.args.s (at_work (g.B.Bounds.view c.args.board.now) c.args.worker.now) (at_work (g.B.Bounds.view c.bound_state.new.board) c.bound_state.new.worker) =
-    worked_after m c.args.s _ _ _ _ _ _ (omega arith) (omega arith)
-    (worked_quiet m c.args.s (m.rank c.args.s) (g.B.Bounds.view c.args.board.now) c.args.worker.now c.requires.here.kept
-    (g.B.Bounds.view c.gap_at.new.board) c.gap_at.ensures.later c.gap_at.ensures.entries) c.bound_state.ensures.worked in
-    let read = worked_quiet m c.args.s (m.rank c.args.s)
-    (g.B.Bounds.view c.bound_state.new.board) c.bound_state.new.worker c.bound_state.ensures.worked.kept
-    (g.B.Bounds.view c.ended_early.new.board) c.ended_early.ensures.later c.ended_early.ensures.entries in
-    worked_after m c.args.s _ _ _ _ _ _ (omega arith) (omega arith) both read
+    worked_read m c.args.s (m.rank c.args.s) _ _ c.args.worker.now _ c.requires.here.kept c.gap_at.ensures.later c.gap_at.ensures.entries c.bound_state.ensures.worked (omega arith) in
+    read_after m c.args.s _ _ _ c.bound_state.new.worker both c.ended_early.ensures.later c.ended_early.ensures.entries
 
 pub state::search_row-returns-in-Some-clause-ended : goal.state::search_row-returns-in-Some-clause-ended
 state::search_row-returns-in-Some-clause-ended g t c =
@@ -471,9 +451,7 @@ pub state::search_row-returns-in-Err-Full-clause-worked : goal.state::search_row
 state::search_row-returns-in-Err-Full-clause-worked g t c =
     let m = g.G.Game.model c.args.setup.now.game in
     let both : IsWorked m c.args.s (at_work (g.B.Bounds.view c.args.board.now) c.args.worker.now) (at_work (g.B.Bounds.view c.bound_state.new.board) c.bound_state.new.worker) =
-    worked_after m c.args.s _ _ _ _ _ _ (omega arith) (omega arith)
-    (worked_quiet m c.args.s (m.rank c.args.s) (g.B.Bounds.view c.args.board.now) c.args.worker.now c.requires.here.kept
-    (g.B.Bounds.view c.gap_at.new.board) c.gap_at.ensures.later c.gap_at.ensures.entries) c.bound_state.ensures.worked in
+    worked_read m c.args.s (m.rank c.args.s) _ _ c.args.worker.now _ c.requires.here.kept c.gap_at.ensures.later c.gap_at.ensures.entries c.bound_state.ensures.worked (omega arith) in
     let was : IsBoardFull m c.args.s (g.B.Bounds.view c.stopped.new.board) =
     full_kept m c.args.s (g.B.Bounds.view c.bound_state.new.board) (g.B.Bounds.view c.stopped.new.board) c.stopped.ensures.later
     (c.bound_state.ensures.full (c.in-Err-Full.is ∙ ap Err c.in-Err-Full.field-0-is)) in
@@ -514,13 +492,9 @@ pub state::search_row-returns-in-None-clause-worked : goal.state::search_row-ret
 state::search_row-returns-in-None-clause-worked g t c =
     let m = g.G.Game.model c.args.setup.now.game in
     let both : IsWorked m c.args.s (at_work (g.B.Bounds.view c.args.board.now) c.args.worker.now) (at_work (g.B.Bounds.view c.bound_state.new.board) c.bound_state.new.worker) =
+    worked_read m c.args.s (m.rank c.args.s) _ _ c.args.worker.now _ c.requires.here.kept c.gap_at.ensures.later c.gap_at.ensures.entries c.bound_state.ensures.worked (omega arith) in
     worked_after m c.args.s _ _ _ _ _ _ (omega arith) (omega arith)
-    (worked_quiet m c.args.s (m.rank c.args.s) (g.B.Bounds.view c.args.board.now) c.args.worker.now c.requires.here.kept
-    (g.B.Bounds.view c.gap_at.new.board) c.gap_at.ensures.later c.gap_at.ensures.entries) c.bound_state.ensures.worked in
-    let read = worked_quiet m c.args.s (m.rank c.args.s)
-    (g.B.Bounds.view c.bound_state.new.board) c.bound_state.new.worker c.bound_state.ensures.worked.kept
-    (g.B.Bounds.view c.ended_early.new.board) c.ended_early.ensures.later c.ended_early.ensures.entries in
-    worked_after m c.args.s _ _ _ _ _ _ (omega arith) (omega arith) both (worked_after m c.args.s _ _ (m.rank c.args.s) _ _ _ (omega arith) (omega arith) read c.grow.ensures.worked)
+    (read_after m c.args.s _ _ _ c.bound_state.new.worker both c.ended_early.ensures.later c.ended_early.ensures.entries) c.grow.ensures.worked
 
 pub state::search_row-returns-in-None-clause-ended : goal.state::search_row-returns-in-None-clause-ended
 state::search_row-returns-in-None-clause-ended g t c =
@@ -563,11 +537,7 @@ state::search_row-returns-in-None-clause-left g t c =
 pub state::search_row-returns-in-Err-NoMemory-clause-worked : goal.state::search_row-returns-in-Err-NoMemory-clause-worked
 state::search_row-returns-in-Err-NoMemory-clause-worked g t c =
     let m = g.G.Game.model c.args.setup.now.game in
-    let both : IsWorked m c.args.s (at_work (g.B.Bounds.view c.args.board.now) c.args.worker.now) (at_work (g.B.Bounds.view c.bound_state.new.board) c.bound_state.new.worker) =
-    worked_after m c.args.s _ _ _ _ _ _ (omega arith) (omega arith)
-    (worked_quiet m c.args.s (m.rank c.args.s) (g.B.Bounds.view c.args.board.now) c.args.worker.now c.requires.here.kept
-    (g.B.Bounds.view c.gap_at.new.board) c.gap_at.ensures.later c.gap_at.ensures.entries) c.bound_state.ensures.worked in
-    both
+    worked_read m c.args.s (m.rank c.args.s) _ _ c.args.worker.now _ c.requires.here.kept c.gap_at.ensures.later c.gap_at.ensures.entries c.bound_state.ensures.worked (omega arith)
 
 pub growth::grow-returns-in-Err-clause-worked : goal.growth::grow-returns-in-Err-clause-worked
 growth::grow-returns-in-Err-clause-worked g t c =
@@ -597,8 +567,8 @@ growth::grow-take_turn-requires-clause-row g t c = c.search_children.ensures.wor
 pub growth::grow-stopped-requires-clause-row : goal.growth::grow-stopped-requires-clause-row
 growth::grow-stopped-requires-clause-row g t c = c.search_children.ensures.worked.board.later.keys c.args.row _ (c.growth.invariant.0.worked.board.later.keys c.args.row _ c.requires.row)
 
-pub growth::grow-is_within-requires-clause-row : goal.growth::grow-is_within-requires-clause-row
-growth::grow-is_within-requires-clause-row g t c =
+pub growth::grow-is_within_told-requires-clause-row : goal.growth::grow-is_within_told-requires-clause-row
+growth::grow-is_within_told-requires-clause-row g t c =
     c.take_turn.ensures.worked.board.later.keys c.args.row _ (c.search_children.ensures.worked.board.later.keys c.args.row _ (c.growth.invariant.0.worked.board.later.keys c.args.row _ c.requires.row))
 
 pub growth::grow-stopped-requires-in-Err-Spent-clause-row : goal.growth::grow-stopped-requires-in-Err-Spent-clause-row
@@ -643,29 +613,27 @@ growth::grow-returns-in-Err-search_children-clause-worked g t c =
     let m = g.G.Game.model c.args.setup.now.game in
     worked_after m c.args.s _ _ _ _ _ _ (omega arith) (omega arith) c.growth.invariant.0.worked c.search_children.ensures.worked
 
-pub growth::grow-returns-then-is_within-clause-worked : goal.growth::grow-returns-then-is_within-clause-worked
-growth::grow-returns-then-is_within-clause-worked g t c =
+pub growth::grow-returns-then-is_within_told-clause-worked : goal.growth::grow-returns-then-is_within_told-clause-worked
+growth::grow-returns-then-is_within_told-clause-worked g t c =
     let m = g.G.Game.model c.args.setup.now.game in
     growing_worked m c.args.s c.requires.goes_on _ _ _ _ _ c.growth.invariant.0 c.search_children.ensures.worked
-    (worked_after m c.args.s _ _ (m.rank c.args.s) _ _ _ (omega arith) (omega arith) c.take_turn.ensures.worked
-    (worked_quiet m c.args.s (m.rank c.args.s) (g.B.Bounds.view c.take_turn.new.board) c.take_turn.new.worker c.take_turn.ensures.worked.kept
-    (g.B.Bounds.view c.is_within.new.board) c.is_within.ensures.later c.is_within.ensures.entries))
+    (read_after m c.args.s _ _ _ c.take_turn.new.worker c.take_turn.ensures.worked c.is_within_told.ensures.later c.is_within_told.ensures.entries)
 
-pub growth::grow-returns-then-is_within-clause-ended : goal.growth::grow-returns-then-is_within-clause-ended
-growth::grow-returns-then-is_within-clause-ended g t c =
+pub growth::grow-returns-then-is_within_told-clause-ended : goal.growth::grow-returns-then-is_within_told-clause-ended
+growth::grow-returns-then-is_within_told-clause-ended g t c =
     let m = g.G.Game.model c.args.setup.now.game in
     let end = subst (HasSearched m c.args.s (m.rank c.args.s - 1)
     ((one two : ℕ) → Contains c.growth.growth.held.rows one → Contains c.growth.growth.held.cols two → AreDone m (g.B.Bounds.view c.search_children.new.board) c.args.s one two)
     (at_work (g.B.Bounds.view c.growth.board) c.growth.worker) (at_work (g.B.Bounds.view c.search_children.new.board) c.search_children.new.worker))
     c.in-Ok-None.field-0-is c.in-Ok-None.ensures.searched in
-    let within : IsWithin (g.B.Bounds.view c.is_within.new.board) (m.key c.args.s) c.args.target = search rules in
+    let within : IsWithin (g.B.Bounds.view c.is_within_told.new.board) (m.key c.args.s) c.args.target = search rules in
     let passed : IsGrowing m c.args.s (at_work (g.B.Bounds.view c.args.board.now) c.args.worker.now)
     (at_work (g.B.Bounds.view c.search_children.new.board) c.search_children.new.worker) c.growth.growth.held =
     growing_passed m c.args.s c.requires.goes_on _ _ _ _ c.growth.invariant.0 c.search_children.ensures.worked end.1 in
     record {
       ends = λ _. within;
       turns =
-          growing_turn m c.args.s c.requires.goes_on _ _ (at_work (g.B.Bounds.view c.is_within.new.board) c.take_turn.new.worker) _ passed c.in-Ok-take_turn.ensures.turn
+          growing_turn m c.args.s c.requires.goes_on _ _ (at_work (g.B.Bounds.view c.is_within_told.new.board) c.take_turn.new.worker) _ passed c.in-Ok-take_turn.ensures.turn
           (ap (λ (w : WorkerView). w.settled) c.take_turn.ensures.same);
     }
 
@@ -673,9 +641,7 @@ pub growth::grow-returns-in-Done-clause-worked : goal.growth::grow-returns-in-Do
 growth::grow-returns-in-Done-clause-worked g t c =
     let m = g.G.Game.model c.args.setup.now.game in
     growing_worked m c.args.s c.requires.goes_on _ _ _ _ _ c.growth.invariant.0 c.search_children.ensures.worked
-    (worked_after m c.args.s _ _ (m.rank c.args.s) _ _ _ (omega arith) (omega arith) c.take_turn.ensures.worked
-    (worked_quiet m c.args.s (m.rank c.args.s) (g.B.Bounds.view c.take_turn.new.board) c.take_turn.new.worker c.take_turn.ensures.worked.kept
-    (g.B.Bounds.view c.is_within.new.board) c.is_within.ensures.later c.is_within.ensures.entries))
+    (read_after m c.args.s _ _ _ c.take_turn.new.worker c.take_turn.ensures.worked c.is_within_told.ensures.later c.is_within_told.ensures.entries)
 
 pub growth::grow-returns-in-Done-clause-ended : goal.growth::grow-returns-in-Done-clause-ended
 growth::grow-returns-in-Done-clause-ended g t c =
@@ -699,15 +665,15 @@ growth::grow-returns-in-Done-clause-ended g t c =
           (All-contains (λ (n : ℕ). n < c.growth.growth.held.most_rows) c.growth.growth.held.rows one c.search_children.ensures.holding.rows.within has))
           (λ two has. subst (λ (k : ℕ). two < k) c.growth.invariant.0.cols
           (All-contains (λ (n : ℕ). n < c.growth.growth.held.most_cols) c.growth.growth.held.cols two c.search_children.ensures.holding.cols.within has)) done gap in
-          let beyond : IsBeyond (g.B.Bounds.view c.is_within.new.board) (m.key c.args.s) c.args.target = search rules in (
+          let beyond : IsBeyond (g.B.Bounds.view c.is_within_told.new.board) (m.key c.args.s) c.args.target = search rules in (
             c.requires.goes_on,
             beyond,
             done_later m c.args.s (g.B.Bounds.view c.take_turn.new.board)
-                (g.B.Bounds.view c.is_within.new.board) c.is_within.ensures.later (λ _. close) c.requires.goes_on,
+                (g.B.Bounds.view c.is_within_told.new.board) c.is_within_told.ensures.later (λ _. close) c.requires.goes_on,
           );
       turns =
           growing_turn m c.args.s
-          c.requires.goes_on _ _ (at_work (g.B.Bounds.view c.is_within.new.board) c.take_turn.new.worker) _ passed c.in-Ok-take_turn.ensures.turn
+          c.requires.goes_on _ _ (at_work (g.B.Bounds.view c.is_within_told.new.board) c.take_turn.new.worker) _ passed c.in-Ok-take_turn.ensures.turn
           (ap (λ (w : WorkerView). w.settled) c.take_turn.ensures.same);
     }
 
@@ -730,24 +696,19 @@ growth::grow-growth-preserved g t c =
     growing_passed m c.args.s c.requires.goes_on _ _ _ _ c.growth.invariant.0 c.search_children.ensures.worked end.1 in
     let grown : HasGrown c.growth.growth.held c.take_turn.new.growth.held (Grown c.in-Grown.row c.in-Grown.col) =
     subst (HasGrown c.growth.growth.held c.take_turn.new.growth.held) c.in-Grown.is c.in-Ok-take_turn.ensures.grown in (
-      growing_more m c.args.s c.requires.goes_on _ _ (at_work (g.B.Bounds.view c.is_within.new.board) c.take_turn.new.worker) c.growth.growth.held c.take_turn.new.growth.held passed
-          (worked_after m c.args.s _ _ (m.rank c.args.s) _ _ _ (omega arith) (omega arith) c.take_turn.ensures.worked
-          (worked_quiet m c.args.s (m.rank c.args.s)
-          (g.B.Bounds.view c.take_turn.new.board) c.take_turn.new.worker c.take_turn.ensures.worked.kept
-          (g.B.Bounds.view c.is_within.new.board) c.is_within.ensures.later c.is_within.ensures.entries)) c.in-Ok-take_turn.ensures.turn
+      growing_more m c.args.s c.requires.goes_on _ _ (at_work (g.B.Bounds.view c.is_within_told.new.board) c.take_turn.new.worker) c.growth.growth.held c.take_turn.new.growth.held passed
+          (read_after m c.args.s _ _ _ c.take_turn.new.worker c.take_turn.ensures.worked c.is_within_told.ensures.later c.is_within_told.ensures.entries) c.in-Ok-take_turn.ensures.turn
           (ap (λ (w : WorkerView). w.settled) c.take_turn.ensures.same) grown.0 grown.1
           (ap (λ (h : HeldMoves). h.most_rows) c.in-Ok-take_turn.ensures.held ∙ after_rows c.growth.growth.held c.in-Ok-take_turn.end)
           (ap (λ (h : HeldMoves). h.most_cols) c.in-Ok-take_turn.ensures.held ∙ after_cols c.growth.growth.held c.in-Ok-take_turn.end),
-      child_rows_later m (g.B.Bounds.view c.take_turn.new.board) (g.B.Bounds.view c.is_within.new.board) c.args.s _ c.is_within.ensures.later c.take_turn.ensures.children,
+      child_rows_later m (g.B.Bounds.view c.take_turn.new.board) (g.B.Bounds.view c.is_within_told.new.board) c.args.s _ c.is_within_told.ensures.later c.take_turn.ensures.children,
     )
 
 pub growth::grow-returns-in-Err-Spent-clause-worked : goal.growth::grow-returns-in-Err-Spent-clause-worked
 growth::grow-returns-in-Err-Spent-clause-worked g t c =
     let m = g.G.Game.model c.args.setup.now.game in
     growing_worked m c.args.s c.requires.goes_on _ _ _ _ _ c.growth.invariant.0 c.search_children.ensures.worked
-    (worked_after m c.args.s _ _ (m.rank c.args.s) _ _ _ (omega arith) (omega arith) c.take_turn.ensures.worked
-    (worked_quiet m c.args.s (m.rank c.args.s) (g.B.Bounds.view c.take_turn.new.board) c.take_turn.new.worker c.take_turn.ensures.worked.kept
-    (g.B.Bounds.view c.stopped-in-Err-Spent.new.board) c.stopped-in-Err-Spent.ensures.later c.stopped-in-Err-Spent.ensures.entries))
+    (read_after m c.args.s _ _ _ c.take_turn.new.worker c.take_turn.ensures.worked c.stopped-in-Err-Spent.ensures.later c.stopped-in-Err-Spent.ensures.entries)
 
 pub growth::grow-returns-in-Err-Spent-clause-ended : goal.growth::grow-returns-in-Err-Spent-clause-ended
 growth::grow-returns-in-Err-Spent-clause-ended g t c =
@@ -765,10 +726,7 @@ growth::grow-returns-in-Err-Spent-clause-ended g t c =
     let took : TakesAtMost (m.rank c.args.s) (m.rank c.args.s) (at_work (g.B.Bounds.view c.args.board.now) c.args.worker.now)
     (at_work (g.B.Bounds.view c.stopped-in-Err-Spent.new.board) c.take_turn.new.worker) =
     growing_taken m c.args.s c.requires.goes_on _ _ _ _ passed
-    (worked_after m c.args.s _ _ (m.rank c.args.s) _ _ _ (omega arith) (omega arith) c.take_turn.ensures.worked
-    (worked_quiet m c.args.s (m.rank c.args.s)
-    (g.B.Bounds.view c.take_turn.new.board) c.take_turn.new.worker c.take_turn.ensures.worked.kept
-    (g.B.Bounds.view c.stopped-in-Err-Spent.new.board) c.stopped-in-Err-Spent.ensures.later c.stopped-in-Err-Spent.ensures.entries))
+    (read_after m c.args.s _ _ _ c.take_turn.new.worker c.take_turn.ensures.worked c.stopped-in-Err-Spent.ensures.later c.stopped-in-Err-Spent.ensures.entries)
     (turned_no_more (m.rank c.args.s - 1) (g.B.Bounds.view c.search_children.new.board)
     (g.B.Bounds.view c.stopped-in-Err-Spent.new.board) c.search_children.new.worker c.take_turn.new.worker spent.1 c.take_turn.ensures.same) in
     record {

@@ -1,4 +1,4 @@
-use Rattle.std.proofs.Common.{refl, subst, sym}
+use Rattle.std.proofs.Common.{subst, sym}
 use Rattle.goofspiel.specs.Rules.{goofspiel_game}
 use Rattle.certificate.specs.Ranges.{IsPositionInRange}
 use Rattle.position.specs.declared.games.AnyGame.TheVariants.{Goofspiel}
@@ -22,4 +22,4 @@ returns g c =
     let solution = subst (λ text. IsSolution (goofspiel_game game) text sample_ask r) c.in_ok-position.ensures c.in_ok-solved.ensures.solution in
     let whole = is_sample_solution (goofspiel_game game) n r (few_states n game c.sample_game.result.valid of_sample)
     (rank_is n game c.sample_game.result.valid of_sample) (size_is n game c.sample_game.result.valid of_sample) solution in
-    answers (IsSampled n) (status_of r.outcome) (sample_line n r) c.told.result (IsSampled.reported r (Goofspiel c.sample_game.result, (c.sample_game.result, refl, of_sample), whole)) c.told.ensures
+    answers (IsSampled n) (status_of r.outcome) (sample_line n r) c.told.result (IsSampled.reported r (Goofspiel c.sample_game.result, of_sample, whole)) c.told.ensures

@@ -1,6 +1,6 @@
-use Rattle.std.proofs.Common.{rules, ◌≡◌, true, None, Some, w64, SFits, subst}
+use Rattle.std.proofs.Common.{rules, w64, SFits, subst}
 use Rattle.std.proofs.lemmas.Int.{to_z-of_z}
-use Rattle.oracle_search.specs.Passes.{IsPassEnd, HasMade, HasPassed}
+use Rattle.oracle_search.specs.Passes.{IsPassEnd, HasPassed}
 use Rattle.oracle_search.proofs.PassLemmas.{made_last}
 use Rattle.oracle_search.proofs.passes.make_last.Goals as goal
 

@@ -1,8 +1,6 @@
-use Rattle.std.proofs.Common.{rules, ◌≡◌, ◌≤◌, None, Some, w64, SFits, subst, arith}
+use Rattle.std.proofs.Common.{rules, w64, SFits, subst, arith}
 use Rattle.std.proofs.lemmas.Int.{to_z-of_z}
 use Rattle.std.proofs.lemmas.Result.{IfOk-weaker}
-use Rattle.oracle_search.specs.Workers.{at_work}
-use Rattle.oracle_search.specs.Searches.{IsAtRow}
 use Rattle.oracle_search.specs.Passes.{IsPassEnd, HasMade, HasPassed}
 use Rattle.oracle_search.proofs.WorkLemmas.{worked_after}
 use Rattle.oracle_search.proofs.PassLemmas.{at_row_after, made_wider, made_after}

@@ -1,11 +1,11 @@
-use Rattle.std.proofs.Common.{rules, ◌≡◌, ◌≤◌, pos, true, false, None, Some, Err, w64, SFits, refl, sym, ap, ◌∙◌, arith}
+use Rattle.std.proofs.Common.{rules, ◌≡◌, true, false, Err, w64, SFits, refl, sym, ap, ◌∙◌, arith}
 use Rattle.std.proofs.lemmas.Int.{ints, to_z-of_z}
 use Rattle.std.proofs.lemmas.Result.{IfOk-weaker}
 use Rattle.oracle_search.specs.declared.ends.SearchEnd.TheVariants.{Reached}
 use Rattle.oracle_search.specs.declared.ends.Stop.TheVariants as stops
 use Rattle.oracle_search.specs.Finished.{IsWithin, IsBeyond}
 use Rattle.oracle_search.specs.Workers.{WorkerView, at_work}
-use Rattle.oracle_search.specs.Searches.{IsWorked, IsAtRow, IsBoardFull, IsStoppedAs, HasVisitsBelow, IsPureTight, BoundsByPure}
+use Rattle.oracle_search.specs.Searches.{IsWorked, IsBoardFull, IsStoppedAs, HasVisitsBelow, IsPureTight, BoundsByPure}
 use Rattle.oracle_search.specs.Passes.{HasMade}
 use Rattle.oracle_search.proofs.BetterLemmas.{gap_closed, serial_closed}
 use Rattle.oracle_search.proofs.WorkLemmas.{worked_after, full_kept, pure_later, pure_within, within_not_beyond}
@@ -45,8 +45,8 @@ bound_state-requires-clause-here g c =
     at_row_after m c.args.setup.now.game c.args.s c.args.row (g.B.Bounds.view c.args.board.now) v c.args.worker.now c.args.worker.now c.requires.here
     (worked_quiet m c.args.s (m.rank c.args.s) (g.B.Bounds.view c.args.board.now) c.args.worker.now c.requires.here.kept v c.gap_at.ensures.later c.gap_at.ensures.entries)
 
-pub is_within-requires-clause-row : goal.is_within-requires-clause-row
-is_within-requires-clause-row g c = c.bound_state.ensures.worked.board.later.keys c.args.row _ (c.gap_at.ensures.later.keys c.args.row _ c.requires.here.has_row.holds)
+pub is_within_told-requires-clause-row : goal.is_within_told-requires-clause-row
+is_within_told-requires-clause-row g c = c.bound_state.ensures.worked.board.later.keys c.args.row _ (c.gap_at.ensures.later.keys c.args.row _ c.requires.here.has_row.holds)
 
 pub stopped-requires-clause-row : goal.stopped-requires-clause-row
 stopped-requires-clause-row g c = c.bound_state.ensures.worked.board.later.keys c.args.row _ (c.gap_at.ensures.later.keys c.args.row _ c.requires.here.has_row.holds)
@@ -55,62 +55,63 @@ pub make_passes-requires-clause-here : goal.make_passes-requires-clause-here
 make_passes-requires-clause-here g c =
     let m = g.G.Game.model c.args.setup.now.game in
     let u = g.B.Bounds.view c.args.board.now in
-    let t = g.B.Bounds.view c.is_within.new.board in
+    let t = g.B.Bounds.view c.is_within_told.new.board in
     let both : IsWorked m c.args.s (at_work u c.args.worker.now) (at_work (g.B.Bounds.view c.bound_state.new.board) c.bound_state.new.worker) =
     worked_after m c.args.s _ _ _ _ _ _ (omega arith) (omega arith)
     (worked_quiet m c.args.s (m.rank c.args.s) u c.args.worker.now c.requires.here.kept (g.B.Bounds.view c.gap_at.new.board) c.gap_at.ensures.later c.gap_at.ensures.entries)
     c.bound_state.ensures.worked in
     let all : IsWorked m c.args.s (at_work u c.args.worker.now) (at_work t c.bound_state.new.worker) = worked_after m c.args.s _ _ _ _ _ _ (omega arith) (omega arith) both
     (worked_quiet m c.args.s (m.rank c.args.s)
-    (g.B.Bounds.view c.bound_state.new.board) c.bound_state.new.worker c.bound_state.ensures.worked.kept t c.is_within.ensures.later c.is_within.ensures.entries) in
+    (g.B.Bounds.view c.bound_state.new.board) c.bound_state.new.worker c.bound_state.ensures.worked.kept t c.is_within_told.ensures.later c.is_within_told.ensures.entries) in
     at_row_after m c.args.setup.now.game c.args.s c.args.row u t c.args.worker.now c.bound_state.new.worker c.requires.here all
 
-pub returns-then-is_within-clause-worked : goal.returns-then-is_within-clause-worked
-returns-then-is_within-clause-worked g c =
+pub returns-then-is_within_told-clause-worked : goal.returns-then-is_within_told-clause-worked
+returns-then-is_within_told-clause-worked g c =
     let m = g.G.Game.model c.args.setup.now.game in
     let u = g.B.Bounds.view c.args.board.now in
-    let t = g.B.Bounds.view c.is_within.new.board in
+    let t = g.B.Bounds.view c.is_within_told.new.board in
     let both : IsWorked m c.args.s (at_work u c.args.worker.now) (at_work (g.B.Bounds.view c.bound_state.new.board) c.bound_state.new.worker) =
     worked_after m c.args.s _ _ _ _ _ _ (omega arith) (omega arith)
     (worked_quiet m c.args.s (m.rank c.args.s) u c.args.worker.now c.requires.here.kept (g.B.Bounds.view c.gap_at.new.board) c.gap_at.ensures.later c.gap_at.ensures.entries)
     c.bound_state.ensures.worked in
     worked_after m c.args.s _ _ _ _ _ _ (omega arith) (omega arith) both
     (worked_quiet m c.args.s (m.rank c.args.s)
-    (g.B.Bounds.view c.bound_state.new.board) c.bound_state.new.worker c.bound_state.ensures.worked.kept t c.is_within.ensures.later c.is_within.ensures.entries)
+    (g.B.Bounds.view c.bound_state.new.board) c.bound_state.new.worker c.bound_state.ensures.worked.kept t c.is_within_told.ensures.later c.is_within_told.ensures.entries)
 
-pub returns-then-is_within-clause-made : goal.returns-then-is_within-clause-made
-returns-then-is_within-clause-made g c =
+pub returns-then-is_within_told-clause-made : goal.returns-then-is_within_told-clause-made
+returns-then-is_within_told-clause-made g c =
     let m = g.G.Game.model c.args.setup.now.game in
-    let t = g.B.Bounds.view c.is_within.new.board in
+    let t = g.B.Bounds.view c.is_within_told.new.board in
     let fits : SFits w64 c.args.target = search rules in
-    let within : IsWithin t (m.key c.args.s) c.args.target = rw (to_z-of_z w64 c.args.target fits) at c.if-is_within.ensures.within in
+    let within : IsWithin t (m.key c.args.s) c.args.target = rw (to_z-of_z w64 c.args.target fits) at c.if-is_within_told.ensures.within in
     made_early m 3 c.args.s c.args.target t c.args.worker.now c.bound_state.new.worker Reached
     (ap (λ (x : WorkerView). x.turns.spent) c.bound_state.ensures.same) (λ goes_on. within) (λ is. absurd (cc))
 
-pub returns-then-is_within-clause-pure : goal.returns-then-is_within-clause-pure
-returns-then-is_within-clause-pure g c =
+pub returns-then-is_within_told-clause-pure : goal.returns-then-is_within_told-clause-pure
+returns-then-is_within_told-clause-pure g c =
     let m = g.G.Game.model c.args.setup.now.game in
     record {
-      tight = λ visits full goes_on. pure_later m c.args.s (g.B.Bounds.view c.bound_state.new.board) (g.B.Bounds.view c.is_within.new.board) c.is_within.ensures.later (c.in-Ok.ensures.tight visits);
+      tight = λ visits full goes_on. pure_later m c.args.s (g.B.Bounds.view c.bound_state.new.board) (g.B.Bounds.view c.is_within_told.new.board) c.is_within_told.ensures.later
+          (c.in-Ok.ensures.tight visits);
       at_once = λ visits full near. (refl, ap (λ (x : WorkerView). x.turns) c.bound_state.ensures.same);
     }
 
-pub returns-else-is_within-clause-worked : goal.returns-else-is_within-clause-worked
-returns-else-is_within-clause-worked g c =
+pub returns-else-is_within_told-clause-worked : goal.returns-else-is_within_told-clause-worked
+returns-else-is_within_told-clause-worked g c =
     let m = g.G.Game.model c.args.setup.now.game in
     let u = g.B.Bounds.view c.args.board.now in
-    let t = g.B.Bounds.view c.is_within.new.board in
+    let t = g.B.Bounds.view c.is_within_told.new.board in
     let both : IsWorked m c.args.s (at_work u c.args.worker.now) (at_work (g.B.Bounds.view c.bound_state.new.board) c.bound_state.new.worker) =
     worked_after m c.args.s _ _ _ _ _ _ (omega arith) (omega arith)
     (worked_quiet m c.args.s (m.rank c.args.s) u c.args.worker.now c.requires.here.kept (g.B.Bounds.view c.gap_at.new.board) c.gap_at.ensures.later c.gap_at.ensures.entries)
     c.bound_state.ensures.worked in
     worked_after m c.args.s _ _ _ _ _ _ (omega arith) (omega arith) both (worked_after m c.args.s _ _ (m.rank c.args.s) _ _ _ (omega arith) (omega arith)
     (worked_quiet m c.args.s (m.rank c.args.s)
-    (g.B.Bounds.view c.bound_state.new.board) c.bound_state.new.worker c.bound_state.ensures.worked.kept t c.is_within.ensures.later c.is_within.ensures.entries)
+    (g.B.Bounds.view c.bound_state.new.board) c.bound_state.new.worker c.bound_state.ensures.worked.kept t c.is_within_told.ensures.later c.is_within_told.ensures.entries)
     c.make_passes.ensures.worked)
 
-pub returns-else-is_within-clause-made : goal.returns-else-is_within-clause-made
-returns-else-is_within-clause-made g c =
+pub returns-else-is_within_told-clause-made : goal.returns-else-is_within_told-clause-made
+returns-else-is_within_told-clause-made g c =
     let m = g.G.Game.model c.args.setup.now.game in
     let t = g.B.Bounds.view c.make_passes.new.board in
     let fits : SFits w64 c.args.target = search rules in
@@ -118,14 +119,14 @@ returns-else-is_within-clause-made g c =
     (λ end. made_from m 3 c.args.s c.args.target t c.args.worker.now c.bound_state.new.worker c.make_passes.new.worker end c.bound_state.ensures.same)
     (rw (to_z-of_z w64 c.args.target fits) at c.make_passes.ensures.made)
 
-pub returns-else-is_within-clause-pure : goal.returns-else-is_within-clause-pure
-returns-else-is_within-clause-pure g c =
+pub returns-else-is_within_told-clause-pure : goal.returns-else-is_within_told-clause-pure
+returns-else-is_within_told-clause-pure g c =
     let m = g.G.Game.model c.args.setup.now.game in
-    let t = g.B.Bounds.view c.is_within.new.board in
+    let t = g.B.Bounds.view c.is_within_told.new.board in
     let fits : SFits w64 c.args.target = search rules in
-    let far : IsBeyond t (m.key c.args.s) c.args.target = rw (to_z-of_z w64 c.args.target fits) at c.if-is_within.ensures.within in
+    let far : IsBeyond t (m.key c.args.s) c.args.target = rw (to_z-of_z w64 c.args.target fits) at c.if-is_within_told.ensures.within in
     let tight : HasVisitsBelow m c.args.s c.args.worker.now.visits → IsPureTight m c.args.s t =
-    λ visits. pure_later m c.args.s (g.B.Bounds.view c.bound_state.new.board) t c.is_within.ensures.later (c.in-Ok.ensures.tight visits) in
+    λ visits. pure_later m c.args.s (g.B.Bounds.view c.bound_state.new.board) t c.is_within_told.ensures.later (c.in-Ok.ensures.tight visits) in
     IfOk-weaker c.make_passes.result _ (BoundsByPure m c.args.s c.args.target (at_work (g.B.Bounds.view c.args.board.now) c.args.worker.now)
     (at_work (g.B.Bounds.view c.make_passes.new.board) c.make_passes.new.worker))
     (λ end e. record {

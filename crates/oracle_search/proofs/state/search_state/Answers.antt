@@ -1,16 +1,15 @@
-use Rattle.std.proofs.Common.{rules, ◌≡◌, ◌≢◌, ℕ, ◌+◌, ◌≤◌, true, false, Some, w64, SFits, refl, sym, ap, subst, ◌∙◌, arith}
+use Rattle.std.proofs.Common.{rules, ◌≡◌, ◌≢◌, ℕ, ◌≤◌, true, false, Some, w64, SFits, refl, sym, ap, subst, ◌∙◌, arith}
 use Rattle.std.proofs.lemmas.Int.{to_z-of_z}
 use Rattle.std.proofs.lemmas.Result.{IfOk-weaker}
 use Rattle.sim_game.specs.declared.Side.{Side}
 use Rattle.sim_game.specs.Sides.{IsNoTighter, opening_bound}
 use Rattle.sim_game.proofs.ReachLemmas.{leads_none}
 use Rattle.restricted_game.specs.Children.{IsRowOf}
-use Rattle.oracle_search.specs.declared.ends.SearchEnd.TheVariants.{Settled, Full}
+use Rattle.oracle_search.specs.declared.ends.SearchEnd.TheVariants.{Full}
 use Rattle.oracle_search.specs.Workers.{WorkerView, at_work}
-use Rattle.oracle_search.specs.Searches.{HasKept, IsAtRow, IsBoardFull, Ends, HasTaken, BoundsByPure, open_states}
-use Rattle.oracle_search.specs.Passes.{TakesPasses}
+use Rattle.oracle_search.specs.Searches.{HasKept, IsAtRow, IsBoardFull, BoundsByPure}
 use Rattle.oracle_search.proofs.WorkLemmas.{worked_none, worked_after}
-use Rattle.oracle_search.proofs.GrowLemmas.{taken_on, worked_quiet, worked_full, full_stop, row_of_other, turned_unless}
+use Rattle.oracle_search.proofs.GrowLemmas.{worked_quiet, worked_full, full_stop, row_of_other}
 use Rattle.oracle_search.proofs.PassLemmas.{owed_none}
 use Rattle.oracle_search.proofs.state.search_state.Goals as goal
 

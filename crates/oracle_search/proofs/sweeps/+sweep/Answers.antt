@@ -1,5 +1,4 @@
-use Rattle.std.proofs.Common.{rules, ◌≡◌, ℕ, ◌+◌, ◌-◌, ◌*◌, ◌/◌, ◌%◌, ◌<◌, ◌≤◌, pos, true, false, None, Some, Ok, Err, length, Contains, List, refl, sym, ap, subst, ◌∙◌, arith}
-use Rattle.std.proofs.lemmas.Int.{ints}
+use Rattle.std.proofs.Common.{rules, ◌≡◌, ℕ, ◌+◌, ◌-◌, ◌*◌, ◌/◌, ◌%◌, ◌<◌, ◌≤◌, true, false, Some, Err, length, Contains, List, refl, sym, ap, subst, ◌∙◌, arith}
 use Rattle.std.proofs.lemmas.Result.{IfOk-weaker}
 use Rattle.sim_game.specs.declared.Side.TheVariants.{One, Two}
 use Rattle.sim_game.specs.Model.{Reachable, IsEnd}
@@ -8,14 +7,13 @@ use Rattle.matrix_game.specs.Budget.{left_of}
 use Rattle.bounds_board.proofs.ViewLemmas.{later_refl}
 use Rattle.restricted_game.specs.Children.{AreChildRows, IsRowOf, HasRow}
 use Rattle.restricted_game.proofs.ChildLemmas.{no_child_rows, row_later, child_rows_later}
-use Rattle.oracle_search.specs.declared.ends.Stop.TheVariants as stops
 use Rattle.oracle_search.specs.Finished.{IsClose}
 use Rattle.oracle_search.specs.Workers.{WorkerView, at_work, with_passed}
-use Rattle.oracle_search.specs.Searches.{HasKept, IsAtRow, IsBoardFull, IsDone, AreDone, IsWorked}
-use Rattle.oracle_search.specs.Passes.{ArePassed, HasSwept, TakesOne, IsSweepEnd, IsPassDone}
-use Rattle.oracle_search.proofs.WorkLemmas.{worked_none, worked_after}
+use Rattle.oracle_search.specs.Searches.{HasKept, IsAtRow, IsBoardFull, AreDone}
+use Rattle.oracle_search.specs.Passes.{ArePassed, HasSwept, IsSweepEnd, IsPassDone, AreAllDone}
+use Rattle.oracle_search.proofs.WorkLemmas.{worked_none}
 use Rattle.oracle_search.proofs.GrowLemmas.{worked_quiet, worked_full, full_stop, each_more, done_later, are_done_later, done_within, drawn_below, pair_inside, ring_all, stop_under}
-use Rattle.oracle_search.proofs.PassLemmas.{swept_by, swept_after, swept_under, one_after, done_passed, not_passed, swept_key, one_key, one_spent, close_full, all_rows, all_cols, ended_from}
+use Rattle.oracle_search.proofs.PassLemmas.{swept_by, swept_after, swept_under, one_after, done_passed, not_passed, swept_key, one_key, one_spent, ended_from}
 use Rattle.oracle_search.proofs.sweeps.+sweep.Goals as goal
 
 pub sweep_child-returns-in-None-clause-swept : goal.sweep_child-returns-in-None-clause-swept
@@ -64,8 +62,7 @@ sweep_child-returns-then-is_enough-clause-swept g t c =
 pub sweep_child-returns-then-is_enough-clause-ended : goal.sweep_child-returns-then-is_enough-clause-ended
 sweep_child-returns-then-is_enough-clause-ended g t c =
     let m = g.G.Game.model c.args.setup.now.game in (
-      λ last. done_within m c.args.s (g.B.Bounds.view c.is_enough.new.board)
-          (c.in-Ok.ensures.last last c.if-is_enough.true),
+      λ last. c.in-Ok.ensures.last last c.if-is_enough.true,
       record {
         unless_full = λ not. let spent = ap (λ (w : WorkerView). w.turns.spent) c.is_enough.ensures.same in
             let keys = ap (λ (w : WorkerView). length w.passed) c.is_enough.ensures.same in omega arith;
@@ -423,8 +420,7 @@ pub sweep-returns-in-Ok-Some-clause-ended : goal.sweep-returns-in-Ok-Some-clause
 sweep-returns-in-Ok-Some-clause-ended g t c =
     let m = g.G.Game.model c.args.setup.now.game in
     let end = subst (IsSweepEnd m c.args.s (m.rank c.args.s - 1)
-    (c.args.pass.now.is_last ≡ true → (one two : ℕ) → one < m.moves One c.args.s → two < m.moves Two c.args.s
-    → AreDone m (g.B.Bounds.view c.sweep_children.new.board) c.args.s one two) (g.B.Bounds.view c.sweep_children.new.board) c.args.worker.now c.sweep_children.new.worker)
+    (c.args.pass.now.is_last ≡ true → AreAllDone m (g.B.Bounds.view c.sweep_children.new.board) c.args.s) (g.B.Bounds.view c.sweep_children.new.board) c.args.worker.now c.sweep_children.new.worker)
     c.in-Ok-Some.field-0-is c.in-Ok-Some.ensures.ended in
     (end.0, record { unless_full = λ not. let took = end.1.unless_full not in omega arith })
 
@@ -437,8 +433,8 @@ sweep-returns-in-Err-sweep_children-clause-swept g t c =
     (g.B.Bounds.view c.sweep_children.new.board) c.sweep_children.new.worker c.sweep_children.new.worker c.sweep_children.ensures.swept.kept
     (worked_none m c.args.s (m.rank c.args.s) _ c.sweep_children.ensures.swept.worked.kept) refl)
 
-pub sweep-take_turn-requires : goal.sweep-take_turn-requires
-sweep-take_turn-requires g t c =
+pub sweep-close_in-requires : goal.sweep-close_in-requires
+sweep-close_in-requires g t c =
     let m = g.G.Game.model c.args.setup.now.game in
     let goes_on : 1 ≤ m.rank c.args.s = c.requires.here.has_row.goes_on in
     let reachable : Reachable m c.args.s = c.requires.here.reachable in
@@ -453,121 +449,97 @@ sweep-take_turn-requires g t c =
 pub sweep-pass-requires : goal.sweep-pass-requires
 sweep-pass-requires g t c =
     let m = g.G.Game.model c.args.setup.now.game in
-    let unmet : Contains c.take_turn.new.worker.passed (m.key c.args.s) → ⊥ =
+    let unmet : Contains c.close_in.new.worker.passed (m.key c.args.s) → ⊥ =
     λ has. not_passed m c.args.pass.now.is_last
     (g.met.G.Game.lawful c.args.setup.now.game) c.args.s c.requires.here.reachable _ (g.B.Bounds.view c.sweep_children.new.board)
     c.args.worker.now.passed c.sweep_children.new.worker.passed c.sweep_children.ensures.swept.more c.requires.unmet
-    (subst (λ (keys : List ℕ). Contains keys (m.key c.args.s)) (ap (λ (w : WorkerView). w.passed) c.take_turn.ensures.same) has) in
-    λ has. unmet (subst (Contains c.take_turn.new.worker.passed) c.key.ensures has)
+    (subst (λ (keys : List ℕ). Contains keys (m.key c.args.s)) (ap (λ (w : WorkerView). w.passed) c.close_in.ensures.same) has) in
+    λ has. unmet (subst (Contains c.close_in.new.worker.passed) c.key.ensures has)
 
 pub sweep-returns-in-Ok-pass-clause-swept : goal.sweep-returns-in-Ok-pass-clause-swept
 sweep-returns-in-Ok-pass-clause-swept g t c =
     let m = g.G.Game.model c.args.setup.now.game in
     let turned = swept_after m c.args.pass.now.is_last c.args.s (m.rank c.args.s) (m.rank c.args.s) (m.rank c.args.s) _ _ _ _ _ _ (omega arith) (omega arith) c.sweep_children.ensures.swept
     (swept_by m c.args.pass.now.is_last c.args.s (m.rank c.args.s) (g.B.Bounds.view c.sweep_children.new.board)
-    (g.B.Bounds.view c.take_turn.new.board) c.sweep_children.new.worker c.take_turn.new.worker c.sweep_children.ensures.swept.kept c.take_turn.ensures.worked
-    (ap (λ (w : WorkerView). w.passed) c.take_turn.ensures.same)) in
-    let unmet : Contains c.take_turn.new.worker.passed (m.key c.args.s) → ⊥ =
+    (g.B.Bounds.view c.close_in.new.board) c.sweep_children.new.worker c.close_in.new.worker c.sweep_children.ensures.swept.kept c.close_in.ensures.worked
+    (ap (λ (w : WorkerView). w.passed) c.close_in.ensures.same)) in
+    let unmet : Contains c.close_in.new.worker.passed (m.key c.args.s) → ⊥ =
     λ has. not_passed m c.args.pass.now.is_last
     (g.met.G.Game.lawful c.args.setup.now.game) c.args.s c.requires.here.reachable _ (g.B.Bounds.view c.sweep_children.new.board)
     c.args.worker.now.passed c.sweep_children.new.worker.passed c.sweep_children.ensures.swept.more c.requires.unmet
-    (subst (λ (keys : List ℕ). Contains keys (m.key c.args.s)) (ap (λ (w : WorkerView). w.passed) c.take_turn.ensures.same) has) in
+    (subst (λ (keys : List ℕ). Contains keys (m.key c.args.s)) (ap (λ (w : WorkerView). w.passed) c.close_in.ensures.same) has) in
     let end = subst (IsSweepEnd m c.args.s (m.rank c.args.s - 1)
-    (c.args.pass.now.is_last ≡ true → (one two : ℕ) → one < m.moves One c.args.s → two < m.moves Two c.args.s
-    → AreDone m (g.B.Bounds.view c.sweep_children.new.board) c.args.s one two) (g.B.Bounds.view c.sweep_children.new.board) c.args.worker.now c.sweep_children.new.worker)
+    (c.args.pass.now.is_last ≡ true → AreAllDone m (g.B.Bounds.view c.sweep_children.new.board) c.args.s) (g.B.Bounds.view c.sweep_children.new.board) c.args.worker.now c.sweep_children.new.worker)
     c.in-Ok-None.field-0-is c.in-Ok-None.ensures.ended in
-    let close : c.args.pass.now.is_last ≡ true → IsClose m (g.B.Bounds.view c.take_turn.new.board).total (g.B.Bounds.view c.take_turn.new.board) c.args.s =
-    λ last. close_full m c.args.s c.requires.here.has_row.goes_on (g.met.G.Game.lawful c.args.setup.now.game) c.requires.here.reachable
-    (g.B.Bounds.view c.sweep_children.new.board) (g.B.Bounds.view c.take_turn.new.board) c.in-Ok.growth.held c.in-Ok-take_turn.field-0 c.take_turn.ensures.worked.board.later.total
-    (all_rows m c.args.s c.in-Ok.growth.held
-    ((g.met.G.Game.lawful c.args.setup.now.game).other_moves One c.args.s c.requires.here.reachable c.requires.here.has_row.goes_on) c.in-Ok.ensures.held)
-    (all_cols m c.args.s c.in-Ok.growth.held
-    ((g.met.G.Game.lawful c.args.setup.now.game).other_moves Two c.args.s c.requires.here.reachable c.requires.here.has_row.goes_on) c.in-Ok.ensures.held)
-    (λ one two has_one has_two. end.0 last one two
-    (all_rows m c.args.s c.in-Ok.growth.held
-    ((g.met.G.Game.lawful c.args.setup.now.game).other_moves One c.args.s c.requires.here.reachable c.requires.here.has_row.goes_on) c.in-Ok.ensures.held one has_one)
-    (all_cols m c.args.s c.in-Ok.growth.held
-    ((g.met.G.Game.lawful c.args.setup.now.game).other_moves Two c.args.s c.requires.here.reachable c.requires.here.has_row.goes_on) c.in-Ok.ensures.held two has_two))
-    (c.in-Ok-take_turn.ensures.all c.in-Ok.ensures.held.all) c.in-Ok-take_turn.ensures.gap in
-    let is = subst (λ (key : ℕ). c.pass.new.self ≡ with_passed c.take_turn.new.worker key) c.key.ensures c.in-Ok-pass.ensures.ok in
+    let close : c.args.pass.now.is_last ≡ true → IsClose m (g.B.Bounds.view c.close_in.new.board).total (g.B.Bounds.view c.close_in.new.board) c.args.s =
+    λ last. c.in-Ok-true.ensures.close c.in-Ok-true.field-0-test (end.0 last) in
+    let is = subst (λ (key : ℕ). c.pass.new.self ≡ with_passed c.close_in.new.worker key) c.key.ensures c.in-Ok-pass.ensures.ok in
     swept_key m c.args.pass.now.is_last (g.met.G.Game.lawful c.args.setup.now.game) c.args.s c.requires.here.reachable
     (g.B.Bounds.view c.args.board.now)
-    (g.B.Bounds.view c.take_turn.new.board) c.args.worker.now c.take_turn.new.worker c.pass.new.self c.args.row
-    (c.take_turn.ensures.worked.board.later.keys c.args.row (m.key c.args.s)
+    (g.B.Bounds.view c.close_in.new.board) c.args.worker.now c.close_in.new.worker c.pass.new.self c.args.row
+    (c.close_in.ensures.worked.board.later.keys c.args.row (m.key c.args.s)
     (c.sweep_children.ensures.swept.worked.board.later.keys c.args.row (m.key c.args.s) c.requires.here.has_row.holds)) c.requires.here.has_row.goes_on turned is unmet close
 
 pub sweep-returns-in-Ok-pass-clause-ended : goal.sweep-returns-in-Ok-pass-clause-ended
 sweep-returns-in-Ok-pass-clause-ended g t c =
     let m = g.G.Game.model c.args.setup.now.game in
     let end = subst (IsSweepEnd m c.args.s (m.rank c.args.s - 1)
-    (c.args.pass.now.is_last ≡ true → (one two : ℕ) → one < m.moves One c.args.s → two < m.moves Two c.args.s
-    → AreDone m (g.B.Bounds.view c.sweep_children.new.board) c.args.s one two) (g.B.Bounds.view c.sweep_children.new.board) c.args.worker.now c.sweep_children.new.worker)
+    (c.args.pass.now.is_last ≡ true → AreAllDone m (g.B.Bounds.view c.sweep_children.new.board) c.args.s) (g.B.Bounds.view c.sweep_children.new.board) c.args.worker.now c.sweep_children.new.worker)
     c.in-Ok-None.field-0-is c.in-Ok-None.ensures.ended in
-    let close : c.args.pass.now.is_last ≡ true → IsClose m (g.B.Bounds.view c.take_turn.new.board).total (g.B.Bounds.view c.take_turn.new.board) c.args.s =
-    λ last. close_full m c.args.s c.requires.here.has_row.goes_on (g.met.G.Game.lawful c.args.setup.now.game) c.requires.here.reachable
-    (g.B.Bounds.view c.sweep_children.new.board) (g.B.Bounds.view c.take_turn.new.board) c.in-Ok.growth.held c.in-Ok-take_turn.field-0 c.take_turn.ensures.worked.board.later.total
-    (all_rows m c.args.s c.in-Ok.growth.held
-    ((g.met.G.Game.lawful c.args.setup.now.game).other_moves One c.args.s c.requires.here.reachable c.requires.here.has_row.goes_on) c.in-Ok.ensures.held)
-    (all_cols m c.args.s c.in-Ok.growth.held
-    ((g.met.G.Game.lawful c.args.setup.now.game).other_moves Two c.args.s c.requires.here.reachable c.requires.here.has_row.goes_on) c.in-Ok.ensures.held)
-    (λ one two has_one has_two. end.0 last one two
-    (all_rows m c.args.s c.in-Ok.growth.held
-    ((g.met.G.Game.lawful c.args.setup.now.game).other_moves One c.args.s c.requires.here.reachable c.requires.here.has_row.goes_on) c.in-Ok.ensures.held one has_one)
-    (all_cols m c.args.s c.in-Ok.growth.held
-    ((g.met.G.Game.lawful c.args.setup.now.game).other_moves Two c.args.s c.requires.here.reachable c.requires.here.has_row.goes_on) c.in-Ok.ensures.held two has_two))
-    (c.in-Ok-take_turn.ensures.all c.in-Ok.ensures.held.all) c.in-Ok-take_turn.ensures.gap in
-    let is = subst (λ (key : ℕ). c.pass.new.self ≡ with_passed c.take_turn.new.worker key) c.key.ensures c.in-Ok-pass.ensures.ok in (
+    let close : c.args.pass.now.is_last ≡ true → IsClose m (g.B.Bounds.view c.close_in.new.board).total (g.B.Bounds.view c.close_in.new.board) c.args.s =
+    λ last. c.in-Ok-true.ensures.close c.in-Ok-true.field-0-test (end.0 last) in
+    let is = subst (λ (key : ℕ). c.pass.new.self ≡ with_passed c.close_in.new.worker key) c.key.ensures c.in-Ok-pass.ensures.ok in (
       λ last goes_on. close last,
-      one_key c.args.worker.now c.sweep_children.new.worker c.take_turn.new.worker c.pass.new.self (m.key c.args.s)
-          (record { unless_full = end.1.unless_full }) c.in-Ok-take_turn.ensures.turn c.take_turn.ensures.same is,
+      one_key c.args.worker.now c.sweep_children.new.worker c.close_in.new.worker c.pass.new.self (m.key c.args.s)
+          (record { unless_full = end.1.unless_full }) (c.in-Ok-true.ensures.turn c.in-Ok-true.field-0-test) c.close_in.ensures.same is,
     )
 
-pub sweep-returns-in-Ok-take_turn-clause-swept : goal.sweep-returns-in-Ok-take_turn-clause-swept
-sweep-returns-in-Ok-take_turn-clause-swept g t c =
+pub sweep-returns-in-Ok-true-clause-swept : goal.sweep-returns-in-Ok-true-clause-swept
+sweep-returns-in-Ok-true-clause-swept g t c =
     let m = g.G.Game.model c.args.setup.now.game in
-    subst (HasSwept m c.args.pass.now.is_last c.args.s (m.rank c.args.s + 1) (g.B.Bounds.view c.args.board.now) (g.B.Bounds.view c.take_turn.new.board) c.args.worker.now)
+    subst (HasSwept m c.args.pass.now.is_last c.args.s (m.rank c.args.s + 1) (g.B.Bounds.view c.args.board.now) (g.B.Bounds.view c.close_in.new.board) c.args.worker.now)
     (sym c.in-Err-pass.ensures.err)
     (swept_after m c.args.pass.now.is_last c.args.s (m.rank c.args.s) (m.rank c.args.s) (m.rank c.args.s + 1) _ _ _ _ _ _ (omega arith) (omega arith) c.sweep_children.ensures.swept
     (swept_by m c.args.pass.now.is_last c.args.s (m.rank c.args.s) (g.B.Bounds.view c.sweep_children.new.board)
-    (g.B.Bounds.view c.take_turn.new.board) c.sweep_children.new.worker c.take_turn.new.worker
-    c.sweep_children.ensures.swept.kept c.take_turn.ensures.worked (ap (λ (w : WorkerView). w.passed) c.take_turn.ensures.same)))
+    (g.B.Bounds.view c.close_in.new.board) c.sweep_children.new.worker c.close_in.new.worker
+    c.sweep_children.ensures.swept.kept c.close_in.ensures.worked (ap (λ (w : WorkerView). w.passed) c.close_in.ensures.same)))
 
 pub sweep-returns-in-Err-Spent-clause-swept : goal.sweep-returns-in-Err-Spent-clause-swept
 sweep-returns-in-Err-Spent-clause-swept g t c =
     let m = g.G.Game.model c.args.setup.now.game in
     swept_after m c.args.pass.now.is_last c.args.s (m.rank c.args.s) (m.rank c.args.s) (m.rank c.args.s + 1) _ _ _ _ _ _ (omega arith) (omega arith) c.sweep_children.ensures.swept
     (swept_by m c.args.pass.now.is_last c.args.s (m.rank c.args.s) (g.B.Bounds.view c.sweep_children.new.board)
-    (g.B.Bounds.view c.take_turn.new.board) c.sweep_children.new.worker c.take_turn.new.worker
-    c.sweep_children.ensures.swept.kept c.take_turn.ensures.worked (ap (λ (w : WorkerView). w.passed) c.take_turn.ensures.same))
+    (g.B.Bounds.view c.close_in.new.board) c.sweep_children.new.worker c.close_in.new.worker
+    c.sweep_children.ensures.swept.kept c.close_in.ensures.worked (ap (λ (w : WorkerView). w.passed) c.close_in.ensures.same))
 
 pub sweep-returns-in-Err-Spent-clause-ended : goal.sweep-returns-in-Err-Spent-clause-ended
 sweep-returns-in-Err-Spent-clause-ended g t c =
     let m = g.G.Game.model c.args.setup.now.game in
     let end = subst (IsSweepEnd m c.args.s (m.rank c.args.s - 1)
-    (c.args.pass.now.is_last ≡ true → (one two : ℕ) → one < m.moves One c.args.s → two < m.moves Two c.args.s → AreDone m (g.B.Bounds.view c.sweep_children.new.board) c.args.s one two)
+    (c.args.pass.now.is_last ≡ true → AreAllDone m (g.B.Bounds.view c.sweep_children.new.board) c.args.s)
     (g.B.Bounds.view c.sweep_children.new.board) c.args.worker.now c.sweep_children.new.worker) c.in-Ok-None.field-0-is c.in-Ok-None.ensures.ended in
-    let none = c.take_turn.ensures.spent (c.in-Err-Spent.is ∙ ap Err c.in-Err-Spent.field-0-is) in
-    let left : left_of c.take_turn.new.worker.turns ≡ 0 = ap left_of none.1 ∙ none.0 in
-    (left, one_spent (m.rank c.args.s) c.args.worker.now c.sweep_children.new.worker c.take_turn.new.worker end.1 none.1 c.take_turn.ensures.same)
+    let none = c.close_in.ensures.spent (c.in-Err-Spent.is ∙ ap Err c.in-Err-Spent.field-0-is) in
+    let left : left_of c.close_in.new.worker.turns ≡ 0 = ap left_of none.1 ∙ none.0 in
+    (left, one_spent (m.rank c.args.s) c.args.worker.now c.sweep_children.new.worker c.close_in.new.worker end.1 none.1 c.close_in.ensures.same)
 
 pub sweep-returns-in-Err-Full-clause-swept : goal.sweep-returns-in-Err-Full-clause-swept
 sweep-returns-in-Err-Full-clause-swept g t c =
     let m = g.G.Game.model c.args.setup.now.game in
-    let v = g.B.Bounds.view c.take_turn.new.board in
-    let was : IsBoardFull m c.args.s v = c.take_turn.ensures.full (c.in-Err-Full.is ∙ ap Err c.in-Err-Full.field-0-is) in
+    let v = g.B.Bounds.view c.close_in.new.board in
+    let was : IsBoardFull m c.args.s v = c.close_in.ensures.full (c.in-Err-Full.is ∙ ap Err c.in-Err-Full.field-0-is) in
     let sofar = swept_after m c.args.pass.now.is_last c.args.s (m.rank c.args.s) (m.rank c.args.s) (m.rank c.args.s + 1) _ _ _ _ _ _ (omega arith) (omega arith) c.sweep_children.ensures.swept
     (swept_by m c.args.pass.now.is_last c.args.s (m.rank c.args.s) (g.B.Bounds.view c.sweep_children.new.board)
-    (g.B.Bounds.view c.take_turn.new.board) c.sweep_children.new.worker c.take_turn.new.worker
-    c.sweep_children.ensures.swept.kept c.take_turn.ensures.worked (ap (λ (w : WorkerView). w.passed) c.take_turn.ensures.same)) in
+    (g.B.Bounds.view c.close_in.new.board) c.sweep_children.new.worker c.close_in.new.worker
+    c.sweep_children.ensures.swept.kept c.close_in.ensures.worked (ap (λ (w : WorkerView). w.passed) c.close_in.ensures.same)) in
     swept_after m c.args.pass.now.is_last c.args.s (m.rank c.args.s + 1) (m.rank c.args.s) (m.rank c.args.s + 1) _ _ _ _ _ _ (omega arith) (omega arith) sofar
-    (swept_by m c.args.pass.now.is_last c.args.s (m.rank c.args.s) v v c.take_turn.new.worker c.note_full.new.self sofar.kept
-    (worked_full m c.args.s (m.rank c.args.s) v c.take_turn.new.worker c.take_turn.ensures.worked.kept v c.note_full.new.self (later_refl v) refl c.note_full.ensures was)
+    (swept_by m c.args.pass.now.is_last c.args.s (m.rank c.args.s) v v c.close_in.new.worker c.note_full.new.self sofar.kept
+    (worked_full m c.args.s (m.rank c.args.s) v c.close_in.new.worker c.close_in.ensures.worked.kept v c.note_full.new.self (later_refl v) refl c.note_full.ensures was)
     (ap (λ (w : WorkerView). w.passed) c.note_full.ensures))
 
 pub sweep-returns-in-Err-Full-clause-ended : goal.sweep-returns-in-Err-Full-clause-ended
 sweep-returns-in-Err-Full-clause-ended g t c =
     let m = g.G.Game.model c.args.setup.now.game in
-    let was : IsBoardFull m c.args.s (g.B.Bounds.view c.take_turn.new.board) = c.take_turn.ensures.full (c.in-Err-Full.is ∙ ap Err c.in-Err-Full.field-0-is) in
+    let was : IsBoardFull m c.args.s (g.B.Bounds.view c.close_in.new.board) = c.close_in.ensures.full (c.in-Err-Full.is ∙ ap Err c.in-Err-Full.field-0-is) in
     let why : c.note_full.new.self.settled.was_full ≡ true = ap (λ (w : WorkerView). w.settled.was_full) c.note_full.ensures in
     ((why, was), record { unless_full = λ not. let wrong : false ≡ true = sym not ∙ why in absurd (cc) })
 
@@ -576,5 +548,24 @@ sweep-returns-clause-swept g t c =
     let m = g.G.Game.model c.args.setup.now.game in
     swept_after m c.args.pass.now.is_last c.args.s (m.rank c.args.s) (m.rank c.args.s) (m.rank c.args.s + 1) _ _ _ _ _ _ (omega arith) (omega arith) c.sweep_children.ensures.swept
     (swept_by m c.args.pass.now.is_last c.args.s (m.rank c.args.s) (g.B.Bounds.view c.sweep_children.new.board)
-    (g.B.Bounds.view c.take_turn.new.board) c.sweep_children.new.worker c.take_turn.new.worker
-    c.sweep_children.ensures.swept.kept c.take_turn.ensures.worked (ap (λ (w : WorkerView). w.passed) c.take_turn.ensures.same))
+    (g.B.Bounds.view c.close_in.new.board) c.sweep_children.new.worker c.close_in.new.worker
+    c.sweep_children.ensures.swept.kept c.close_in.ensures.worked (ap (λ (w : WorkerView). w.passed) c.close_in.ensures.same))
+
+pub sweep-returns-in-Ok-false-clause-swept : goal.sweep-returns-in-Ok-false-clause-swept
+sweep-returns-in-Ok-false-clause-swept g t c =
+    let m = g.G.Game.model c.args.setup.now.game in
+    swept_after m c.args.pass.now.is_last c.args.s (m.rank c.args.s) (m.rank c.args.s) (m.rank c.args.s + 1) _ _ _ _ _ _ (omega arith) (omega arith) c.sweep_children.ensures.swept
+    (swept_by m c.args.pass.now.is_last c.args.s (m.rank c.args.s) (g.B.Bounds.view c.sweep_children.new.board)
+    (g.B.Bounds.view c.close_in.new.board) c.sweep_children.new.worker c.close_in.new.worker
+    c.sweep_children.ensures.swept.kept c.close_in.ensures.worked (ap (λ (w : WorkerView). w.passed) c.close_in.ensures.same))
+
+pub sweep-returns-in-Ok-false-clause-ended : goal.sweep-returns-in-Ok-false-clause-ended
+sweep-returns-in-Ok-false-clause-ended g t c =
+    let m = g.G.Game.model c.args.setup.now.game in
+    let end = subst (IsSweepEnd m c.args.s (m.rank c.args.s - 1)
+    (c.args.pass.now.is_last ≡ true → AreAllDone m (g.B.Bounds.view c.sweep_children.new.board) c.args.s)
+    (g.B.Bounds.view c.sweep_children.new.board) c.args.worker.now c.sweep_children.new.worker) c.in-Ok-None.field-0-is c.in-Ok-None.ensures.ended in
+    let alone = c.in-Ok-false.ensures.pure c.in-Ok-false.field-0-test in (
+      λ last. done_within m c.args.s (g.B.Bounds.view c.close_in.new.board) (alone.1 last),
+      one_spent 0 c.args.worker.now c.sweep_children.new.worker c.close_in.new.worker (record { unless_full = end.1.unless_full }) alone.0 c.close_in.ensures.same,
+    )

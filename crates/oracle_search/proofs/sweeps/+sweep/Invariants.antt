@@ -1,7 +1,7 @@
 use Rattle.std.proofs.Common.{◌≡◌, ℕ, ◌+◌, ◌*◌, ◌/◌, ◌%◌, ◌<◌, true}
 use Rattle.sim_game.specs.declared.Side.TheVariants.{One, Two}
 use Rattle.restricted_game.specs.Children.{AreChildRows}
-use Rattle.oracle_search.specs.Searches.{IsDone, AreDone}
+use Rattle.oracle_search.specs.Searches.{AreDone}
 use Rattle.oracle_search.specs.Passes.{HasSwept, TakesOne, IsPassDone}
 use Rattle.oracle_search.proofs.sweeps.+sweep.Given as goal
 

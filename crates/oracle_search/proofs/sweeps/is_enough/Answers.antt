@@ -1,10 +1,11 @@
-use Rattle.std.proofs.Common.{rules, ◌≡◌, Some, pos, ◌≤ℤ◌, sym, subst, ◌∙◌, arith}
-use Rattle.std.proofs.lemmas.Int.{ints}
+use Rattle.std.proofs.Common.{rules, w64, SFits, sym, subst, ◌∙◌, arith}
+use Rattle.std.proofs.lemmas.Int.{to_z-of_z}
 use Rattle.restricted_game.proofs.ChildLemmas.{row_later}
+use Rattle.oracle_search.specs.Finished.{IsWithin}
 use Rattle.oracle_search.specs.Workers.{WorkerView, at_work}
 use Rattle.oracle_search.specs.Searches.{IsWorked}
 use Rattle.oracle_search.proofs.BetterLemmas.{gap_within}
-use Rattle.oracle_search.proofs.WorkLemmas.{worked_after}
+use Rattle.oracle_search.proofs.WorkLemmas.{worked_after, close_below}
 use Rattle.oracle_search.proofs.GrowLemmas.{worked_quiet}
 use Rattle.oracle_search.proofs.sweeps.is_enough.Goals as goal
 
@@ -69,8 +70,21 @@ returns-in-Err-note_bounds-clause-worked g c =
     (g.B.Bounds.view c.bound_state.new.board) c.bound_state.new.worker c.bound_state.ensures.worked.kept
     (g.B.Bounds.view c.gap_at-gap.new.board) c.gap_at-gap.ensures.later c.gap_at-gap.ensures.entries))
 
-pub returns-in-Ok-note_bounds-clause-last : goal.returns-in-Ok-note_bounds-clause-last
-returns-in-Ok-note_bounds-clause-last g c last enough =
+pub returns-then-is_within-clause-last : goal.returns-then-is_within-clause-last
+returns-then-is_within-clause-last g c last enough goes_on =
     let m = g.G.Game.model c.args.setup.now.game in
-    gap_within m (g.met.G.Game.lawful c.args.setup.now.game) c.args.s (g.B.Bounds.view c.gap_at-gap.new.board) c.gap_at-gap.result c.goal_at-goal.result
-    c.gap_at-gap.ensures.enclosed c.gap_at-gap.ensures.gap (c.goal_at-goal.ensures.last last) enough
+    let v = g.B.Bounds.view c.is_within.new.board in
+    let fits : SFits w64 c.wanted_gap-goal.result = search rules in
+    let within : IsWithin v (m.key c.args.s) c.wanted_gap-goal.result = rw (to_z-of_z w64 c.wanted_gap-goal.result fits) at c.if-is_within.ensures.within in
+    close_below m c.total.result v c.args.s c.wanted_gap-goal.result (c.is_within.ensures.later.total ∙ sym c.total.ensures.total) (c.wanted_gap-goal.ensures.last last) within
+
+pub returns-in-Ok-note_bounds-clause-last : goal.returns-in-Ok-note_bounds-clause-last
+returns-in-Ok-note_bounds-clause-last g c last enough goes_on =
+    let m = g.G.Game.model c.args.setup.now.game in
+    let v = g.B.Bounds.view c.gap_at-gap.new.board in
+    let fits : SFits w64 c.wanted_gap-goal.result = search rules in
+    let within : IsWithin v (m.key c.args.s) c.wanted_gap-goal.result =
+    gap_within m (g.met.G.Game.lawful c.args.setup.now.game) c.args.s v c.gap_at-gap.result c.wanted_gap-goal.result c.gap_at-gap.ensures.enclosed c.gap_at-gap.ensures.gap fits enough in
+    close_below m c.total.result v c.args.s c.wanted_gap-goal.result
+    (c.gap_at-gap.ensures.later.total ∙ c.bound_state.ensures.worked.board.later.total ∙ c.is_within.ensures.later.total ∙ sym c.total.ensures.total)
+    (c.wanted_gap-goal.ensures.last last) within

@@ -1,7 +1,10 @@
-use Rattle.sim_game.specs.declared.Side.TheVariants.{One}
+use Rattle.std.proofs.Common.{◌≡◌, ◌⊎◌, inl, inr}
+use Rattle.sim_game.specs.declared.Side.TheVariants.{One, Two}
 use Rattle.sim_game.proofs.SideLemmas.{looser_trans}
 use Rattle.bounds_board.proofs.ViewLemmas.{later_trans}
-use Rattle.restricted_game.proofs.PostLemmas.{postable_later, lawful_after, posted_earlier}
+use Rattle.plan_book.specs.declared.Entry.{Entry}
+use Rattle.restricted_game.specs.Tables.{side_entry}
+use Rattle.restricted_game.proofs.PostLemmas.{grows_after, grows_weaker, postable_later, lawful_after, posted_earlier}
 use Rattle.restricted_game.proofs.posts.post_both.Goals as goal
 
 pub post_plan-requires-2-clause-entry : goal.post_plan-requires-2-clause-entry
@@ -33,3 +36,28 @@ returns-clause-posted g c =
       one_seen = looser_trans One _ _ _ c.in_ok-post_plan.ensures.seen (c.post_plan-2.ensures.later.seen One (m.key c.args.node.state));
       two_seen = c.in_ok-post_plan-2.ensures.seen;
     }
+
+pub returns-in_err-post_plan-clause-only : goal.returns-in_err-post_plan-clause-only
+returns-in_err-post_plan-clause-only g c =
+    let m = g.G.Game.model c.args.g in
+    let one = side_entry m One c.args.node.state c.args.table.now c.args.plans.one in
+    let two = side_entry m Two c.args.node.state c.args.table.now c.args.plans.two in
+    grows_weaker (λ (e : Entry). e ≡ one) (λ (e : Entry). e ≡ one ⊎ e ≡ two) _ _ (λ e is. inl is) c.post_plan.ensures.only
+
+pub returns-in_err-post_plan-2-clause-only : goal.returns-in_err-post_plan-2-clause-only
+returns-in_err-post_plan-2-clause-only g c =
+    let m = g.G.Game.model c.args.g in
+    let one = side_entry m One c.args.node.state c.args.table.now c.args.plans.one in
+    let two = side_entry m Two c.args.node.state c.args.table.now c.args.plans.two in
+    grows_after (λ (e : Entry). e ≡ one ⊎ e ≡ two) _ _ _
+    (grows_weaker (λ (e : Entry). e ≡ one) (λ (e : Entry). e ≡ one ⊎ e ≡ two) _ _ (λ e is. inl is) c.post_plan.ensures.only)
+    (grows_weaker (λ (e : Entry). e ≡ two) (λ (e : Entry). e ≡ one ⊎ e ≡ two) _ _ (λ e is. inr is) c.post_plan-2.ensures.only)
+
+pub returns-clause-only : goal.returns-clause-only
+returns-clause-only g c =
+    let m = g.G.Game.model c.args.g in
+    let one = side_entry m One c.args.node.state c.args.table.now c.args.plans.one in
+    let two = side_entry m Two c.args.node.state c.args.table.now c.args.plans.two in
+    grows_after (λ (e : Entry). e ≡ one ⊎ e ≡ two) _ _ _
+    (grows_weaker (λ (e : Entry). e ≡ one) (λ (e : Entry). e ≡ one ⊎ e ≡ two) _ _ (λ e is. inl is) c.post_plan.ensures.only)
+    (grows_weaker (λ (e : Entry). e ≡ two) (λ (e : Entry). e ≡ one ⊎ e ≡ two) _ _ (λ e is. inr is) c.post_plan-2.ensures.only)

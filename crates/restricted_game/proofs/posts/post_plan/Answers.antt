@@ -47,3 +47,6 @@ returns-in-Ok-clause-posted g c =
 
 pub returns-in-Err-clause-lawful : goal.returns-in-Err-clause-lawful
 returns-in-Err-clause-lawful g c = grows_none _ _ _ (ap (λ (v : BoardView _ _). v.entries) c.in-Err.ensures.err ∙ c.read.ensures.entries)
+
+pub returns-in-Err-clause-only : goal.returns-in-Err-clause-only
+returns-in-Err-clause-only g c = grows_none _ _ _ (ap (λ (v : BoardView _ _). v.entries) c.in-Err.ensures.err ∙ c.read.ensures.entries)

@@ -1,0 +1,50 @@
+#!/usr/bin/env bash
+# fuzz_library.sh FOLDER PROGRAM [COUNT [SEED [JOBS]]]: builds tests/fuzz_library.c over the archive in the folder, with the
+# address sanitizer where the compiler has it, gives it COUNT inputs (100000) in JOBS processes at once (1), and compares each
+# hundredth answer, up to 1000 of them, with the program's and with docs/FORMATS.md. The last line is `N passed, M failed`.
+set -u
+if [ $# -lt 2 ]; then
+    echo "usage: fuzz_library.sh FOLDER PROGRAM [COUNT [SEED [JOBS]]]" >&2
+    exit 2
+fi
+folder=$(realpath "$1") || exit 2
+program=$(realpath "$2") || exit 2
+count=${3:-100000}
+seed=${4:-1}
+jobs=${5:-1}
+every=$((count / 1000 > 100 ? count / 1000 : 100))
+top=$(dirname "$(dirname "$(realpath "$0")")")
+work=$(mktemp -d) || exit 2
+trap 'rm -rf "$work"' EXIT
+build() {
+    "${CC:-cc}" -std=c11 -O1 -I"$top/include" "$@" -o "$work/fuzz" "$top/tests/fuzz_library.c" "$folder/libdosolve.a"
+}
+if build -fsanitize=address 2> /dev/null; then
+    echo "with the address sanitizer"
+else
+    build || exit 2
+    echo "without the address sanitizer"
+fi
+mkdir -p "$work"/samples/{solve,bounds,check,exploit,play}
+cd "$work" || exit 2
+(cd "$top/tests/vectors" && printf '%s\n' */*.args | sed 's/\.args$//') > names
+./fuzz "$top/tests/vectors" "$count" "$seed" "$jobs" samples "$every" < names || { cp -- *.in /tmp 2> /dev/null; exit 1; }
+passed=0
+failed=0
+python3 "$top/tests/formats.py" samples > told || failed=1
+grep -v '^texts that no case has' told
+for args in samples/*/*.args; do
+    case=${args%.args}
+    mapfile -t words < "$args"
+    "$program" "${words[@]}" < "$case.in" > out 2> err
+    status=$?
+    if [ "$status" = "$(cat "$case.status")" ] && cmp -s out "$case.out"; then
+        passed=$((passed + 1))
+    else
+        failed=$((failed + 1))
+        echo "FAILED: ${words[*]} of an input that is kept as /tmp/fuzz_library_$failed.in"
+        cp "$case.in" "/tmp/fuzz_library_$failed.in"
+    fi
+done
+echo "$passed passed, $failed failed"
+[ "$failed" -eq 0 ] && [ "$passed" -gt 0 ]

@@ -69,10 +69,11 @@ uint32_t dosolve_sample(uint32_t number, uint8_t *output, size_t room, uint64_t 
 /* ---- Answers in numbers.
  *
  * These calls read a position or a report too, and give numbers in place of a text. Statuses: those of `solve` for
- * dosolve_root; else DOSOLVE_DONE, DOSOLVE_USAGE (no such side), DOSOLVE_FULL (dosolve_replies: the plan comes to more than
- * 1048576 states), DOSOLVE_NO_MEMORY and DOSOLVE_REPORT (dosolve_check tells why). With DOSOLVE_INPUT, and with each of the
- * latter but DOSOLVE_DONE, nothing is written. Arrays are filled as far as there is room; what stands behind stays as it was.
- * A plan need not be lawful: dosolve_check tells whether it is. */
+ * dosolve_root; else DOSOLVE_DONE, DOSOLVE_USAGE (no such side, no such number of games), DOSOLVE_FULL (dosolve_replies and
+ * dosolve_worst: a plan comes to more than 1048576 states), DOSOLVE_NO_MEMORY and DOSOLVE_REPORT (dosolve_check tells why). With
+ * DOSOLVE_INPUT, and with each of the latter but DOSOLVE_DONE, nothing is written. Arrays are filled as far as there is room;
+ * what stands behind stays as it was. A plan need not be lawful: dosolve_check tells whether it is. Each call reads the whole
+ * report: dosolve_worst and dosolve_games ask many things of one reading. */
 
 struct dosolve_root_bounds {
     int64_t lower, upper;
@@ -118,6 +119,22 @@ struct dosolve_worst_payoff {
  * and the other side's move at each; and what they leave to the plan. */
 uint32_t dosolve_replies(uint32_t side, const uint8_t *input, size_t count, uint64_t *keys, size_t key_room, uint32_t *moves,
                          size_t move_room, struct dosolve_worst_payoff *worst);
+
+/* What the best replies leave to the plan of each side of the report of the input: the numbers that dosolve_replies tells. */
+uint32_t dosolve_worst(const uint8_t *input, size_t count, struct dosolve_worst_payoff *one, struct dosolve_worst_payoff *two);
+
+/* What One gets in the games of a seed, in whole payoffs. */
+struct dosolve_match_payoffs {
+    uint32_t games; /* how many they are */
+    int32_t first;  /* what the first game pays */
+    int64_t sum;
+    int32_t least, most;
+};
+
+/* Plays 1 to 100000 games of each seed between the two plans of the report of the input: a result for each seed that there is
+ * room for, in the order of the seeds. Its numbers are those that dosolve_play prints behind the turns of the first game. */
+uint32_t dosolve_games(uint32_t games, const uint64_t *seeds, size_t seed_count, const uint8_t *input, size_t count,
+                       struct dosolve_match_payoffs *results, size_t result_room);
 
 /* ---- With room from the heap.
  *

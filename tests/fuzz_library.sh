@@ -1,7 +1,9 @@
 #!/usr/bin/env bash
 # fuzz_library.sh FOLDER PROGRAM [COUNT [SEED [JOBS]]]: builds tests/fuzz_library.c over the archive in the folder, with the
 # address sanitizer where the compiler has it, gives it COUNT inputs (100000) in JOBS processes at once (1), and compares each
-# hundredth answer, up to 1000 of them, with the program's and with docs/FORMATS.md. The last line is `N passed, M failed`.
+# hundredth answer, of more than a million inputs 10000 of them, with the program's and with docs/FORMATS.md. A report of several
+# workers is not compared with the program's, where it depends on the schedule. COUNT 0 prints what the inputs of the cases cost
+# and how often each is taken. Inputs at fault are kept in /tmp. The last line is `N passed, M failed, K left out`.
 set -u
 if [ $# -lt 2 ]; then
     echo "usage: fuzz_library.sh FOLDER PROGRAM [COUNT [SEED [JOBS]]]" >&2
@@ -12,7 +14,7 @@ program=$(realpath "$2") || exit 2
 count=${3:-100000}
 seed=${4:-1}
 jobs=${5:-1}
-every=$((count / 1000 > 100 ? count / 1000 : 100))
+every=$((count / 10000 > 100 ? count / 10000 : 100))
 top=$(dirname "$(dirname "$(realpath "$0")")")
 work=$(mktemp -d) || exit 2
 trap 'rm -rf "$work"' EXIT
@@ -28,23 +30,42 @@ fi
 mkdir -p "$work"/samples/{solve,bounds,check,exploit,play}
 cd "$work" || exit 2
 (cd "$top/tests/vectors" && printf '%s\n' */*.args | sed 's/\.args$//') > names
-./fuzz "$top/tests/vectors" "$count" "$seed" "$jobs" samples "$every" < names || { cp -- *.in /tmp 2> /dev/null; exit 1; }
+if [ "$count" -eq 0 ]; then
+    ./fuzz "$top/tests/vectors" 0 "$seed" "$jobs" < names | sort -rn
+    exit
+fi
+keep() { # files of a case
+    local file
+    for file in "$@"; do
+        cp "$file" "/tmp/fuzz_library_$seed.$(basename "$file")"
+    done
+}
+if ! ./fuzz "$top/tests/vectors" "$count" "$seed" "$jobs" samples "$every" < names; then
+    shopt -s nullglob
+    keep [0-9]*.*
+    exit 1
+fi
 passed=0
 failed=0
+left=0
 python3 "$top/tests/formats.py" samples > told || failed=1
 grep -v '^texts that no case has' told
 for args in samples/*/*.args; do
     case=${args%.args}
+    if [[ $case == samples/solve/* ]] && grep -q '^spent [0-9]* ' "$case.out"; then
+        left=$((left + 1))
+        continue
+    fi
     mapfile -t words < "$args"
     "$program" "${words[@]}" < "$case.in" > out 2> err
     status=$?
-    if [ "$status" = "$(cat "$case.status")" ] && cmp -s out "$case.out"; then
+    if [ "$status" = "$(< "$case.status")" ] && cmp -s out "$case.out"; then
         passed=$((passed + 1))
     else
         failed=$((failed + 1))
-        echo "FAILED: ${words[*]} of an input that is kept as /tmp/fuzz_library_$failed.in"
-        cp "$case.in" "/tmp/fuzz_library_$failed.in"
+        echo "FAILED: ${words[*]} of an input that is kept as /tmp/fuzz_library_$seed.${case##*/}.in"
+        keep "$case".*
     fi
 done
-echo "$passed passed, $failed failed"
+echo "$passed passed, $failed failed, $left left out"
 [ "$failed" -eq 0 ] && [ "$passed" -gt 0 ]

@@ -39,7 +39,7 @@ try "vectors" sh -c "printf '%s\n' '$names' | '$work/library' '$top/tests/vector
 # The calls that answer in numbers, against the same cases and the reports of the examples.
 # shellcheck disable=SC2086
 try "numbers, build" "${CC:-cc}" -std=c11 -O1 $warnings -I"$top/include" -o "$work/numbers" "$top/tests/library_numbers.c" "$folder/libdosolve.a"
-names=$(cd "$top/tests/vectors" && printf '%s\n' solve/*.args exploit/*.args | sed 's/\.args$//')
+names=$(cd "$top/tests/vectors" && printf '%s\n' solve/*.args exploit/*.args play/*.args | sed 's/\.args$//')
 try "numbers" sh -c "printf '%s\n' '$names' | '$work/numbers' '$top/tests/vectors' '$top'/examples/*.report"
 
 # The examples: C with the archive, C++ with the shared library, Rust with the archive.
@@ -60,7 +60,7 @@ else
 fi
 # No other name than those of the header leaves the library.
 exported=$(nm -D --defined-only "$folder/libdosolve.so" | awk '{ print $3 }' | sort)
-wanted=$(printf '%s\n' dosolve_{bounds,check,exploit,plan,play,replies,root,row,sample,solve})
+wanted=$(printf '%s\n' dosolve_{bounds,check,exploit,games,plan,play,replies,root,row,sample,solve,worst})
 try "names" [ "$exported" = "$wanted" ]
 echo "$passed passed, $failed failed"
 [ "$failed" -eq 0 ]

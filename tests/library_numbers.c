@@ -1,9 +1,11 @@
 /* library_numbers.c: compares the calls that answer in numbers with texts.
  *     library_numbers FOLDER REPORT.. < NAMES
- * The names are those of cases of FOLDER (tests/vectors), solve/NAME or exploit/NAME, one a line. The bounds of a root are those of
- * the report that solve prints; what the best replies leave is what exploit prints. Of each report, of a case or a file, both plans
- * as arrays, printed again, are the lines of the report; each row at its key is the same, and a key between two has none. With
- * too little room the fronts come, and nothing is written behind them. The last line is `N passed, M failed`.
+ * The names are those of cases of FOLDER (tests/vectors), solve/NAME, exploit/NAME or play/NAME, one a line. The bounds of a root
+ * are those of the report that solve prints; what the best replies leave, to one plan or to both, is what exploit prints; games of
+ * several seeds are what play prints of each. Of each report, of a case or a file, both plans as arrays, printed again, are the
+ * lines of the report; each row at its key is the same, and a key between two has none; worst cases and games are those of the
+ * calls that answer in texts. With too little room the fronts come, and nothing is written behind them. The last line is
+ * `N passed, M failed`.
  */
 #include "dosolve.h"
 
@@ -163,6 +165,69 @@ static void print_worst(char *line, size_t room, uint32_t side, const struct dos
     snprintf(line + length, room - (size_t)length, "exact %s%s %" PRIu64 " %" PRIu32 "\n", below ? "-" : "", at, worst->base, worst->power);
 }
 
+/* Whether the worst cases of both sides are what exploit prints of each, or nothing is written. */
+static bool are_worst(const struct bytes *report) {
+    struct dosolve_worst_payoff worst[2] = {{0, 9, 0, 0, 0, 0, 0, 0}, {0, 9, 0, 0, 0, 0, 0, 0}};
+    uint32_t status = dosolve_worst(report->at, report->length, &worst[0], &worst[1]), wanted = DOSOLVE_DONE;
+    bool right = true;
+    for (uint32_t side = DOSOLVE_ONE; side <= DOSOLVE_TWO; side++) {
+        char text[DOSOLVE_ROOM] = "", line[256];
+        uint64_t size = 0;
+        uint32_t told = dosolve_exploit(side, report->at, report->length, (uint8_t *)text, sizeof text - 1, &size);
+        if (told != DOSOLVE_DONE) wanted = told;
+        print_worst(line, sizeof line, side, &worst[side]);
+        right = right && (status == DOSOLVE_DONE ? strcmp(line, text) == 0 : worst[side].exact == 9);
+    }
+    return right && status == wanted;
+}
+
+/* Whether the text ends with the lines that play prints behind the turns. */
+static bool has_payoffs(const char *text, const struct dosolve_match_payoffs *told) {
+    char lines[256];
+    int length = snprintf(lines, sizeof lines, "payoff %" PRId32 "\ngames %" PRIu32 " sum %" PRId64 " least %" PRId32 " most %" PRId32 "\n",
+                          told->first, told->games, told->sum, told->least, told->most);
+    size_t whole = strlen(text);
+    return whole >= (size_t)length && strcmp(text + whole - (size_t)length, lines) == 0;
+}
+
+/* Whether games of three seeds are what play prints of each, and a result without a seed, or without room, is left. */
+static bool are_games(uint32_t games, uint64_t first, const struct bytes *report) {
+    const struct dosolve_match_payoffs mark = {9, 9, GUARD, 9, 9};
+    const uint64_t seeds[4] = {first, first + 1, first ^ 0x9E3779B97F4A7C15u, first};
+    struct dosolve_match_payoffs told[4] = {mark, mark, mark, mark}, fewer[4] = {mark, mark, mark, mark};
+    uint32_t status = dosolve_games(games, seeds, 3, report->at, report->length, told, 4);
+    bool right = dosolve_games(games, seeds, 4, report->at, report->length, fewer, 3) == status &&
+                 memcmp(told, fewer, sizeof told) == 0 && memcmp(&told[3], &mark, sizeof mark) == 0;
+    for (int at = 0; at < 3; at++) {
+        static char text[1 << 16];
+        uint64_t size = 0;
+        right = right && dosolve_play(games, seeds[at], report->at, report->length, (uint8_t *)text, sizeof text - 1, &size) == status;
+        text[size < sizeof text ? size : 0] = 0;
+        right = right && (status == DOSOLVE_DONE ? has_payoffs(text, &told[at]) : memcmp(&told[at], &mark, sizeof mark) == 0);
+    }
+    const uint32_t wrong[2] = {0, 100001};
+    for (int at = 0; at < 2; at++)
+        right = right && dosolve_games(wrong[at], seeds, 1, report->at, report->length, &fewer[3], 1) == DOSOLVE_USAGE;
+    return right && dosolve_games(games, seeds, 0, report->at, report->length, &fewer[3], 1) == status &&
+           memcmp(&fewer[3], &mark, sizeof mark) == 0;
+}
+
+/* A case of play. */
+static void try_games(const char *folder, const char *name) {
+    struct bytes in = read_part(folder, name, ".in"), out = read_part(folder, name, ".out"), told = read_part(folder, name, ".status");
+    struct bytes words = read_part(folder, name, ".args");
+    char *next;
+    uint32_t wanted = (uint32_t)strtoul((char *)told.at, NULL, 10), games = (uint32_t)strtoul((char *)words.at + strlen("play\n"), &next, 10);
+    uint64_t seed = strtoull(next, NULL, 10);
+    if (in.at[0] != '@') {
+        struct dosolve_match_payoffs payoffs = {9, 9, 9, 9, 9};
+        bool right = dosolve_games(games, &seed, 1, in.at, in.length, &payoffs, 1) == wanted;
+        right = right && (wanted == DOSOLVE_DONE ? has_payoffs((char *)out.at, &payoffs) : payoffs.sum == 9);
+        judge(right && are_games(games < 1000 ? games : 1000, seed, &in), "games", name);
+    }
+    free(in.at), free(out.at), free(told.at), free(words.at);
+}
+
 static void try_replies(const char *folder, const char *name) {
     struct bytes in = read_part(folder, name, ".in"), out = read_part(folder, name, ".out"), told = read_part(folder, name, ".status");
     struct bytes words = read_part(folder, name, ".args");
@@ -185,6 +250,7 @@ static void try_replies(const char *folder, const char *name) {
         } else
             right = right && worst.exact == 9 && keys[0] == GUARD && moves[0] == GUARD;
         judge(right, "replies", name);
+        judge(are_worst(&in), "worst", name);
     }
     free(in.at), free(out.at), free(told.at), free(words.at);
 }
@@ -195,11 +261,14 @@ int main(int count, char **word) {
     while (fgets(line, sizeof line, stdin) != NULL) {
         line[strcspn(line, "\n")] = 0;
         if (strncmp(line, "solve/", 6) == 0) try_root(word[1], line);
+        else if (strncmp(line, "play/", 5) == 0) try_games(word[1], line);
         else try_replies(word[1], line);
     }
     for (int at = 2; at < count; at++) {
         struct bytes report = read_file(word[at]);
         try_plans(&report, word[at]);
+        judge(are_worst(&report), "worst", word[at]);
+        judge(are_games(20, 5, &report), "games", word[at]);
         free(report.at);
     }
     printf("%d passed, %d failed\n", passed, failed);

@@ -1,4 +1,4 @@
-/* solve.c: solves a position, has its report verified, and tells what each plan guarantees.
+/* solve.c: solves a position, has its report verified, tells what each plan guarantees, and plays both against each other.
  *     solve POSITION.json
  */
 #include "dosolve.h"
@@ -45,6 +45,17 @@ int main(int words, char **word) {
         printf("exploit: status %u, %.*s", status, (int)size, (const char *)text);
         failed |= status != DOSOLVE_DONE;
     }
+
+    /* Games of ten seeds that are far apart, from one reading of the report. */
+    enum { SEEDS = 10, GAMES = 1000 };
+    uint64_t seeds[SEEDS];
+    struct dosolve_match_payoffs played[SEEDS];
+    for (int at = 0; at < SEEDS; at++) seeds[at] = (uint64_t)at * 0x9E3779B97F4A7C15u;
+    uint32_t status = dosolve_games(GAMES, seeds, SEEDS, (const uint8_t *)report.text, report.size, played, SEEDS);
+    int64_t sum = 0;
+    for (int at = 0; at < SEEDS && status == DOSOLVE_DONE; at++) sum += played[at].sum;
+    printf("games: status %u, mean payoff %.3f of %d games\n", status, (double)sum / (SEEDS * GAMES), SEEDS * GAMES);
+    failed |= status != DOSOLVE_DONE;
     dosolve_free(&report);
     return failed;
 }

@@ -22,8 +22,8 @@ Calls of the program:
     best_response(report, side)                the plan that does best against the other side's
     nash_conv(report)                          what both sides together could gain
     expected(report)                           the exact expected payoff of both plans
-    sweep(positions, executor, output)         many positions, on any executor, resumable
     Solver(program, timeout)                   all of these as methods of one program
+    sweep(positions, executor, output)         many positions, on any executor, resumable
 
 Players:
 

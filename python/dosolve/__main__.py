@@ -6,7 +6,7 @@ import json
 import os
 import sys
 from collections.abc import Iterator
-from contextlib import contextmanager
+from contextlib import closing, contextmanager
 from dataclasses import replace
 from pathlib import Path
 from typing import Any
@@ -19,7 +19,7 @@ from .positions import ASKED, Position
 from .program import Solver, find_program
 from .progress import read_progress
 from .reports import Report
-from .sweeps import read_positions, sweep
+from .sweeps import Swept, read_positions, sweep
 from .table import Table, read_matrix
 from .tournaments import tournament
 from .values import as_points
@@ -118,7 +118,9 @@ def _exploit(words: argparse.Namespace) -> None:
     if words.json:
         _print_record([{"side": worst.side, "guarantees": worst.guaranteed / SCALE,
                         "low": float(worst.low / SCALE), "high": float(worst.high / SCALE),
-                        "exact": worst.is_exact} for worst in found])
+                        "exact": worst.is_exact,
+                        "fraction": str(worst.payoff) if worst.is_exact else None}
+                       for worst in found])
         return
     for worst in found:
         print(f"player {worst.side} guarantees {as_points(worst.guaranteed)}")
@@ -149,37 +151,45 @@ def _measure(words: argparse.Namespace) -> None:
 
 
 def _show(words: argparse.Namespace) -> None:
+    pictures.save(_picture(words), words.output)
+    if words.json:
+        _print_record({"output": str(words.output)})
+
+
+def _picture(words: argparse.Namespace) -> Any:
+    """The figure that the options ask for."""
     if words.progress:
-        pictures.save(pictures.history(read_progress(words.report.read_text().splitlines())),
-                      words.output)
-        return
-    report = _report(words.report)
-    if words.tree:
-        pictures.save(pictures.tree(report, words.tree), words.output)
-    else:
-        key = words.key
-        if words.history:
-            key = report.game.state_after([turn.split(",") for turn in words.history]).key
-        pictures.show(report, words.output, key, words.zoom, words.players)
+        return pictures.history(read_progress(words.report.read_text().splitlines()))
+    report, key = _report(words.report), words.key
+    if words.tree is not None:
+        return pictures.tree(report, words.tree, words.most)
+    if words.history:
+        key = report.game.state_after([turn.split(",") for turn in words.history]).key
+    return pictures.figure(report, key, words.zoom, words.players)
 
 
 def _sweep(words: argparse.Namespace) -> None:
     failed = 0
-    for found in sweep(read_positions(words.positions), None, words.output, _solver(words),
-                       words.seconds):
-        failed += found.report is None
-        if words.json:
-            _print_record({"number": found.number} | found.record())
-        elif found.report is None:
-            print(f"{found.number} failed {found.error}")
-        else:
-            report = found.report
-            print(f"{found.number} {report.game.name} lower {as_points(report.lower)} upper "
-                  f"{as_points(report.upper)} gap {as_points(report.gap)} {report.closeness} "
-                  f"seconds {found.seconds:.1f}")
-        sys.stdout.flush()
+    results = sweep(read_positions(words.positions), None, words.output, _solver(words),
+                    words.seconds)
+    with closing(results):
+        for found in results:
+            failed += found.report is None
+            print(json.dumps({"number": found.number} | found.record()) if words.json
+                  else _swept_line(found), flush=True)
     if failed:
         raise DosolveError(f"{failed} positions failed; a second call tries them again")
+
+
+def _swept_line(found: Swept) -> str:
+    """One result of a sweep in words."""
+    report = found.report
+    if report is None:
+        return f"{found.number} failed {found.error}"
+    notes = f" note {'; '.join(report.notes())}" if report.notes() else ""
+    return (f"{found.number} {report.game.name} lower {as_points(report.lower)} upper "
+            f"{as_points(report.upper)} gap {as_points(report.gap)} {report.closeness} seconds "
+            f"{found.seconds:.1f}{notes}")
 
 
 def _match(words: argparse.Namespace) -> None:
@@ -278,10 +288,10 @@ def _added(commands: Any, name: str, run: Any, about: str) -> argparse.ArgumentP
     return parser
 
 
-def _add_seconds(parser: argparse.ArgumentParser) -> None:
+def _add_seconds(parser: argparse.ArgumentParser, each: str = ", or at Ctrl-C") -> None:
     parser.add_argument("--seconds", type=_seconds, metavar="S",
-                        help="solve with growing turns, and take the best report after S seconds, "
-                             "or at Ctrl-C; `inf` goes on to the end")
+                        help=f"solve with growing turns, and take the best report after S "
+                             f"seconds{each}; `inf` goes on to the end")
 
 
 def _add_asked(parser: argparse.ArgumentParser) -> None:
@@ -375,6 +385,9 @@ def _add_show(commands: Any) -> None:
     parser.add_argument("--zoom", action="store_true", help="the axis round the bounds alone")
     parser.add_argument("--players", nargs=2, metavar=("ONE", "TWO"), help="names for the titles")
     parser.add_argument("--tree", type=int, metavar="TURNS", help="a tree of the first turns")
+    parser.add_argument("--most", type=int, metavar="N",
+                        help="the pairs of moves after each state of a tree (4, and 2 from three "
+                             "turns on)")
     parser.add_argument("--progress", action="store_true",
                         help="REPORT has lines of progress: draw bounds over time")
 
@@ -384,8 +397,9 @@ def _add_sweep(commands: Any) -> None:
     parser.add_argument("positions", type=Path, metavar="FILE.jsonl",
                         help="one position on each line")
     parser.add_argument("-o", "--output", type=Path, metavar="RESULTS.jsonl",
-                        help="write results, and go on where an earlier call stopped")
-    _add_seconds(parser)
+                        help="write results, and go on where an earlier call stopped, by Ctrl-C "
+                             "too")
+    _add_seconds(parser, " for each position")
 
 
 def main(arguments: list[str] | None = None) -> int:
@@ -403,7 +417,10 @@ def main(arguments: list[str] | None = None) -> int:
         return INTERRUPTED
     except (DosolveError, OSError, UnicodeDecodeError) as fault:
         where = "".join(f"{note}: " for note in getattr(fault, "__notes__", ()))
-        print(f"dosolve: {where}{fault}", file=sys.stderr)
+        told = str(fault)
+        if isinstance(fault, OSError) and fault.filename is not None:
+            told = f"{fault.filename}: {fault.strerror}"
+        print(f"dosolve: {where}{told}", file=sys.stderr)
         return 1
     return 0
 

@@ -123,10 +123,6 @@ def _explained(words: list[str]) -> str:
     if words == ["report", "head"]:
         return ("a report begins with the line `dosolve report 1` or `dosolve report 2`, and its "
                 "lines end with LF alone")
-    if words[:2] == ["refused", "bound"] and len(words) == 7:
-        least = "at least" if words[2] == "one" else "at most"
-        return (f"in the state {words[3]} the row's weights yield {words[5]} against move "
-                f"{words[4]} of the other player, and its bound requires {least} {words[6]}")
     if words[:2] == ["refused", "idle"] and len(words) == 4:
         return f"the plan of {words[2]} never reaches the state {words[3]}"
     if words[:2] == ["refused", "weights"] and len(words) == 4:

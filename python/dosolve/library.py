@@ -6,8 +6,11 @@ import functools
 import mmap
 import os
 from collections.abc import Sequence
+from fractions import Fraction
+from typing import Any, NamedTuple
 
 from .errors import ProgramMissingError
+from .game import SCALE
 
 _ROOM = 4096
 """Room in bytes that every answer but a report of `solve` fits into."""
@@ -17,9 +20,49 @@ _REPORT_ROOM = 1 << 26
 
 _OUTPUT = (ctypes.c_void_p, ctypes.c_size_t, ctypes.POINTER(ctypes.c_uint64))
 _INPUT = (ctypes.c_char_p, ctypes.c_size_t)
-_WORDS = {"solve": (), "check": (), "bounds": (), "exploit": (ctypes.c_uint32,),
-          "play": (ctypes.c_uint32, ctypes.c_uint64)}
-"""The commands that are given bytes, and the types of their words."""
+
+
+class _WorstPayoff(ctypes.Structure):
+    _fields_ = [("replies", ctypes.c_uint64), ("exact", ctypes.c_uint32),
+                ("power", ctypes.c_uint32), ("base", ctypes.c_uint64),
+                ("sum_high", ctypes.c_int64), ("sum_low", ctypes.c_uint64),
+                ("low", ctypes.c_int64), ("high", ctypes.c_int64)]
+
+
+class _MatchPayoffs(ctypes.Structure):
+    _fields_ = [("games", ctypes.c_uint32), ("first", ctypes.c_int32), ("sum", ctypes.c_int64),
+                ("least", ctypes.c_int32), ("most", ctypes.c_int32)]
+
+
+_ARGUMENTS: dict[str, tuple[Any, ...]] = {
+    "solve": (*_INPUT, *_OUTPUT),
+    "check": (*_INPUT, *_OUTPUT),
+    "bounds": (*_INPUT, *_OUTPUT),
+    "exploit": (ctypes.c_uint32, *_INPUT, *_OUTPUT),
+    "play": (ctypes.c_uint32, ctypes.c_uint64, *_INPUT, *_OUTPUT),
+    "worst": (*_INPUT, ctypes.POINTER(_WorstPayoff), ctypes.POINTER(_WorstPayoff)),
+    "games": (ctypes.c_uint32, ctypes.POINTER(ctypes.c_uint64), ctypes.c_size_t, *_INPUT,
+              ctypes.POINTER(_MatchPayoffs), ctypes.c_size_t),
+}
+"""The calls, and the types of what they are given."""
+
+
+class Worst(NamedTuple):
+    """What One gets, in millionths, where the best replies are made to a plan: between both,
+    exactly where they are equal."""
+
+    low: Fraction
+    high: Fraction
+
+
+class Payoffs(NamedTuple):
+    """What One gets in games of one seed, in whole payoffs: in the first, and in all."""
+
+    games: int
+    first: int
+    sum: int
+    least: int
+    most: int
 
 
 class Library:
@@ -31,12 +74,12 @@ class Library:
     def __init__(self, path: str | os.PathLike[str]) -> None:
         try:
             loaded = ctypes.CDLL(os.fspath(path))
-            self._calls = {command: getattr(loaded, f"dosolve_{command}") for command in _WORDS}
+            self._calls = {name: getattr(loaded, f"dosolve_{name}") for name in _ARGUMENTS}
         except (OSError, AttributeError) as fault:
             told = f"{os.fspath(path)} is no library of dosolve: {fault}"
             raise ProgramMissingError(told) from fault
-        for command, call in self._calls.items():
-            call.argtypes = (*_WORDS[command], *_INPUT, *_OUTPUT)
+        for name, call in self._calls.items():
+            call.argtypes = _ARGUMENTS[name]
             call.restype = ctypes.c_uint32
 
     def answer(self, words: Sequence[str], data: bytes) -> tuple[int, bytes]:
@@ -52,6 +95,26 @@ class Library:
             if size <= room:
                 return status, text
             room = size
+
+    def worst(self, report: bytes) -> tuple[int, Worst | None, Worst | None]:
+        """The worst cases of the plans of One and of Two, from one reading of the report, and the
+        status: 0, or why there are none (5 a plan comes to too many states, 8 want of memory, 9
+        no report)."""
+        one, two = _WorstPayoff(), _WorstPayoff()
+        status = self._calls["worst"](report, len(report), one, two)
+        return (status, _worst(one), _worst(two)) if status == 0 else (status, None, None)
+
+    def games(self, games: int, seeds: Sequence[int], report: bytes) -> tuple[int, list[Payoffs]]:
+        """The payoffs of so many games of each seed (0 to 2^64 - 1) between the plans of a report,
+        which is read once, and the status: 0, or why there are none (1 no number from 1 to
+        100000, 8 want of memory, 9 no report)."""
+        count = len(seeds)
+        told = (_MatchPayoffs * count)()
+        given = (ctypes.c_uint64 * count)(*seeds)
+        status = self._calls["games"](games, given, count, report, len(report), told, count)
+        if status != 0:
+            return status, []
+        return status, [Payoffs(x.games, x.first, x.sum, x.least, x.most) for x in told]
 
     def _call(self, command: str, numbers: list[int], data: bytes,
               room: int) -> tuple[int, bytes, int]:
@@ -69,6 +132,13 @@ class Library:
             finally:
                 del first
             return status, output[:min(size.value, room)], size.value
+
+
+def _worst(told: _WorstPayoff) -> Worst:
+    if not told.exact:
+        return Worst(Fraction(told.low), Fraction(told.high))
+    exact = Fraction(SCALE * ((told.sum_high << 64) + told.sum_low), told.base**told.power)
+    return Worst(exact, exact)
 
 
 @functools.cache

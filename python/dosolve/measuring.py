@@ -18,7 +18,7 @@ from .histories import HistoryPlayer, takes_history
 from .plans import ASKED_AGAIN, NO_PLAN, Sheet, fault_place, plan
 from .positions import Position, require_position
 from .program import Match, Solver, WorstCase
-from .progress import PlanListener
+from .progress import EitherListener, PlanListener
 from .reports import Report
 from .table import Table
 from .values import FilePath, as_points, shorten
@@ -62,12 +62,17 @@ class Measured:
                 f"{float(match.mean):z.6f} error {match.error or 0:z.6f} least {match.least} most "
                 f"{match.most}\n")
 
+    def __str__(self) -> str:
+        return self.text().removesuffix("\n")
+
     def record(self) -> dict[str, Any]:
-        """The numbers for JSON and tables, in payoffs of One."""
+        """The numbers for JSON and tables, in payoffs of One; exact ones as fractions too."""
         return {
             "side": self.side, "rows": len(self.report.sheet(self.side).rows),
             "guarantees": self.worst.guaranteed / 10**6, "short": self.short / 10**6,
-            "expected": float(self.expected), "games": self.match.games,
+            "fraction": str(self.worst.payoff) if self.worst.is_exact else None,
+            "expected": float(self.expected), "expected_fraction": str(self.expected),
+            "games": self.match.games,
             "mean": float(self.match.mean), "error": self.match.error,
             "least": self.match.least, "most": self.match.most,
         }
@@ -146,13 +151,16 @@ def plan_of(position: Position, player: Player | Sheet, side: Side,
 
 
 def measure(position: Position, player: Player | Sheet, side: Side, solved: Report | None = None,
-            games: int = 1000, seed: int = 0, program: FilePath | None = None) -> Measured:
+            games: int = 1000, seed: int = 0, program: FilePath | None = None,
+            progress: EitherListener | bool = False) -> Measured:
     """Measures a player, or a plan, on one side of a position, against the solver's report on it,
-    which is made where none is given."""
+    which is made where none is given. `progress` is a function that is called about once a second
+    with each step of making the plan (`PlanProgress`) and of the search (`Progress`), or True for
+    a line on the terminal."""
     require_position(position, "measure")
     solver = Solver(program)
-    mine = plan_of(position, player, side_of(side))
-    found = solved or solver.solve(position)
+    mine = plan_of(position, player, side_of(side), progress=progress)
+    found = solved or solver.solve(position, progress=progress)
     if (found.game, found.weight) != (position.game, position.weight):
         raise InvalidError(f"the report is not of this position: {found.game.title()}, weight "
                            f"{found.weight}")

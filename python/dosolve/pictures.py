@@ -9,7 +9,7 @@ from __future__ import annotations
 import math
 import random
 from collections.abc import Sequence
-from dataclasses import dataclass, field
+from dataclasses import dataclass, field, fields, is_dataclass
 from fractions import Fraction
 from pathlib import Path
 from typing import Any
@@ -20,7 +20,7 @@ from .plans import Sheet
 from .progress import Progress
 from .pursuit import PursuitState
 from .reports import Report
-from .table import Table
+from .table import Table, TableState
 from .tron import TronState
 from .values import FilePath, as_points, cut
 
@@ -32,6 +32,15 @@ _TITLES = {
     "oshi_zumo": "Oshi-Zumo", "tron": "Tron", "pursuit": "Pursuit on a graph",
     "table": "Table",
 }
+
+_GREY = "#555555"
+_PAPER = {"facecolor": "white", "edgecolor": "none", "pad": 1}
+"""What stands behind a text, so that no line goes through it."""
+
+_CAPTION = "Moves of One and Two with their probability; below, the bounds of what follows"
+
+_MOST_LABELS = 7
+"""How many labels an axis of gaps has with other digits than 1."""
 
 Players = tuple[str, str]
 """Who plays for One and for Two, for the titles."""
@@ -105,18 +114,30 @@ def _title(report: Report, state: State, key: int | None) -> str:
                  for name, value in report.game.record().items()]
     lines = [f"{_TITLES.get(report.game.name, report.game.name)}: {words[0]}"]
     for word in words[1:]:
-        if len(lines[-1]) + len(word) > 72:
+        if len(lines[-1]) + len(word) > 80:
             lines[-1] += ","
             lines.append(word)
         else:
             lines[-1] += f", {word}"
     if key is not None:
-        lines.append(cut(f"state {key}: {state!r}", 90))
+        lines.append(cut(f"state {key}: {_told(state)}", 90))
     return "\n".join(lines)
+
+
+def _told(state: State) -> str:
+    """A state in words: its name in a table, else its fields."""
+    if isinstance(state, TableState) or not is_dataclass(state):
+        return " ".join(str(state).split())
+    return ", ".join(f"{each.name} {_shown(getattr(state, each.name))}"
+                     for each in fields(state) if each.name != "game")
 
 
 def _shown(value: Any) -> str:
     """A setting as words."""
+    if isinstance(value, bool):
+        return "yes" if value else "no"
+    if isinstance(value, frozenset):
+        value = tuple(sorted(value))
     return " ".join(map(str, value)) or "none" if isinstance(value, tuple) else str(value)
 
 
@@ -193,7 +214,7 @@ def _set_range(axes: Any, report: Report, ends: list[float], zoom: bool) -> None
     if zoom:
         room = abs(ends[1] - ends[0]) or max(1e-6, (high - low) / 1e6)
         axes.set_xlim(min(ends) - room, max(ends) + room)
-        axes.ticklabel_format(useOffset=False, axis="x")
+        axes.ticklabel_format(useOffset=False, style="plain", axis="x")
         axes.locator_params(axis="x", nbins=3)
         return
     room = (high - low) * 0.04 or 0.1
@@ -206,30 +227,60 @@ def history(steps: Sequence[Progress]) -> Any:
     if not steps:
         raise InvalidError("there are no lines of progress: a search of less than a second prints "
                            "none")
-    picture = _blank(7.5, 6)
     told = [step for step in steps if step.gap is not None]
-    upper, lower = picture.subplots(2, 1, sharex=True)
+    picture = _blank(7.5, 6 if told else 3.5)
+    axes = picture.subplots(2 if told else 1, 1, sharex=True, squeeze=False)[:, 0]
+    axes[0].ticklabel_format(useOffset=False, style="plain")
     if told:
-        seconds = [step.seconds for step in told]
-        for side, word in _BOUNDS:
-            values = [(step.lower if side == "one" else step.upper or 0) for step in told]
-            upper.step(seconds, [(value or 0) / SCALE for value in values], where="post",
-                       color=_COLOURS[side], label=f"{word} bound")
-        upper.set_title("Bounds of the value over time", loc="left", fontsize=10)
-        upper.set_ylabel("payoff of player one", fontsize=9)
-        upper.legend(fontsize=8)
-        lower.step(seconds, [max(1, step.gap or 0) / SCALE for step in told], where="post",
-                   color="#555555")
-        lower.set_yscale("log")
-        lower.yaxis.set_minor_formatter(lambda value, place: "")
-        lower.set_title("Gap", loc="left", fontsize=10)
+        _draw_bounds(axes[0], told)
+        _draw_gaps(axes[1], told)
     else:
-        upper.set_axis_off()
-        lower.plot([step.seconds for step in steps], [step.turns for step in steps],
-                   color="#555555")
-        lower.set_title("Turns spent", loc="left", fontsize=10)
-    lower.set_xlabel("seconds", fontsize=9)
+        axes[0].plot([step.seconds for step in steps], [step.turns for step in steps], ".-",
+                     color=_GREY)
+        axes[0].set_title("Turns spent", loc="left", fontsize=10)
+    axes[-1].set_xlabel("seconds", fontsize=9)
+    axes[-1].set_xlim(0, 1.02 * (max(step.seconds for step in steps) or 1))
     return picture
+
+
+def _draw_bounds(axes: Any, told: Sequence[Progress]) -> None:
+    """Both bounds over time."""
+    for side, word in _BOUNDS:
+        values = [(step.lower if side == "one" else step.upper) or 0 for step in told]
+        axes.step([step.seconds for step in told], [value / SCALE for value in values], ".-",
+                  where="post", color=_COLOURS[side], label=f"{word} bound")
+    axes.set_title("Bounds of the value over time", loc="left", fontsize=10)
+    axes.set_ylabel("payoff of player one", fontsize=9)
+    axes.legend(fontsize=8)
+
+
+def _draw_gaps(axes: Any, told: Sequence[Progress]) -> None:
+    """The gap over time on a logarithmic axis, 0 as a millionth. The axis goes from a label to
+    another, each of them 1, 2 or 5 times a power of ten, or a power of ten alone where these are
+    many."""
+    gaps = [max(1, step.gap or 0) for step in told]
+    axes.step([step.seconds for step in told], [gap / SCALE for gap in gaps], ".-", where="post",
+              color=_GREY)
+    axes.set_title("Gap", loc="left", fontsize=10)
+    axes.set_yscale("log")
+    axes.minorticks_off()
+    labels = _labels(min(gaps), max(gaps))
+    words = [as_points(label).rstrip("0").rstrip(".") for label in labels]
+    axes.set_yticks([label / SCALE for label in labels], words)
+    axes.set_ylim(labels[0] / SCALE / 1.2, labels[-1] / SCALE * 1.2)
+
+
+def _labels(least: int, most: int) -> list[int]:
+    """Two labels or more round all gaps, in millionths."""
+    for digits in ((1, 2, 5), (1,)):
+        known = [digit * 10**power for power in range(12) for digit in digits]
+        low = max(place for place, label in enumerate(known) if label <= least)
+        high = min(place for place, label in enumerate(known) if label >= most)
+        if low == high:
+            low, high = max(0, low - 1), high + 1
+        if high - low < _MOST_LABELS:
+            break
+    return known[low:high + 1]
 
 
 @dataclass
@@ -244,9 +295,12 @@ class _Branch:
     branches: list[_Branch] = field(default_factory=list)
 
 
-def tree(report: Report, turns: int = 2, most: int = 4) -> Any:
+def tree(report: Report, turns: int = 2, most: int | None = None) -> Any:
     """The first turns where both sides play their plans of a report: the pairs of moves that are
-    most probable, at most `most` after each state, with the probability of each."""
+    most probable, at most `most` after each state, with the probability of each; left out, 4, and
+    2 from three turns on."""
+    if most is None:
+        most = 4 if turns <= 2 else 2
     if not 1 <= turns <= 6 or not 1 <= most <= 12:
         raise InvalidError("a tree has 1 to 6 turns, and 1 to 12 branches at a state")
     root = _Branch(report.game.root(), Fraction(1), "", 0)
@@ -258,6 +312,8 @@ def tree(report: Report, turns: int = 2, most: int = 4) -> Any:
     axes.set_xlim(-0.45, turns + 0.1)
     axes.set_ylim(leaves - 0.3, -0.7)
     picture.suptitle(_title(report, report.game.root(), None), fontsize=10)
+    axes.text(0.5, 1, _CAPTION, ha="center", va="bottom", fontsize=8, color=_GREY,
+              transform=axes.transAxes)
     _draw_branch(axes, root, report)
     return picture
 
@@ -272,7 +328,8 @@ def _grow(branch: _Branch, report: Report, turns: int, most: int) -> int:
         branch.branches.append(_Branch(after, chance, moves, branch.depth + 1))
     left = sum((chance for _, chance, _ in found[most:]), Fraction(0))
     if left:
-        others = f"{len(found) - most} others"
+        count = len(found) - most
+        others = f"{count} other{'s' if count > 1 else ''}"
         branch.branches.append(_Branch(None, left, others, branch.depth + 1))
     return sum(_grow(after, report, turns, most) for after in branch.branches)
 
@@ -310,12 +367,12 @@ def _draw_branch(axes: Any, branch: _Branch, report: Report) -> None:
                   linewidth=0.6 + 3 * float(after.chance))
         share = _percent(float(after.chance))
         axes.text(after.depth - 0.05, after.place - 0.16, f"{after.moves}  {share}", fontsize=8,
-                  ha="right", va="bottom")
+                  ha="right", va="bottom", bbox=_PAPER)
         _draw_branch(axes, after, report)
     if branch.state is not None:
         axes.scatter([branch.depth], [branch.place], s=18, color="#333333", zorder=3)
         axes.text(branch.depth - 0.05, branch.place + 0.12, _worth(branch.state, report),
-                  fontsize=7, ha="right", va="top", color="#555555")
+                  fontsize=7, ha="right", va="top", color=_GREY, bbox=_PAPER)
 
 
 def _worth(state: State, report: Report) -> str:
@@ -323,7 +380,7 @@ def _worth(state: State, report: Report) -> str:
     if state.is_end:
         return f"end, payoff {state.payoff}"
     bounds = [report.sheet(side).bound(state) / SCALE for side in SIDES]
-    return f"{bounds[0]:.3f} to {bounds[1]:.3f}"
+    return f"{bounds[0]:z.3f} to {bounds[1]:z.3f}"
 
 
 def _plain(axes: Any, title: str) -> None:
@@ -354,7 +411,7 @@ def _grid(axes: Any, report: Report, root: TronState) -> None:
         row, column = divmod(cell, width)
         wall = cell in root.taken and cell not in (root.one, root.two)
         axes.add_patch(Rectangle((column - 0.5, row - 0.5), 1, 1, edgecolor="#999999",
-                                 facecolor="#555555" if wall else "white"))
+                                 facecolor=_GREY if wall else "white"))
     for side in SIDES:
         row, column = divmod(root.one if side == "one" else root.two, width)
         _head(axes, column, row, side, 380)
@@ -394,7 +451,7 @@ def _graph(axes: Any, report: Report, root: PursuitState) -> None:
                 axes.annotate(_percent(share), places[label], (0, 24 if side == "one" else -24),
                               textcoords="offset points", color=_COLOURS[side], ha="center",
                               va="center", fontsize=8, zorder=5,
-                              bbox={"facecolor": "white", "edgecolor": "none", "pad": 1})
+                              bbox=_PAPER)
     axes.margins(0.15)
     axes.text(0.5, -0.02, "One: blue ring, Two: orange ring", ha="center", va="top", fontsize=8,
               transform=axes.transAxes)

@@ -137,8 +137,10 @@ def require_position(position: object, call: str) -> Position:
     if isinstance(position, Position):
         return position
     hint = ""
-    if isinstance(position, Game):
+    if isinstance(position, _KINDS):
         hint = f"; Position({type(position).__name__}(..)) is one"
+    elif isinstance(position, Game):
+        hint = "; Position(Table.from_game(game)) is one of a game of your own"
     elif isinstance(position, (str, bytes, os.PathLike)):
         hint = "; Position.load reads a file, Position.read a text"
     raise InvalidError(f"{call} takes a Position, not {shorten(position)}{hint}")

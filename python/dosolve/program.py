@@ -26,7 +26,7 @@ from .limits import MOST_GAMES, MOST_SEED
 from .plans import Sheet
 from .positions import Position, require_position
 from .progress import Bar, Follower, Listener
-from .reports import Report, head_fault
+from .reports import Report, explained, head_fault
 from .values import FilePath, as_field, cut, require_range, shorten
 
 BLOCKS = 40
@@ -69,7 +69,7 @@ class Accepted:
 @dataclass(frozen=True)
 class WorstCase:
     """The worst that any plan of the other player does to a plan: at least `low` and at most
-    `high` millionths, exact where these are equal."""
+    `high` millionths, an exact fraction where these are equal."""
 
     side: Side
     low: Fraction
@@ -204,7 +204,10 @@ class Solver:
     def check(self, report: Report | bytes | str) -> Accepted:
         """What `check` says of a right report; any other is refused with the first fault. Takes
         any bytes too."""
-        text = self._answer(["check"], report, {0})
+        try:
+            text = self._answer(["check"], report, {0})
+        except ReportRefusedError as refusal:
+            raise explained(refusal, report) from None
         found = self._matched(r"accepted (-?\d+) (-?\d+) (\w+)\n", text)
         return Accepted(int(found[1]), int(found[2]), found[3])
 
@@ -316,7 +319,7 @@ class Solver:
             why = _FAILURES[status]
         else:
             why = f"{find_program(self.program)} is not dosolve, or failed: status {status}"
-        shown = cut(told or text, 200)
+        shown = cut(" ".join((told or text).split()), 200)
         return ProgramFailedError(f"{' '.join(words)}: {why}{': ' if shown else ''}{shown}", status)
 
     def _matched(self, pattern: str, text: str) -> re.Match[str]:

@@ -73,6 +73,9 @@ class Asking:
 Listener = Callable[[Progress], object]
 """What is called with each step of a search."""
 
+EitherListener = Callable[[Progress | PlanProgress], object]
+"""What is called with each step of making a plan, and of a search."""
+
 
 class _Lines:
     """The lines that the workers of one search print, put together.

@@ -10,7 +10,7 @@ from pathlib import Path
 from typing import Any
 
 from .errors import InputRefusedError, InvalidError, ReportRefusedError
-from .game import CHANCE, SCALE, SIDES, Game, Move, Side, State
+from .game import CHANCE, SCALE, SIDES, Game, Move, Side, State, other, side_of
 from .limits import (
     LEAST_WEIGHT, MOST_BOUND, MOST_GAP, MOST_KEY, MOST_REPORT_BYTES, MOST_RESOLUTION, MOST_ROWS,
     MOST_TURNS, MOST_WEIGHT, MOST_WORKERS,
@@ -119,7 +119,7 @@ class Report:
         if "rows" in self.used_up:
             found.append("the board had no row left: more rows can narrow the gap")
         if self.turns == 0 and self.gap > self.asked:
-            found.append("no turns were given, or no time for any, so no matrix game was solved")
+            found.append("no turn was spent: a search without turns or time, or plans of players")
         if self.game.scale != 1:
             found.append(f"payoffs and bounds are those of the rules times {self.game.scale}")
         return tuple(found)
@@ -143,8 +143,9 @@ class Report:
         return f"{side}    {', '.join(shown[:8])}{', ..' if len(shown) > 8 else ''}"
 
     def __repr__(self) -> str:
+        vacuous = ", which is the range of payoffs" if self.is_vacuous else ""
         return (f"<Report on {cut(self.game.title(), 60)}: lower {as_points(self.lower)}, upper "
-                f"{as_points(self.upper)}, gap {as_points(self.gap)}, {self.closeness}>")
+                f"{as_points(self.upper)}, gap {as_points(self.gap)}{vacuous}, {self.closeness}>")
 
     def __str__(self) -> str:
         return self.summary().removesuffix("\n")
@@ -251,6 +252,23 @@ class Report:
         resolution = one.game.resolution(one.total)
         outcome = outcome_of(upper - lower, asked, resolution)
         return cls(one.game, one.total, 0, asked, resolution, outcome, lower, upper, (0,), one, two)
+
+
+def explained(refusal: ReportRefusedError, given: Report | bytes | str) -> ReportRefusedError:
+    """What `check` says of a report; of a row whose weights prove less than its bound, with the
+    state and the moves in words."""
+    words = refusal.words
+    if words[:2] != ["refused", "bound"] or refusal.key is None:
+        return refusal
+    report = given if isinstance(given, Report) else Report.read(given)
+    side, state = side_of(words[2]), report.game.state(refusal.key)
+    reply, found, needed = map(int, words[4:])
+    sign = 1 if side == "one" else -1
+    yields = sign * (sign * found // report.weight)
+    return ReportRefusedError(refusal.text, (
+        f"in {state} the row of player {side} yields {as_points(yields)} against the move "
+        f"{state.names(other(side))[reply]} of player {other(side)}, and its bound is "
+        f"{as_points(needed // report.weight)}"))
 
 
 def _spaced(*fields: object) -> str:

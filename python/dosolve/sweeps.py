@@ -1,20 +1,20 @@
 """Sweeps: many positions solved by any executor, in order, kept in a file that can be resumed."""
 from __future__ import annotations
 
+import io
 import json
 import os
-import signal
 import time
 from collections.abc import Generator, Iterable, Iterator
-from concurrent.futures import FIRST_COMPLETED, BrokenExecutor, Executor, Future
-from concurrent.futures import ProcessPoolExecutor, wait
+from concurrent.futures import FIRST_COMPLETED, BrokenExecutor, Executor, Future, wait
 from contextlib import AbstractContextManager, closing, nullcontext
 from dataclasses import dataclass, field, replace
 from pathlib import Path
-from typing import IO, Any
+from typing import Any
 
 from .errors import DosolveError, InvalidError
 from .positions import Position, processors, require_position
+from .processes import Processes
 from .program import Solver
 from .reports import Report
 from .values import FilePath
@@ -25,7 +25,7 @@ MOST_WAITING = 256
 _TRIES = 3
 
 
-@dataclass(frozen=True)
+@dataclass(frozen=True, repr=False)
 class Swept:
     """One position of a sweep: its number from 0 and its text, the report or the error, and the
     seconds that the search took."""
@@ -35,6 +35,9 @@ class Swept:
     report: Report | None
     error: str | None
     seconds: float
+
+    def __repr__(self) -> str:
+        return f"<Swept {self.number}: {self.error or repr(self.report)}, {self.seconds:.1f} s>"
 
     @property
     def position(self) -> Position:
@@ -49,9 +52,13 @@ class Swept:
         return found | self.report.record() | {"report": self.report.text()}
 
 
+Results = Generator[Swept, None, None]
+"""Results as they come; to close them ends the sweep."""
+
+
 def sweep(positions: Iterable[Position | str], executor: Executor | None = None,
           output: FilePath | None = None, solver: Solver | None = None,
-          seconds: float | None = None) -> Iterator[Swept]:
+          seconds: float | None = None) -> Results:
     """Solves positions, and gives the results in their order, each as soon as it is there.
 
     The executor is any of `concurrent.futures`, as Dask's `Client.get_executor()` and
@@ -60,6 +67,9 @@ def sweep(positions: Iterable[Position | str], executor: Executor | None = None,
     `error`, and the sweep goes on. With `output`, each result is a line of JSON in that file, and
     what is already there is not solved again, except failures; so a sweep that was stopped
     goes on where it was when it is started once more. Positions can be texts too.
+
+    At Ctrl-C, or where the results are closed, what waits is cancelled, and processes of this
+    machine end with what they run; other executors are left to end what they have begun.
     """
     given = list(positions)
     texts = [_text(position) for position in given]
@@ -83,7 +93,7 @@ def _text(position: Position | str) -> str:
 
 
 def _in_order(given: list[Position | str], texts: list[str], known: dict[str, Swept],
-              found: Generator[Swept, None, None], output: FilePath | None) -> Iterator[Swept]:
+              found: Results, output: FilePath | None) -> Results:
     """The results in the order of the positions; each new one is written when it comes."""
     ready: dict[int, Swept] = {}
     with _opened(output) as file, closing(found):
@@ -96,21 +106,27 @@ def _in_order(given: list[Position | str], texts: list[str], known: dict[str, Sw
                 new = next(found)
                 ready[new.number] = new
                 if file is not None:
-                    file.write(json.dumps(new.record()) + "\n")
-                    file.flush()
+                    _append(file, json.dumps(new.record()) + "\n")
             yield _named(ready.pop(number), given[number])
 
 
-def _opened(output: FilePath | None) -> AbstractContextManager[IO[str] | None]:
+def _opened(output: FilePath | None) -> AbstractContextManager[io.FileIO | None]:
     """The output file, to be appended to; a last line that was cut off is ended."""
     if output is None:
         return nullcontext()
     path = Path(output)
     cut = path.exists() and path.stat().st_size > 0 and not path.read_bytes().endswith(b"\n")
-    file = open(path, "a", encoding="utf-8")
+    file = io.FileIO(path, "a")
     if cut:
-        file.write("\n")
+        _append(file, "\n")
     return file
+
+
+def _append(file: io.FileIO, line: str) -> None:
+    """Writes a line at once, so that Ctrl-C does not cut it."""
+    left = line.encode()
+    while left:
+        left = left[file.write(left):]
 
 
 def _read_output(output: FilePath) -> dict[str, Swept]:
@@ -135,7 +151,6 @@ class _Jobs:
     waiting: list[int] = field(default_factory=list)
     running: dict[Future[Swept], int] = field(default_factory=dict)
     tries: dict[int, int] = field(default_factory=dict)
-    broken: bool = False
 
     def submit(self, executor: Executor) -> None:
         """Hands over as many jobs as the executor may have; those of a broken one by themselves,
@@ -156,7 +171,6 @@ class _Jobs:
             try:
                 yield future.result()
             except BrokenExecutor as fault:
-                self.broken = True
                 self.tries[number] = self.tries.get(number, 0) + 1
                 if self.tries[number] >= _TRIES:
                     yield self._failed(number, fault)
@@ -171,35 +185,20 @@ class _Jobs:
 
 
 def _solved(jobs: dict[int, tuple[str, Solver, float | None]],
-            executor: Executor | None) -> Generator[Swept, None, None]:
+            executor: Executor | None) -> Results:
     """The results as they come."""
+    if executor is None:
+        with Processes(_size(jobs)) as own:
+            yield from _solved(jobs, own)
+        return
     left = _Jobs(jobs, list(jobs))
-    own = None
     try:
         while left.waiting or left.running:
-            if executor is None and own is None:
-                own = ProcessPoolExecutor(_size(jobs), initializer=_leave_quietly)
-            pool = executor or own
-            assert pool is not None
-            try:
-                left.submit(pool)
-                yield from left.take()
-            except BrokenExecutor:
-                if executor is not None:
-                    raise
-            if own is not None and left.broken:
-                own.shutdown()
-                own, left.broken = None, False
+            left.submit(executor)
+            yield from left.take()
     finally:
         for future in left.running:
             future.cancel()
-        if own is not None:
-            own.shutdown(cancel_futures=True)
-
-
-def _leave_quietly() -> None:
-    """Ends a process of the pool at Ctrl-C without a word; the sweep itself reports it."""
-    signal.signal(signal.SIGINT, lambda *_: os._exit(130))
 
 
 def _size(jobs: dict[int, tuple[str, Solver, float | None]]) -> int:

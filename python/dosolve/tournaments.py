@@ -39,11 +39,17 @@ class Pairing:
     games: int
 
 
-@dataclass(frozen=True)
+@dataclass(frozen=True, repr=False)
 class Tournament:
     """All meetings of a tournament."""
 
     pairings: tuple[Pairing, ...]
+
+    def __repr__(self) -> str:
+        return f"<Tournament of {len(self.standings())} players: {len(self.pairings)} meetings>"
+
+    def __str__(self) -> str:
+        return self.markdown().removesuffix("\n")
 
     def table(self) -> list[dict[str, Any]]:
         """The meetings as records, as `pandas.DataFrame` takes them."""

@@ -70,7 +70,7 @@ class Folder:
         (bins / "python3").symlink_to(sys.executable)
         self.environment = os.environ | {
             "PATH": os.pathsep.join([str(bins), os.environ["PATH"]]), "PYTHONPATH": "python",
-            "DOSOLVE": str(found), "PYTHONDONTWRITEBYTECODE": "1"}
+            "DOSOLVE": str(found)}
 
     def run(self, *words):
         """The ended run of a command of a page, which writes into the folder."""

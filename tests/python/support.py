@@ -4,9 +4,12 @@ DOSOLVE names the program. Which of its commands and games are tried is what doc
 """
 from __future__ import annotations
 
+import atexit
+import os
 import random
 import re
 import signal
+import tempfile
 from pathlib import Path
 
 import dosolve
@@ -17,6 +20,12 @@ _FORMATS = (TOP / "docs" / "FORMATS.md").read_text()
 
 # A shell that runs the tests in the background ignores the signal, and so would the programs that they start.
 signal.signal(signal.SIGINT, signal.default_int_handler)
+
+# The commands that tests start find the package compiled, and leave nothing in the repository.
+_COMPILED = tempfile.TemporaryDirectory()
+atexit.register(_COMPILED.cleanup)
+os.environ["PYTHONPYCACHEPREFIX"] = _COMPILED.name
+os.environ.pop("PYTHONDONTWRITEBYTECODE", None)
 
 
 def commands() -> set[str]:

@@ -1,4 +1,6 @@
 """The command line: each command, its JSON, its messages, and what ends it."""
+import contextlib
+import io
 import json
 import os
 import re
@@ -9,11 +11,13 @@ import tempfile
 import time
 import unittest
 from pathlib import Path
+from unittest import mock
 
 import dosolve
+from dosolve.__main__ import main
 from support import TOP, children
 
-ENVIRONMENT = os.environ | {"PYTHONPATH": str(TOP / "python"), "PYTHONDONTWRITEBYTECODE": "1"}
+ENVIRONMENT = os.environ | {"PYTHONPATH": str(TOP / "python")}
 POSITION, REPORT = "examples/goofspiel_mixed.json", "examples/goofspiel_mixed.report"
 GOOD = json.loads((TOP / POSITION).read_text())
 
@@ -49,13 +53,15 @@ class Commands(unittest.TestCase):
                          "player one guarantees -0.500000\nplayer two guarantees -0.500000\n"
                          "nash_conv 0.000000\n")
         found = json.loads(run("exploit", REPORT, "two", "--json").stdout)
-        self.assertEqual([(worst["side"], worst["guarantees"]) for worst in found],
-                         [("two", -0.5)])
+        self.assertEqual([(worst["side"], worst["guarantees"], worst["fraction"])
+                          for worst in found], [("two", -0.5, "-1/2")])
 
     def test_measure_and_tournament(self):
         found = json.loads(run("measure", POSITION, "python/examples/even.py", "--json",
                                "--games", 40).stdout)
         self.assertEqual([player["guarantees"] for player in found["player"]], [-0.5, -0.5])
+        self.assertEqual([(player["fraction"], player["expected_fraction"])
+                          for player in found["player"]], [("-1/2", "-1/2")] * 2)
         words = ("tournament", "python/examples/even.py", "python/examples/match_the_prize.py",
                  "--position", POSITION)
         self.assertIn("| even |", run(*words).stdout)
@@ -73,6 +79,9 @@ class Commands(unittest.TestCase):
             self.assertRegex(found.stdout, r"(?m)^2 failed .*input 14 kind of game")
             self.assertIn("1 positions failed", found.stderr)
         self.assertEqual(len(output.read_text().splitlines()), 4)
+        given.write_text(json.dumps(GOOD | {"turns": 0, "visits": 0}) + "\n")
+        self.assertRegex(run("sweep", given).stdout, "seconds .* note .*range of payoffs: nothing")
+        given.write_text(f'{line}\n\n{line.replace("1000,", "999,")}\n{{"game": 7}}\n')
         self.assertEqual(len(run("sweep", given, "--json").stdout.splitlines()), 3)
 
     def test_help_and_version(self):
@@ -91,9 +100,13 @@ class Messages(unittest.TestCase):
         self.folder = Path(folder.name)
 
     def fails(self, words, pattern, *command):
-        found = run(*command)
-        self.assertEqual((found.returncode, found.stderr.count("\n")), (1, 1), found.stderr)
-        self.assertRegex(found.stderr, pattern, words)
+        """That a command, run in this process, ends with 1 and one line."""
+        told = io.StringIO()
+        with (contextlib.chdir(TOP), contextlib.redirect_stderr(told),
+              contextlib.redirect_stdout(io.StringIO()), mock.patch("sys.path", list(sys.path))):
+            status = main([str(word) for word in command])
+        self.assertEqual((status, told.getvalue().count("\n")), (1, 1), told.getvalue())
+        self.assertRegex(told.getvalue(), pattern, words)
 
     def test_positions(self):
         file = self.folder / "position.json"
@@ -120,7 +133,7 @@ class Messages(unittest.TestCase):
                               ("[[1, 2]]", "not an object: .*makes the position of a matrix")):
             file.write_text(text)
             self.fails(text, pattern, "solve", file)
-        self.fails("no file", "No such file or directory: 'no.json'", "solve", "no.json")
+        self.fails("no file", "^dosolve: no.json: No such file or directory$", "solve", "no.json")
 
     def test_reports(self):
         file, good = self.folder / "x.report", (TOP / REPORT).read_text()
@@ -138,8 +151,13 @@ class Messages(unittest.TestCase):
         self.fails("a position", f"^dosolve: {POSITION}: report head: this is a position, not",
                    "check", POSITION)
         file.write_text(good.replace("335595772 -500000", "335595772 -499999", 1))
-        self.fails("a wrong row", r"refused bound one 335595772 0 -32768000000 -32767934464: .*"
-                   r"yield -32768000000 against move 0 .* requires at least", "check", file)
+        self.fails("a wrong row", r"refused bound one 335595772 0 -32768000000 -32767934464: in "
+                   r"Goof.* the row of player one yields -0\.500000 against the move 2 of player "
+                   r"two, and its bound is -0\.499999$", "check", file)
+        file.write_text(good.replace("335595772 -500000", "335595772 -500001")
+                        .replace("335595772 -500001", "335595772 -500000", 1))
+        self.fails("a wrong row of Two", r"the row of player two yields -0\.500000 against the move "
+                   r"1 of player one, and its bound is -0\.500001$", "check", file)
 
     def test_paths_handed_as_texts(self):
         with self.assertRaisesRegex(dosolve.InputRefusedError, "Position.load reads"):

@@ -54,6 +54,24 @@ class Exact(unittest.TestCase):
                                        float(values["one"] - values["two"]), 4)
         self.assertGreater(checked, 50)
 
+    def test_what_is_exact_is_a_fraction_and_bounds_are_its_floor_or_ceiling(self):
+        game = dosolve.Goofspiel([1, 2, 3], [1, 2, 3], [1, 1, 2])
+        report = dosolve.Report.of(*sheets(game, random.Random(4), 8193))
+        values = [dosolve.expected(report), dosolve.nash_conv(report),
+                  dosolve.match(report, 40).mean, *report.one.probabilities(game.root()).values(),
+                  *report.stage(game.root())[0][0]]
+        for side, rounded in zip(dosolve.SIDES, (math.floor, math.ceil)):
+            worst = dosolve.exploit(report, side)
+            found = dosolve.best_response(report, dosolve.other(side)).value
+            self.assertEqual((worst.is_exact, worst.payoff), (True, found))
+            self.assertEqual(worst.guaranteed, rounded(found * dosolve.SCALE))
+            self.assertNotEqual(worst.guaranteed, found * dosolve.SCALE)
+            better = worst.guaranteed - report.bound(side)
+            self.assertIn(better if side == "one" else -better, range(4))
+            values += [worst.low, worst.high, worst.payoff, found]
+        for value in values:
+            self.assertIsInstance(value, Fraction)
+
     def test_matches_come_near_the_exact_payoff(self):
         source, within = random.Random(8), 0
         for name in games():
@@ -89,8 +107,10 @@ class Exact(unittest.TestCase):
         even = dosolve.plan(game, "one", lambda state: [0.5, 0.5], 8192)
         self.assertEqual([row.bound for row in even.rows], [0])
         self.assertEqual(dosolve.respond(even).value, 0)
-        with self.assertRaisesRegex(dosolve.InvalidError, "has the games goofspiel.*none of them"):
-            dosolve.Position(game)
+        for call, words in ((dosolve.Position, "has the games goofspiel.*none of them; Table.from"),
+                            (dosolve.solve, r"; Position\(Table.from_game\(game\)\) is one of")):
+            with self.assertRaisesRegex(dosolve.InvalidError, words):
+                call(game)
 
     def test_plans_of_two_games_are_refused(self):
         one = dosolve.Sheet(dosolve.OshiZumo(1, 2, 1), "one", 8192)

@@ -55,6 +55,28 @@ class Answers(unittest.TestCase):
             by_library = dosolve.solve(position), dosolve.check(report), dosolve.play(report, 5, 3)
         self.assertEqual(by_library, by_program)
 
+    def test_worst_cases_of_both_plans(self):
+        for path in sorted((TOP / "examples").glob("*.report")):
+            with self.subTest(path.name):
+                given = path.read_bytes()
+                found = dosolve.exploit(given, "one"), dosolve.exploit(given, "two")
+                wanted = [(worst.low, worst.high) for worst in found]
+                self.assertEqual(self.library.worst(given), (0, *wanted))
+        self.assertEqual(self.library.worst(b"no report"), (9, None, None))
+
+    def test_games_of_several_seeds(self):
+        seeds = [3, 0, 2**64 - 1, 3]
+        for path in sorted((TOP / "examples").glob("*.report")):
+            with self.subTest(path.name):
+                given = path.read_bytes()
+                found = [dosolve.play(given, 20, seed) for seed in seeds]
+                wanted = [(x.games, x.payoff, x.sum, x.least, x.most) for x in found]
+                self.assertEqual(self.library.games(20, seeds, given), (0, wanted))
+                self.assertEqual(self.library.games(20, [], given), (0, []))
+        self.assertEqual(self.library.games(20, seeds, b"no report"), (9, []))
+        for games in 0, 100001:
+            self.assertEqual(self.library.games(games, seeds, given), (1, []))
+
     def test_refusals_are_exceptions(self):
         with self.assertRaises(dosolve.ReportRefusedError):
             dosolve.check("no report")

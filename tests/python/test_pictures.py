@@ -65,7 +65,12 @@ class Pictures(unittest.TestCase):
         words = [f"lower {report.lower / dosolve.SCALE:.6f}",
                  f"upper {report.upper / dosolve.SCALE:.6f}"]
         words += [name for side in dosolve.SIDES for name in report.game.root().names(side)]
-        self.look(pictures.figure(report, **more), *words)
+        picture = pictures.figure(report, **more)
+        self.look(picture, *words)
+        labels = self.labels(picture.axes[2].xaxis)
+        self.assertGreaterEqual(len(labels), 2)
+        self.assertEqual("".join(labels).strip("\N{MINUS SIGN}.0123456789"), "")
+        self.assertEqual(picture.axes[2].xaxis.get_offset_text().get_text(), "")
 
     def test_examples(self):
         for file in EXAMPLES:
@@ -97,11 +102,24 @@ class Pictures(unittest.TestCase):
     def test_trees(self):
         for file in EXAMPLES:
             report = dosolve.Report.load(file)
-            for turns, most in ((1, 4), (2, 3), (3, 2)):
+            for turns, most in ((1, 4), (2, 3), (3, None)):
                 with self.subTest(file.stem, turns=turns):
-                    self.look(pictures.tree(report, turns, most))
+                    picture = pictures.tree(report, turns, most)
+                    self.look(picture)
+                    texts = [text.get_text() for text in picture.axes[0].texts]
+                    self.assertFalse([text for text in texts if "-0.000" in text], texts)
+                    self.assertNotIn("1 others", " ".join(texts))
         with self.assertRaisesRegex(dosolve.InvalidError, "1 to 6 turns"):
             pictures.tree(report, 0)
+
+    def test_a_state_is_told_in_words(self):
+        for file, words in zip(EXAMPLES, ("one 3, two 2, score -1", "taken 0 1 5 6 10 11, one 5",
+                                          "place 0, one 2, two", "", "caught no, rounds 1")):
+            report = dosolve.Report.load(file)
+            states = [report.game.state(row.key) for row in report.one.rows]
+            titles = [pictures._title(report, state, state.key) for state in states]
+            self.assertFalse([title for title in titles if "State(" in title])
+            self.assertTrue(not titles or any(words in title for title in titles), titles)
 
     def test_bounds_over_time(self):
         lines = [f"worker 0 turns {100 * at} seconds {at}" for at in range(1, 9)]
@@ -111,6 +129,33 @@ class Pictures(unittest.TestCase):
         self.look(pictures.history(dosolve.read_progress(lines)), "Gap", "lower bound")
         with self.assertRaisesRegex(dosolve.InvalidError, "no lines of progress"):
             pictures.history([])
+
+    def test_each_axis_over_time_has_two_labels_or_more(self):
+        for gaps, wanted in (
+                ([600_000, 599_999], ["0.5", "1"]), ([10**6], ["0.5", "1", "2"]),
+                ([2 * 10**6, 1_100_000], ["1", "2"]), ([7, 0], ["0.000001", "0.000002",
+                                                                "0.000005", "0.00001"]),
+                ([60 * 10**6, 26], ["0.00001", "0.0001", "0.001", "0.01", "0.1", "1", "10",
+                                    "100"]),
+                ([8 * 10**9, 5 * 10**9], ["5000", "10000"]), ([0], ["0.000001", "0.000002"])):
+            steps = [dosolve.Progress(9 * at, at / 7, -gap // 2, gap - gap // 2)
+                     for at, gap in enumerate(gaps, 1)]
+            picture = pictures.history(steps)
+            with self.subTest(gaps):
+                self.look(picture, "Gap")
+                self.assertEqual(self.labels(picture.axes[1].yaxis), wanted)
+                low, high = picture.axes[1].get_ylim()
+                self.assertTrue(low * dosolve.SCALE < max(1, min(gaps)) <= max(1, *gaps, 0)
+                                < high * dosolve.SCALE)
+                for axis in (picture.axes[0].yaxis, picture.axes[1].xaxis):
+                    self.assertGreaterEqual(len(self.labels(axis)), 2)
+
+    @staticmethod
+    def labels(axis):
+        """The labels that an axis shows."""
+        low, high = sorted(axis.get_view_interval())
+        return [tick.label1.get_text() for tick in axis.get_major_ticks()
+                if low <= tick.get_loc() <= high]
 
     def test_one_report_gives_the_same_file(self):
         report = dosolve.Report.load(EXAMPLES[0])

@@ -61,6 +61,10 @@ class Answers(unittest.TestCase):
         self.assertEqual([step.states for step in steps], list(range(1, len(steps) + 1)))
         self.assertIn("the player was asked in 1 states", str(steps[0]))
         self.assertGreater(len(steps), 10)
+        told = []
+        with mock.patch("dosolve.progress.time.monotonic", itertools.count().__next__):
+            dosolve.measure(POSITION, even, "two", games=40, progress=told.append)
+        self.assertGreater(len([step for step in told if isinstance(step, dosolve.PlanProgress)]), 10)
 
     @unittest.skipUnless(optional("numpy"), "numpy is missing")
     def test_numbers_of_numpy_are_taken(self):
@@ -190,6 +194,8 @@ class Matches(unittest.TestCase):
         self.assertIn("<th>as one</th>", found._repr_html_())
         self.assertEqual(found.csv().splitlines()[0], "position,game,one,two,payoff,error,games")
         self.assertEqual(len(json.loads(found.json())["meetings"]), 16)
+        self.assertEqual(repr(found), "<Tournament of 4 players: 16 meetings>")
+        self.assertEqual(str(found) + "\n", found.markdown())
         with self.assertRaisesRegex(dosolve.InvalidError, "named solver"):
             dosolve.tournament({"solver": even}, [POSITION], dosolve.Solver())
 

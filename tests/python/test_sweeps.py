@@ -1,5 +1,7 @@
-"""Sweeps: in order, resumed, failures kept, and nothing lost where a worker is killed."""
+"""Sweeps: in order, resumed, failures kept, nothing lost where a worker is killed, and nothing left
+running where a sweep is stopped."""
 import concurrent.futures
+import dataclasses
 import importlib.util
 import json
 import logging
@@ -13,10 +15,13 @@ import tempfile
 import threading
 import time
 import unittest
+from concurrent.futures import BrokenExecutor
 from pathlib import Path
+from unittest import mock
 
 import dosolve
 import guide
+from dosolve.processes import Processes
 from support import TOP, children, random_game
 
 try:
@@ -73,6 +78,8 @@ class Sweeps(unittest.TestCase):
         self.assertEqual([swept.number for swept in found if swept.error], [2])
         self.assertIn("there is no game 'chess'", found[2].error)
         self.assertEqual(found[7].report, dosolve.solve(given[7]))
+        self.assertRegex(repr(found[2]), "^<Swept 2: InputRefusedError: input 16 .*, 0.0 s>$")
+        self.assertRegex(repr(found[7]), "^<Swept 7: <Report on .*>, .* s>$")
         for line in output.read_text().splitlines():
             self.assertTrue("cut o" in line or {"position", "seconds"} <= json.loads(line).keys())
 
@@ -101,7 +108,7 @@ class Sweeps(unittest.TestCase):
                  "--port", str(port), "--no-dashboard"]
         started = [self.start(words, environment)]
         words = [sys.executable, "-m", "distributed.cli.dask_worker", address, "--nthreads", "1",
-                 "--no-nanny", "--no-dashboard"]
+                 "--no-nanny", "--no-dashboard", "--local-directory", str(self.folder)]
         started += [self.start(words, environment) for _ in range(2)]
         given = positions(60, random.Random(4))
         with distributed.Client(address, timeout=60) as client:
@@ -155,6 +162,154 @@ class Sweeps(unittest.TestCase):
         self.addCleanup(end)
         time.sleep(0.2)
         return process
+
+
+class Executors(unittest.TestCase):
+    """The processes of this machine as an executor of `concurrent.futures`."""
+
+    def test_jobs_are_done_or_raise_and_one_that_kills_its_process_breaks_itself_alone(self):
+        with Processes(2) as executor:
+            self.assertEqual(list(executor.map(pow, range(9), [2] * 9)),
+                             [number**2 for number in range(9)])
+            futures = [executor.submit(os._exit, 3), executor.submit(int, "x"),
+                       executor.submit(pow, 2, exp=5), executor.submit(len, b"x" * 10**7)]
+            with self.assertRaisesRegex(BrokenExecutor, "ended, or was killed"):
+                futures[0].result()
+            with self.assertRaisesRegex(ValueError, "invalid literal"):
+                futures[1].result()
+            self.assertEqual([future.result() for future in futures[2:]], [32, 10**7])
+        with self.assertRaisesRegex(RuntimeError, "have been ended"):
+            executor.submit(pow, 2, 2)
+
+    def test_what_runs_and_what_waits_ends_with_it(self):
+        executor = Processes(1)
+        futures = [executor.submit(time.sleep, 60) for _ in range(3)]
+        while not futures[0].running():
+            time.sleep(0.01)
+        since = time.monotonic()
+        executor.shutdown()
+        self.assertLess(time.monotonic() - since, 5)
+        self.assertIsInstance(futures[0].exception(), BrokenExecutor)
+        self.assertTrue(futures[1].cancelled() and futures[2].cancelled())
+
+    def test_a_process_that_cannot_be_started_is_told(self):
+        with mock.patch("sys.executable", "/no/such"), Processes(1) as executor:
+            with self.assertRaisesRegex(BrokenExecutor, "could not be started: .*/no/such"):
+                executor.submit(pow, 2, 2).result()
+
+
+class Stopped(unittest.TestCase):
+    """A sweep of which some positions take a minute ends soon, with what it runs."""
+
+    QUICK, SLOW, SOON = 4, 8, 5
+
+    def setUp(self):
+        folder = tempfile.TemporaryDirectory()
+        self.addCleanup(folder.cleanup)
+        self.folder = Path(folder.name)
+        self.output = self.folder / "out.jsonl"
+        self.given = positions(self.QUICK + self.SLOW, random.Random(6))
+        self.given[self.QUICK:] = [dataclasses.replace(position, visits=9_999)
+                                   for position in self.given[self.QUICK:]]
+        script = self.folder / "slow"
+        # Without exec, so that there is a process below the program.
+        script.write_text("#!/bin/sh\nposition=$(cat)\ncase $position in *'\"visits\":9999,'*) "
+                          "sleep 60 ;; esac\n"
+                          f'printf "%s\\n" "$position" | "{dosolve.find_program()}" "$@"\n')
+        script.chmod(0o755)
+        self.program = str(script)
+        self.addCleanup(self.end_all)
+
+    def running(self):
+        """The processes of this sweep, those of its programs too."""
+        mark, found = f"SWEEP={self.folder}".encode(), []
+        for file in Path("/proc").glob("[0-9]*/environ"):
+            try:
+                if mark in file.read_bytes().split(b"\0"):
+                    found.append(int(file.parent.name))
+            except OSError:
+                continue
+        return found
+
+    def end_all(self):
+        for process in self.running():
+            os.kill(process, signal.SIGKILL)
+
+    def wait_until(self, what, is_true, seconds=60):
+        """Waits for something, and gives how long it took."""
+        since = time.monotonic()
+        while not is_true():
+            self.assertLess(time.monotonic() - since, seconds, what)
+            time.sleep(0.05)
+        return time.monotonic() - since
+
+    def lines(self):
+        return self.output.read_text().splitlines() if self.output.exists() else []
+
+    def sweep(self, *more):
+        """The command, at the head of a group of processes."""
+        given = self.folder / "given.jsonl"
+        given.write_text("".join(position.text() for position in self.given))
+        environment = os.environ | {"PYTHONPATH": str(TOP / "python"), "SWEEP": str(self.folder)}
+        return subprocess.Popen(
+            [sys.executable, "-m", "dosolve", "sweep", given, "-o", self.output, *more], text=True,
+            env=environment, start_new_session=True, stdout=subprocess.PIPE,
+            stderr=subprocess.PIPE)
+
+    def test_interrupted_it_ends_soon_and_can_be_resumed(self):
+        for stop in (os.kill, os.killpg):
+            with self.subTest(stop.__name__):
+                self.output.unlink(missing_ok=True)
+                command = self.sweep("--program", self.program)
+                self.wait_until("results", lambda: len(self.lines()) == self.QUICK)
+                time.sleep(0.2)
+                since = time.monotonic()
+                stop(command.pid, signal.SIGINT)
+                answer, told = command.communicate(timeout=60)
+                self.assertLess(time.monotonic() - since, self.SOON)
+                self.assertEqual((command.returncode, told), (130, "dosolve: interrupted\n"))
+                self.wait_until("the end of all", lambda: not self.running(), self.SOON)
+                self.assertEqual(answer.count("\n"), self.QUICK)
+                kept = self.lines()
+                self.assertEqual(sorted(json.loads(line)["position"] for line in kept), sorted(
+                    position.text().strip() for position in self.given[:self.QUICK]))
+        command = self.sweep()
+        answer, told = command.communicate(timeout=60)
+        self.assertEqual((command.returncode, told, answer.count("\n")), (0, "", len(self.given)))
+        self.assertEqual(self.lines()[:self.QUICK], kept)
+        self.assertEqual(sorted(json.loads(line)["report"] for line in self.lines()),
+                         sorted(dosolve.solve(position).text() for position in self.given))
+
+    def test_where_it_is_killed_its_processes_end(self):
+        command = self.sweep("--program", self.program)
+        self.wait_until("results", lambda: len(self.lines()) == self.QUICK)
+        command.kill()
+        command.communicate()
+        self.wait_until("the end of all", lambda: not self.running(), self.SOON)
+
+    def test_where_its_results_are_closed_it_ends(self):
+        before = children(os.getpid())
+        found = dosolve.sweep(self.given, solver=dosolve.Solver(self.program))
+        self.assertIsNone(next(found).error)
+        self.assertNotEqual(children(os.getpid()), before)
+        since = time.monotonic()
+        found.close()
+        self.assertLess(time.monotonic() - since, self.SOON)
+        self.assertEqual(children(os.getpid()), before)
+
+    def test_what_waits_in_another_executor_is_cancelled(self):
+        futures = []
+
+        class Keeping(concurrent.futures.ThreadPoolExecutor):
+            def submit(self, *work):
+                futures.append(super().submit(*work))
+                return futures[-1]
+
+        with Keeping(1) as threads:
+            found = dosolve.sweep(self.given[:self.QUICK] * 40, threads)
+            next(found)
+            found.close()
+        self.assertGreater(sum(future.cancelled() for future in futures), 100)
 
 
 if __name__ == "__main__":

@@ -17,7 +17,7 @@ from support import TOP, random_game, random_listing
 from table_support import STAGES, Bids, Nim
 from test_texts import changed, read_back
 
-ENVIRONMENT = os.environ | {"PYTHONPATH": str(TOP / "python"), "PYTHONDONTWRITEBYTECODE": "1"}
+ENVIRONMENT = os.environ | {"PYTHONPATH": str(TOP / "python")}
 
 
 def position(table, **asked):

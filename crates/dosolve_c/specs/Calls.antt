@@ -1,5 +1,5 @@
 -- What a call answers in its caller's memory.
-use Rattle.std.specs.Prelude.{◌≡◌, ℕ, List, length, take, drop, ◌++◌, ◌||◌, nat_eq, nat_lt, if◌then◌else◌, Option, None, Some}
+use Rattle.std.specs.Prelude.{◌≡◌, ℕ, List, length, take, drop, ◌++◌, Bool, ◌&&◌, nat_eq, nat_lt, nat_le, if◌then◌else◌, Option, None, Some}
 use Rattle.sim_game.specs.declared.Side.TheVariants.{One, Two}
 use Rattle.commands.specs.declared.words.Command.{Command}
 use Rattle.commands.specs.declared.words.Command.TheVariants.{Reading, Sample}
@@ -13,9 +13,12 @@ exploit_at side =
     if nat_eq side 0 then Some (Reading (Exploit One))
     else (if nat_eq side 1 then Some (Reading (Exploit Two)) else None)
 
+-- how many games can be played
+abbrev pub can_play : ℕ → Bool
+can_play games = nat_lt 0 games && nat_le games 100000
+
 abbrev pub play_at : ℕ → ℕ → Option Command
-play_at games seed =
-    if nat_eq games 0 || nat_lt 100000 games then None else Some (Reading (Play games seed))
+play_at games seed = if can_play games then Some (Reading (Play games seed)) else None
 
 abbrev pub sample_at : ℕ → Option Command
 sample_at number = if nat_lt 1000000 number then None else Some (Sample number)

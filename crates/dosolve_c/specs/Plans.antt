@@ -32,22 +32,30 @@ use Rattle.dosolve_c.specs.Calls.{put_over}
 abbrev pub side_at : ℕ → Option Side
 side_at side = if nat_eq side 0 then Some One else (if nat_eq side 1 then Some Two else None)
 
--- the report of the bytes, and the side of the number
+-- the report of the bytes
+pub record IsReportIn (bytes : List ℕ) (r : Report) : Type 0 where
+  pub is : report_in bytes ≡ Ok r
+  pub in_range : IsInRange r
+
+-- and the side of the number
 pub record IsPlanIn (side : ℕ) (bytes : List ℕ) (s : Side) (r : Report) : Type 0 where
   pub side_is : side_at side ≡ Some s
-  pub report_is : report_in bytes ≡ Ok r
-  pub in_range : IsInRange r
+  pub report : IsReportIn bytes r
 
 -- ---- what is wrong
 abbrev pub status_of_fault : ReportFault → ℕ
 status_of_fault (faults.Text texts.NoMemory) = 8
 status_of_fault fault = 9
 
--- there is no such side, the bytes are no report whose position has a game, or memory is wanting
+-- the bytes are no report whose position has a game, or memory is wanting
+pub data IsUnread (bytes : List ℕ) : ℕ → Type 0 where
+  fault : (f : ReportFault) → report_in bytes ≡ Err f → IsUnread bytes 9
+  no_memory : IsUnread bytes 8
+
+-- or there is no such side
 pub data IsFault (side : ℕ) (bytes : List ℕ) : ℕ → Type 0 where
   no_side : side_at side ≡ None → IsFault side bytes 1
-  unread : (f : ReportFault) → report_in bytes ≡ Err f → IsFault side bytes 9
-  no_memory : IsFault side bytes 8
+  unread : (status : ℕ) → IsUnread bytes status → IsFault side bytes status
 
 -- ---- the bounds of a root
 abbrev pub status_of_refusal : InputError → ℕ
@@ -109,15 +117,45 @@ abbrev pub IsWorthTold : Worth → WorstPayoff → Type 0
 IsWorthTold (Exact amount base power) told = IsExactTold amount base power told
 IsWorthTold (Between low high) told = IsBetweenTold low high told
 
+-- the worst case of the plan of the side, which no plan of the other side undercuts
+abbrev pub IsWorstOf : Side → Report → WorstCase → Type 0
+IsWorstOf s r case = OfGame r.position (λ S m. IsWorstCase m (sheet_of s r) most_states case × IsWorst m (sheet_of s r))
+
+-- the plan of the side comes to too many states
+abbrev pub HasTooMany : Side → Report → Type 0
+HasTooMany s r = OfGame r.position (λ S m. HasMore m (sheet_of s r) most_states)
+
+-- or memory is wanting
+pub data IsUnmeasured (s : Side) (r : Report) : ℕ → Type 0 where
+  full : HasTooMany s r → IsUnmeasured s r 5
+  no_memory : IsUnmeasured s r 8
+
+-- the numbers of a worst case
+pub record IsCaseTold (case : WorstCase) (told : WorstPayoff) : Type 0 where
+  pub worth : IsWorthTold case.worth told
+  pub replies : told.replies ≡ length case.reply
+
 pub data AreRepliesTold (side : ℕ) (bytes keys keys' moves moves' : List ℕ) (worst worst' : WorstPayoff) : ℕ → Type 0 where
-  -- replies that bring about the worst case, which no plan of the other side undercuts
-  found : (s : Side) (r : Report) (case : WorstCase) → IsPlanIn side bytes s r
-      → OfGame r.position (λ S m. IsWorstCase m (sheet_of s r) most_states case × IsWorst m (sheet_of s r))
+  -- replies that bring about the worst case
+  found : (s : Side) (r : Report) (case : WorstCase) → IsPlanIn side bytes s r → IsWorstOf s r case
       → keys' ≡ put_over (map (λ x. x.key) case.reply) keys → moves' ≡ put_over (map (λ x. x.place) case.reply) moves
-      → IsWorthTold case.worth worst' → worst'.replies ≡ length case.reply
-      → AreRepliesTold side bytes keys keys' moves moves' worst worst' 0
-  -- the plan comes to too many states
-  full : (s : Side) (r : Report) → IsPlanIn side bytes s r → OfGame r.position (λ S m. HasMore m (sheet_of s r) most_states)
+      → IsCaseTold case worst' → AreRepliesTold side bytes keys keys' moves moves' worst worst' 0
+  full : (s : Side) (r : Report) → IsPlanIn side bytes s r → HasTooMany s r
       → keys' ≡ keys → moves' ≡ moves → worst' ≡ worst → AreRepliesTold side bytes keys keys' moves moves' worst worst' 5
   fault : (status : ℕ) → IsFault side bytes status → keys' ≡ keys → moves' ≡ moves → worst' ≡ worst
       → AreRepliesTold side bytes keys keys' moves moves' worst worst' status
+
+-- ---- the worst cases of both plans
+-- the numbers of the worst case of the plan of the side
+pub record IsWorstTold (s : Side) (r : Report) (told : WorstPayoff) : Type 0 where
+  pub case : WorstCase
+  pub is_worst : IsWorstOf s r case
+  pub numbers : IsCaseTold case told
+
+pub data AreWorstTold (bytes : List ℕ) (one one' two two' : WorstPayoff) : ℕ → Type 0 where
+  found : (r : Report) → IsReportIn bytes r → IsWorstTold One r one' → IsWorstTold Two r two'
+      → AreWorstTold bytes one one' two two' 0
+  -- the plan of a side comes to too many states
+  full : (s : Side) (r : Report) → IsReportIn bytes r → HasTooMany s r → one' ≡ one → two' ≡ two
+      → AreWorstTold bytes one one' two two' 5
+  fault : (status : ℕ) → IsUnread bytes status → one' ≡ one → two' ≡ two → AreWorstTold bytes one one' two two' status

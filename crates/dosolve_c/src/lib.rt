@@ -5,9 +5,10 @@ ghost use Rattle.std.specs.Prelude.{◌≡◌, [], Some};
 ghost use Rattle.commands.specs.declared.words.Command.TheVariants.{Reading};
 ghost use Rattle.commands.specs.declared.words.ReadingCommand.TheVariants.{Solve, Check, Bounds};
 ghost use Rattle.commands.specs.Alone.{CanRun};
-ghost use Rattle.dosolve_c.specs.Calls.{IsToldInMemory, exploit_at, play_at, put_over, sample_at};
+ghost use Rattle.dosolve_c.specs.Calls.{IsToldInMemory, can_play, exploit_at, play_at, put_over, sample_at};
 
 mod plans;
+mod seeds;
 
 use commands::alone::answer;
 use commands::words::{Command, ReadingCommand};
@@ -144,11 +145,18 @@ fn play_at(games: u32, seed: u64) -> Option<Command>
     ensures is { result ≡ play_at games seed }
     ensures can { CanRun result }
 {
-    if games == 0 || games > 100_000 {
-        None
-    } else {
+    if can_play(games) {
         Some(Command::Reading(ReadingCommand::Play { games, seed }))
+    } else {
+        None
     }
+}
+
+/// Whether so many games can be played.
+fn can_play(games: u32) -> bool
+    ensures { result ≡ can_play games }
+{
+    games > 0 && games <= 100_000
 }
 
 fn sample_at(number: u32) -> Option<Command>

@@ -1,15 +1,19 @@
-//! Calls that answer in numbers: a row of a plan, a whole plan, the best replies to one, and the bounds of a root.
+//! Calls that answer in numbers: a row of a plan, a whole plan, the best replies to one, the worst cases of both, and the
+//! bounds of a root.
 
 ghost use Rattle.std.specs.Prelude.{◌≡◌, map, IfOk, MatchResult};
-ghost use Rattle.dosolve_c.specs.Plans.{side_at, status_of_fault, status_of_refusal, IsPlanIn, IsFault};
-ghost use Rattle.dosolve_c.specs.Plans.{bounds_told, row_told, weights_in, IsSplit, IsWorthTold};
-ghost use Rattle.dosolve_c.specs.Plans.{IsRootTold, IsRowTold, IsPlanTold, AreRepliesTold};
+ghost use Rattle.certificate.specs.Ranges.{IsInRange};
+ghost use Rattle.dosolve_c.specs.Plans.{side_at, status_of_fault, status_of_refusal};
+ghost use Rattle.dosolve_c.specs.Plans.{IsReportIn, IsUnread, IsPlanIn, IsFault};
+ghost use Rattle.dosolve_c.specs.Plans.{bounds_told, row_told, weights_in, IsSplit, IsWorthTold, IsCaseTold};
+ghost use Rattle.dosolve_c.specs.Plans.{IsWorstOf, IsUnmeasured, IsWorstTold};
+ghost use Rattle.dosolve_c.specs.Plans.{IsRootTold, IsRowTold, IsPlanTold, AreRepliesTold, AreWorstTold};
 
 use crate::put;
 use certificate::{Report, TextError};
 use commands::alone::search;
 use commands::{ReportFault, ReportedGame, open, row_of, sheet_of, status_of, worst_of};
-use exploit::{ReplyRow, WorstError, Worth};
+use exploit::{ReplyRow, WorstCase, WorstError, Worth};
 use plan_book::SheetRow;
 use position::InputError;
 use sim_game::Side;
@@ -160,18 +164,43 @@ pub extern "C" fn dosolve_replies(
     ensures { AreRepliesTold side input.now keys.old keys.new moves.old moves.new worst.old worst.new result }
 {
     match opened(alloc, side, input) {
-        Ok(plan) => match worst_of(alloc, &plan.found, plan.side) {
+        Ok(plan) => match measured(alloc, &plan.found, plan.side) {
             Ok(case) => match split(alloc, case.reply.as_slice()) {
                 Ok(replies) => {
                     put(&replies.keys, keys);
                     put(&replies.moves, moves);
-                    *worst = told_worth(case.worth, case.reply.len() as u64);
+                    *worst = told_case(&case);
                     0
                 }
                 Err(_) => 8,
             },
-            Err(WorstError::TooMany { .. }) => 5,
-            Err(WorstError::NoMemory) => 8,
+            Err(status) => status,
+        },
+        Err(status) => status,
+    }
+}
+
+/// What the best replies leave to the plan of each side, from one reading of the report.
+#[unsafe(no_mangle)]
+pub extern "C" fn dosolve_worst(
+    alloc: Global,
+    input: &[u8],
+    one: &mut WorstPayoff,
+    two: &mut WorstPayoff,
+) -> u32
+    ensures { AreWorstTold input.now one.old one.new two.old two.new result }
+{
+    match open_report(alloc, input) {
+        Ok(found) => match worst_told(alloc, &found, Side::One) {
+            Ok(of_one) => match worst_told(alloc, &found, Side::Two) {
+                Ok(of_two) => {
+                    *one = of_one;
+                    *two = of_two;
+                    0
+                }
+                Err(status) => status,
+            },
+            Err(status) => status,
         },
         Err(status) => status,
     }
@@ -190,11 +219,21 @@ fn opened(alloc: Global, side: u32, input: &[u8]) -> Result<OpenPlan, u32>
         (λ plan. IsPlanIn side input.now plan.side plan.found.report) (IsFault side input.now) }
 {
     match side_at(side) {
-        Some(side) => match open(alloc, input) {
+        Some(side) => match open_report(alloc, input) {
             Ok(found) => Ok(OpenPlan { side, found }),
-            Err(fault) => Err(status_of_fault(&fault)),
+            Err(status) => Err(status),
         },
         None => Err(1),
+    }
+}
+
+/// The report of the input, or the status of what is wrong.
+pub(crate) fn open_report(alloc: Global, input: &[u8]) -> Result<ReportedGame, u32>
+    ensures { MatchResult result (λ found. IsReportIn input.now found.report) (IsUnread input.now) }
+{
+    match open(alloc, input) {
+        Ok(found) => Ok(found),
+        Err(fault) => Err(status_of_fault(&fault)),
     }
 }
 
@@ -290,6 +329,35 @@ fn split(alloc: Global, replies: &[ReplyRow]) -> Result<Replies, AllocError>
     let keys = replies.iter().map(|reply| reply.key).collect(alloc)?;
     let moves = replies.iter().map(|reply| reply.place).collect(alloc)?;
     Ok(Replies { keys, moves })
+}
+
+/// The worst case of the plan of a side, or the status of what is wrong.
+fn measured(alloc: Global, found: &ReportedGame, side: Side) -> Result<WorstCase, u32>
+    requires { IsInRange found.now.report }
+    ensures { let r = found.now.report in MatchResult result (IsWorstOf side r) (IsUnmeasured side r) }
+{
+    match worst_of(alloc, found, side) {
+        Ok(case) => Ok(case),
+        Err(WorstError::TooMany { .. }) => Err(5),
+        Err(WorstError::NoMemory) => Err(8),
+    }
+}
+
+/// The numbers of the worst case of the plan of a side, or the status of what is wrong.
+fn worst_told(alloc: Global, found: &ReportedGame, side: Side) -> Result<WorstPayoff, u32>
+    requires { IsInRange found.now.report }
+    ensures { let r = found.now.report in MatchResult result (IsWorstTold side r) (IsUnmeasured side r) }
+{
+    match measured(alloc, found, side) {
+        Ok(case) => Ok(told_case(&case)),
+        Err(status) => Err(status),
+    }
+}
+
+fn told_case(case: &WorstCase) -> WorstPayoff
+    ensures { IsCaseTold case.now result }
+{
+    told_worth(case.worth, case.reply.len() as u64)
 }
 
 fn told_worth(worth: Worth, replies: u64) -> WorstPayoff

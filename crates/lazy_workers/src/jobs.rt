@@ -95,7 +95,7 @@ pub(crate) fn work<G: Game, T: Gate>(
         alloc,
         game: g,
         worker,
-        has_others: ask.workers > 1,
+        workers: ask.workers,
         gate,
     };
     let turns = Turns::new(ask.turns);

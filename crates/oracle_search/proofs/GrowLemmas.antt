@@ -1,5 +1,5 @@
 -- Searches of the states after held moves, one after another.
-use Rattle.std.proofs.Common.{◌≡◌, ◌⊎◌, inl, inr, ⊎_elim, ℕ, ◌+◌, ◌-◌, ◌*◌, ◌/◌, ◌%◌, ◌<◌, ◌≤◌, ℤ, pos, Bool, true, false, cond, List, [], ◌∷◌, ◌++◌, length, get_or, slice_index, Some, None, Contains, refl, sym, ap, subst, ◌∙◌, arith}
+use Rattle.std.proofs.Common.{◌≡◌, ◌⊎◌, ◌↔◌, inl, inr, ⊎_elim, ℕ, ◌+◌, ◌-◌, ◌*◌, ◌/◌, ◌%◌, ◌<◌, ◌≤◌, ℤ, pos, Bool, true, false, cond, List, [], ◌∷◌, ◌++◌, length, get_or, slice_index, Some, None, Contains, refl, sym, ap, subst, ◌∙◌, arith}
 use Rattle.std.proofs.lemmas.Int.{ints}
 use Rattle.std.proofs.lemmas.Bool.{cases_lt}
 use Rattle.std.proofs.lemmas.List.{length-append, get_or_append_left, get_or-append_right}
@@ -9,11 +9,15 @@ use Rattle.sim_game.specs.declared.Side.TheVariants.{One, Two}
 use Rattle.sim_game.specs.Model.{GameModel, IsGame, IsTurn, LeadsTo, Reachable}
 use Rattle.sim_game.specs.Resolution.{IsStageGap}
 use Rattle.sim_game.proofs.ReachLemmas.{reachable_turn, leads_turn}
+use Rattle.plan_book.specs.declared.Entry.{Entry}
 use Rattle.plan_book.specs.Books.{Grows}
 use Rattle.plan_book.specs.Entries.{IsLawfulEntry}
+use Rattle.matrix_game.specs.declared.solver.StageSolver.{StageSolver}
+use Rattle.matrix_game.specs.declared.solver.StageSolver.TheVariants as solvers
 use Rattle.matrix_game.specs.Budget.{Budget, left_of, after_one_turn}
+use Rattle.matrix_game.specs.Solvers.{UsesRegret}
 use Rattle.bounds_board.specs.Views.{BoardView, IsLater, IsFull}
-use Rattle.bounds_board.proofs.ViewLemmas.{later_refl}
+use Rattle.bounds_board.proofs.ViewLemmas.{later_refl, later_trans}
 use Rattle.serial_ab.specs.Counts.{VisitsView, HasCounted, Counts, spent_on}
 use Rattle.serial_ab.specs.Searches.{IsSerialKept, IsPureEntry}
 use Rattle.serial_ab.proofs.KeptLemmas.{grows_none}
@@ -30,11 +34,18 @@ use Rattle.oracle_search.specs.declared.ends.SearchEnd.TheVariants.{Reached, Set
 use Rattle.oracle_search.specs.declared.ends.Stop.{Stop}
 use Rattle.oracle_search.specs.declared.ends.Stop.TheVariants as stops
 use Rattle.oracle_search.specs.Searches.{IsWorked, IsWorkedBelow, HasTurned, TakesTurns, TakesAtMost, HasTaken, HasTurn, HasKept, IsFirstHeld, Ends, open_states, IsBoardFull, IsStop, stop_of, IsStoppedAs, IsEarlyEnd, IsDone, AreDone}
-use Rattle.oracle_search.specs.Workers.{WorkerView, WorkView, at_work, with_full, with_key}
+use Rattle.oracle_search.specs.Workers.{WorkerView, WorkView, is_linear, at_work, with_full, with_key}
 use Rattle.oracle_search.proofs.BetterLemmas.{grows_weaker, better_quiet, better_serial}
 use Rattle.std.proofs.Math.Nat.{mul-zero, mul-le-mul_right, div-lt_iff_lt-mul, mod-lt, mod-eq_of_lt, mod-add-mod, add-mod_right}
 use Rattle.std.proofs.lemmas.Nat.{div-mul-add, mod-mul-add}
 use Rattle.oracle_search.proofs.WorkLemmas.{visited_none, turned_none, worked_by, worked_none, worked_after, worked_under, full_kept, full_below, within_later, within_not_beyond, extended_after}
+
+-- a turn changes nothing of how stages are solved
+pub same_kind : (a b : StageSolver) → UsesRegret a ↔ UsesRegret b → is_linear a ≡ is_linear b
+same_kind (solvers.Regret x) (solvers.Regret y) same = refl
+same_kind (solvers.Regret x) solvers.Linear same = absurd (same.0 tt)
+same_kind solvers.Linear (solvers.Regret y) same = absurd (same.1 tt)
+same_kind solvers.Linear solvers.Linear same = refl
 
 -- what was kept, that no turn was taken but at states that were finished, and what is done
 pub record IsPassed {S G N : Type 0} (m : GameModel S) (s : S) (limit : ℕ) (old new : WorkView G N) (Known : Type 0) : Type 0 where
@@ -364,6 +375,13 @@ module _ {S G N : Type 0} (m : GameModel S) (s : S) (limit : ℕ) (v : BoardView
       (record { later = later; posted = grows_weaker (IsOneMoveEntry m v.total) (IsLawfulEntry m v.total) v.entries board.entries (λ e p. p.lawful) posted }) (turned_none w.turns)
       (visited_none w.visits) refl (λ e. e) kept (remembered_later later kept.remembered) (λ e. inl e)
       (λ e. grows_weaker (IsOneMoveEntry m v.total) (IsPureEntry m v.total) v.entries board.entries (λ f p. record { lawful = p.lawful; place = p.place; pure = p.one }) posted)
+
+  -- reads, and then such posts
+  pub worked_over : (a b : BoardView G N) → IsLater v a → a.entries ≡ v.entries → IsLater a b → Grows (IsOneMoveEntry m a.total) a.entries b.entries
+      → IsWorkedBelow m s limit (at_work v w) (at_work b w)
+  worked_over a b later same after posted =
+      worked_alone b (later_trans v a b later after) (subst (λ (n : ℕ). Grows (IsOneMoveEntry m n) v.entries b.entries) later.total
+      (subst (λ (l : List Entry). Grows (IsOneMoveEntry m a.total) l b.entries) same posted))
 
   -- a serial search
   pub worked_serial : (board : BoardView G N) (new : WorkerView) (side : Side) (most : ℕ) → IsSerialKept m side most v board w.visits new.visits → AreRemembered m board new.searches

@@ -8,8 +8,9 @@ ghost use Rattle.restricted_game.specs.declared.held.StepFault.{StepFault};
 ghost use Rattle.restricted_game.specs.Children.{AreChildRows, HasNoRows};
 ghost use Rattle.restricted_game.specs.Held.{HasGrown, HoldsAll, IsGrown, held_after};
 ghost use Rattle.restricted_game.specs.Gaps.{HasStepGap};
+ghost use Rattle.restricted_game.specs.Stages.{HasStepGapOver, WereStageNumbers};
 ghost use Rattle.oracle_search.specs.Workers.{at_work};
-ghost use Rattle.oracle_search.specs.Searches.{HasKept, IsWorked, HasEnded, HasTurn, IsBoardFull, IsFirstHeld};
+ghost use Rattle.oracle_search.specs.Searches.{HasKept, IsAtRow, IsWorked, HasEnded, HasTurn, IsBoardFull, IsFirstHeld};
 ghost use Rattle.oracle_search.specs.Passes.{IsFullHeld};
 
 use crate::children::search_children;
@@ -18,7 +19,7 @@ use crate::gap::{is_within_told, stopped};
 use crate::gate::Gate;
 use crate::worker::{Setup, Worker};
 use bounds_board::{Bounds, Row};
-use restricted_game::{ChildRows, Node, Restricted, StepEnd, StepFault};
+use restricted_game::{ChildRows, Node, Restricted, StageNumbers, StepEnd, StepFault};
 use sim_game::{Game, NoMemory, Side};
 
 /// The moves that a restricted game at a state holds, and the rows of the states after pairs of moves.
@@ -159,4 +160,46 @@ pub(crate) fn take_turn<G: Game, B: Bounds<G>, T: Gate>(
         &mut worker.turns,
         &mut worker.stages,
     )
+}
+
+/// The same over numbers that were read.
+pub(crate) fn take_turn_over<G: Game, B: Bounds<G>, T: Gate>(
+    setup: &Setup<'_, G, T>,
+    node: Node<G::State>,
+    numbers: &StageNumbers,
+    held: &mut Restricted,
+    worker: &mut Worker,
+    board: &mut B,
+) -> Result<StepEnd, StepFault>
+    requires here { IsAtRow (G.model setup.now.game) setup.now.game node.state node.row
+        (at_work (B.view board.old) worker.old) }
+    requires rows { held.old.most_rows ≡ (G.model setup.now.game).moves Side.One node.state }
+    requires cols { held.old.most_cols ≡ (G.model setup.now.game).moves Side.Two node.state }
+    requires read { WereStageNumbers (G.model setup.now.game) (B.view board.old) node.state held.old numbers.now }
+    ensures worked { IsWorked (G.model setup.now.game) node.state
+        (at_work (B.view board.old) worker.old) (at_work (B.view board.new) worker.new) }
+    ensures same { worker.new ≡ record worker.old { turns = worker.new.turns } }
+    ensures gap { IfOk result (HasStepGapOver (G.model setup.now.game)
+        (B.view board.old) (B.view board.new) node.state held.old numbers.now) }
+    ensures all { HoldsAll held.old → IfOk result (λ end. IsGrown end → ⊥) }
+    ensures turn { IfOk result (λ _. HasTurn worker.old.turns worker.new.turns) }
+    ensures spent { result ≡ Err StepFault.Spent
+        → (left_of worker.old.turns ≡ 0) × (worker.new.turns ≡ worker.old.turns) }
+    ensures never_full { result ≡ Err StepFault.Full → ⊥ }
+{
+    if worker.turns.left() == 0 {
+        return Err(StepFault::Spent);
+    }
+    setup.gate.at_turn(setup.worker, worker.turns().spent());
+    match held.step_over(
+        setup.game,
+        node,
+        numbers,
+        board,
+        &mut worker.turns,
+        &mut worker.stages,
+    ) {
+        Ok(end) => Ok(end),
+        Err(_) => Err(StepFault::NoMemory),
+    }
 }

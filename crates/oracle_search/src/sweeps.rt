@@ -14,7 +14,7 @@ ghost use Rattle.oracle_search.specs.Finished.{IsClose, IsLeftBelow, IsWithin};
 use crate::ends::Stop;
 use crate::gap::{gap_at, is_within, linear_left_gap};
 use crate::gate::Gate;
-use crate::growth::{Growth, take_turn};
+use crate::growth::{Growth, take_turn_over};
 use crate::passes::Pass;
 use crate::serial_bounds::bound_state;
 use crate::worker::{Setup, Worker};
@@ -99,26 +99,26 @@ fn close_in<G: Game, B: Bounds<G>, T: Gate>(
     let g = setup.game;
     let node = Node { state: s, row };
     let goal = pass.goal_at(g.rank(s));
-    match growth
-        .held
-        .post_alone(g, node, goal, &mut growth.children, board)
-    {
-        Ok(()) => {
-            if is_within(g, s, row, goal, board) {
-                return Ok(false);
-            }
-            match take_turn(setup, s, row, growth, worker, board) {
-                Ok(_) => Ok(true),
-                Err(fault) => Err(fault),
-            }
-        }
-        Err(BoardFault::Full) => Err(StepFault::Full),
-        Err(BoardFault::NoMemory) => Err(StepFault::NoMemory),
+    let numbers = match growth.held.read(g, s, &mut growth.children, board) {
+        Ok(numbers) => numbers,
+        Err(BoardFault::Full) => return Err(StepFault::Full),
+        Err(BoardFault::NoMemory) => return Err(StepFault::NoMemory),
+    };
+    match growth.held.post_alone(g, node, goal, &numbers, board) {
+        Ok(()) => {}
+        Err(_) => return Err(StepFault::NoMemory),
+    }
+    if is_within(g, s, row, goal, board) {
+        return Ok(false);
+    }
+    match take_turn_over(setup, node, &numbers, &mut growth.held, worker, board) {
+        Ok(_) => Ok(true),
+        Err(fault) => Err(fault),
     }
 }
 
 /// Makes the pass at the states after each pair of moves, up to the first that stops. The pairs come row by row, as on
-/// a ring, from a place on that depends on the worker.
+/// a ring, on which the workers begin far apart.
 #[cycle(sweep)]
 fn sweep_children<G: Game, B: Bounds<G>, T: Gate>(
     setup: &Setup<'_, G, T>,
@@ -144,8 +144,9 @@ fn sweep_children<G: Game, B: Bounds<G>, T: Gate>(
 {
     let cols = setup.game.moves(Side::Two, s);
     let pairs = setup.game.moves(Side::One, s) * cols;
+    let first = first_pair(setup, pairs);
     for turn in 0..pairs {
-        let pair = (setup.worker % pairs + turn) % pairs;
+        let pair = (first % pairs + turn) % pairs;
         match sweep_draws(
             setup,
             pass,
@@ -161,6 +162,12 @@ fn sweep_children<G: Game, B: Bounds<G>, T: Gate>(
         }
     }
     Ok(None)
+}
+
+/// The pair that a worker begins with: the workers share the ring of pairs.
+fn first_pair<G: Game, T: Gate>(setup: &Setup<'_, G, T>, pairs: u32) -> u32 {
+    let apart = (pairs / setup.workers.max(1)).max(1);
+    setup.worker.saturating_mul(apart)
 }
 
 /// Makes the pass at the states after a move of One and a move of Two.
@@ -209,7 +216,7 @@ fn sweep_draws<G: Game, B: Bounds<G>, T: Gate>(
     Ok(None)
 }
 
-/// Makes the pass at a state, unless it is an end, which has no row, was met in this pass, or is close enough for it.
+/// Makes the pass at a state, unless it is an end, which has no row, or has enough for this pass.
 #[cycle(sweep)]
 fn sweep_child<G: Game, B: Bounds<G>, T: Gate>(
     setup: &Setup<'_, G, T>,
@@ -235,9 +242,6 @@ fn sweep_child<G: Game, B: Bounds<G>, T: Gate>(
         Some(row) => row,
         None => return Ok(None),
     };
-    if worker.has_passed(setup.game.key(s)) {
-        return Ok(None);
-    }
     match is_enough(setup, pass, s, row, worker, board) {
         Ok(is_enough) => {
             if is_enough {
@@ -254,8 +258,9 @@ fn sweep_child<G: Game, B: Bounds<G>, T: Gate>(
     }
 }
 
-/// Whether the gap at a state is at most what the pass wants of it, after serial searches where these may help. With
-/// other workers on the board the last pass leaves a state whose gap is small, whoever has made it so.
+/// Whether the pass has finished a state, or its gap is at most what the pass wants of it, after serial searches where
+/// these may help. With other workers on the board the last pass leaves a state whose gap is small, whoever has made it
+/// so.
 fn is_enough<G: Game, B: Bounds<G>, T: Gate>(
     setup: &Setup<'_, G, T>,
     pass: &Pass,
@@ -265,16 +270,23 @@ fn is_enough<G: Game, B: Bounds<G>, T: Gate>(
     board: &mut B,
 ) -> Result<bool, BoardFault>
     requires here { IsAtRow (G.model setup.now.game) setup.now.game s row (at_work (B.view board.old) worker.old) }
+    requires passed { ArePassed (G.model setup.now.game) pass.now.is_last
+        (B.view board.old).total (B.view board.old) worker.old.passed }
     ensures worked { IsWorked (G.model setup.now.game) s
         (at_work (B.view board.old) worker.old) (at_work (B.view board.new) worker.new) }
     ensures same { worker.new ≡ record worker.old { visits = worker.new.visits; searches = worker.new.searches } }
     ensures full { result ≡ Err BoardFault.Full → IsBoardFull (G.model setup.now.game) s (B.view board.new) }
+    ensures unmet { IfOk result (λ is_enough. IsFalse is_enough
+        → Contains worker.old.passed ((G.model setup.now.game).key s) → ⊥) }
     ensures last { pass.now.is_last ≡ true → IfOk result (λ is_enough. IsTrue is_enough
         → IsDone (G.model setup.now.game) (B.view board.new) s) }
 {
     let g = setup.game;
     let goal = wanted_gap(setup, pass, s, board.total());
     if is_within(g, s, row, goal, board) {
+        return Ok(true);
+    }
+    if worker.has_passed(g.key(s)) {
         return Ok(true);
     }
     if !worker.wants_bounds(g.rank(s), g.key(s)) {
@@ -305,7 +317,8 @@ fn wanted_gap<G: Game, T: Gate>(
     ensures least { pos 0 ≤ℤ result }
     ensures last { pass.now.is_last ≡ true → IsLeftBelow (G.model setup.now.game) total s result }
 {
-    if setup.has_others && pass.is_last {
+    let has_others = setup.workers > 1;
+    if has_others && pass.is_last {
         linear_left_gap(setup.game, s, total)
     } else {
         pass.goal_at(setup.game.rank(s))

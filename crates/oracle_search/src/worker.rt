@@ -22,8 +22,8 @@ pub struct Setup<'a, G: Game, T: Gate> {
     pub game: G,
     /// The worker's number, which says with which moves it begins.
     pub worker: u32,
-    /// Whether other workers search on the same board.
-    pub has_others: bool,
+    /// How many workers search on the board.
+    pub workers: u32,
     pub gate: &'a T,
 }
 

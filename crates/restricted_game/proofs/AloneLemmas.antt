@@ -7,19 +7,23 @@ use Rattle.std.proofs.lemmas.List.Elements.{All-nil, All-cons, All-contains}
 use Rattle.sim_game.specs.declared.Side.{Side}
 use Rattle.sim_game.specs.declared.Side.TheVariants.{One, Two}
 use Rattle.sim_game.specs.Model.{GameModel, IsGame, Reachable}
-use Rattle.sim_game.specs.Sides.{other_side, draws_of, child_of}
+use Rattle.sim_game.specs.Sides.{other_side, move_of_one, draws_of, child_of}
 use Rattle.plan_book.specs.declared.Entry.{Entry}
 use Rattle.plan_book.specs.Books.{Grows}
 use Rattle.plan_book.specs.Entries.{IsLawfulEntry}
 use Rattle.plan_book.specs.Plans.{one_move}
 use Rattle.bounds_board.specs.Views.{BoardView, IsLater, IsPostable}
 use Rattle.restricted_game.specs.declared.plans.SidePlan.{SidePlan}
+use Rattle.restricted_game.specs.declared.table.Cells.{Cells}
 use Rattle.restricted_game.specs.declared.table.Table.{Table}
-use Rattle.restricted_game.specs.Held.{AreMoves}
+use Rattle.restricted_game.specs.declared.table.StageNumbers.{StageNumbers}
+use Rattle.restricted_game.specs.Held.{HeldMoves, AreMoves}
 use Rattle.restricted_game.specs.Numbers.{IsReadNumber, IsWanted}
 use Rattle.restricted_game.specs.Runs.{IsOneMoveEntry, IsPlan}
-use Rattle.restricted_game.specs.Tables.{IsAlone, IsFilled, numbers_in, side_entry}
-use Rattle.restricted_game.proofs.PlanLemmas.{spread_total}
+use Rattle.restricted_game.specs.Stages.{AreStageNumbers, WereStageNumbers}
+use Rattle.restricted_game.specs.Tables.{HasShape, AreCells, IsAlone, IsCellPlan, numbers_in, side_entry}
+use Rattle.restricted_game.proofs.HeldLemmas.{one_move as one_move_held}
+use Rattle.restricted_game.proofs.PlanLemmas.{own_count, cell_plan_is, spread_total}
 use Rattle.restricted_game.proofs.PostLemmas.{grows_weaker, postable_lawful}
 use Rattle.restricted_game.proofs.StepLemmas.{plan_postable}
 use Rattle.restricted_game.proofs.TableLemmas.{one_read, two_read}
@@ -84,24 +88,52 @@ module _ {S G N : Type 0} (m : GameModel S) (game : IsGame m) (s : S) (reach : R
       one = subst (λ (n : ℕ). plan.weights.items ≡ one_move n (length plan.weights.items) alone.place) is_total (alone_one within);
     }
 
--- ---- both sides
-module _ {S G N : Type 0} (m : GameModel S) (game : IsGame m) (s : S) (reach : Reachable m s) (goes_on : 1 ≤ m.rank s) (u v : BoardView G N) (later : IsLater u v)
-    (total : ℕ) (is_total : total ≡ u.total) (low : 8192 ≤ total) (rows cols : List ℕ) (table : Table) (filled : IsFilled m u v s rows cols table)
-    (one two : SidePlan) (one_alone : IsAlone m One s total rows cols table one) (two_alone : IsAlone m Two s total cols rows table two) where
-  pub one_alone_postable : IsPostable m v (side_entry m One s table one)
-  one_alone_postable = alone_postable m game s reach goes_on u v later One total is_total low rows cols table one one_alone (one_read m u v s rows cols table filled)
+-- ---- plans over cells
+module _ {S : Type 0} (m : GameModel S) (side : Side) (s : S) (table : Table) (cells : Cells) (shape : HasShape m s table) (are : AreCells m side s table cells) where
+  -- the moves of the side, by its cells
+  pub own_moves : (own : List ℕ) → AreMoves (m.moves side s) own → AreMoves (move_of_one side cells.height cells.width) own
+  own_moves own moves = subst (λ (n : ℕ). AreMoves n own) (sym (rw (are.height, are.width, shape.height, shape.width) (own_count m side s))) moves
 
-  pub two_alone_postable : IsPostable m v (side_entry m Two s table two)
-  two_alone_postable = alone_postable m game s reach goes_on u v later Two total is_total low cols rows table two two_alone (two_read m u v s rows cols table filled)
+  pub one_of_own : (own : List ℕ) (place : ℕ) → AreMoves (m.moves side s) own → Contains own place → AreMoves (move_of_one side cells.height cells.width) (place ∷ [])
+  one_of_own own place moves held = own_moves (place ∷ []) (one_move_held (m.moves side s) place (All-contains (λ (move : ℕ). move < m.moves side s) own place moves.within held))
+
+  pub alone_is : (total : ℕ) (own others : List ℕ) (place : ℕ) (plan : SidePlan) → Contains own place → IsCellPlan side total cells (place ∷ []) others (total ∷ []) plan
+      → IsAlone m side s total own others table plan
+  alone_is total own others place plan held planned =
+      record { place = place; held = held; planned = cell_plan_is m side s table cells total (place ∷ []) others (total ∷ []) plan shape are planned }
+
+-- ---- both sides, over numbers that were read
+module _ {S G N : Type 0} (m : GameModel S) (game : IsGame m) (s : S) (reach : Reachable m s) (goes_on : 1 ≤ m.rank s) (v : BoardView G N) (h : HeldMoves)
+    (numbers : StageNumbers) (were : WereStageNumbers m v s h numbers) (total : ℕ) (is_total : total ≡ v.total) (low : 8192 ≤ total)
+    (row col : ℕ) (has_row : Contains h.rows row) (has_col : Contains h.cols col) (one two : SidePlan)
+    (one_planned : IsCellPlan One total numbers.lows (row ∷ []) h.cols (total ∷ []) one) (two_planned : IsCellPlan Two total numbers.highs (col ∷ []) h.rows (total ∷ []) two) where
+  abbrev are : AreStageNumbers m were.since v s h numbers
+  are = were.are
+
+  one_alone : IsAlone m One s total h.rows h.cols numbers.table one
+  one_alone = alone_is m One s numbers.table numbers.lows are.cells.shape are.cells.lows total h.rows h.cols row one has_row one_planned
+
+  two_alone : IsAlone m Two s total h.cols h.rows numbers.table two
+  two_alone = alone_is m Two s numbers.table numbers.highs are.cells.shape are.cells.highs total h.cols h.rows col two has_col two_planned
+
+  pub one_alone_postable : IsPostable m v (side_entry m One s numbers.table one)
+  one_alone_postable = alone_postable m game s reach goes_on were.since v are.later One total (is_total ∙ are.later.total) low h.rows h.cols numbers.table one one_alone
+      (one_read m were.since v s h.rows h.cols numbers.table are.filled)
+
+  pub two_alone_postable : IsPostable m v (side_entry m Two s numbers.table two)
+  two_alone_postable = alone_postable m game s reach goes_on were.since v are.later Two total (is_total ∙ are.later.total) low h.cols h.rows numbers.table two two_alone
+      (two_read m were.since v s h.rows h.cols numbers.table are.filled)
 
   -- posts of these alone
-  pub alone_posted : (before after : List Entry) → before ≡ u.entries → AreMoves (m.moves One s) rows → AreMoves (m.moves Two s) cols
-      → Grows (λ (e : Entry). e ≡ side_entry m One s table one ⊎ e ≡ side_entry m Two s table two) before after → Grows (IsOneMoveEntry m u.total) u.entries after
-  alone_posted before after same held_rows held_cols posted =
-      let first = alone_entry m game s reach goes_on u v later One total is_total low rows cols table one one_alone (one_read m u v s rows cols table filled) held_rows in
-      let second = alone_entry m game s reach goes_on u v later Two total is_total low cols rows table two two_alone (two_read m u v s rows cols table filled) held_cols in
-      subst (λ (l : List Entry). Grows (IsOneMoveEntry m u.total) l after) same
-      (grows_weaker (λ (e : Entry). e ≡ side_entry m One s table one ⊎ e ≡ side_entry m Two s table two) (IsOneMoveEntry m u.total) before after
+  pub alone_posted : (before after : List Entry) → AreMoves (m.moves One s) h.rows → AreMoves (m.moves Two s) h.cols
+      → Grows (λ (e : Entry). e ≡ side_entry m One s numbers.table one ⊎ e ≡ side_entry m Two s numbers.table two) before after → Grows (IsOneMoveEntry m v.total) before after
+  alone_posted before after held_rows held_cols posted =
+      let first = alone_entry m game s reach goes_on were.since v are.later One total (is_total ∙ are.later.total) low h.rows h.cols numbers.table one one_alone
+      (one_read m were.since v s h.rows h.cols numbers.table are.filled) held_rows in
+      let second = alone_entry m game s reach goes_on were.since v are.later Two total (is_total ∙ are.later.total) low h.cols h.rows numbers.table two two_alone
+      (two_read m were.since v s h.rows h.cols numbers.table are.filled) held_cols in
+      subst (λ (n : ℕ). Grows (IsOneMoveEntry m n) before after) (sym are.later.total)
+      (grows_weaker (λ (e : Entry). e ≡ side_entry m One s numbers.table one ⊎ e ≡ side_entry m Two s numbers.table two) (IsOneMoveEntry m were.since.total) before after
       (λ e is. ⊎_elim
-      (λ (a : e ≡ side_entry m One s table one). subst (IsOneMoveEntry m u.total) (sym a) first)
-      (λ (b : e ≡ side_entry m Two s table two). subst (IsOneMoveEntry m u.total) (sym b) second) is) posted)
+      (λ (a : e ≡ side_entry m One s numbers.table one). subst (IsOneMoveEntry m were.since.total) (sym a) first)
+      (λ (b : e ≡ side_entry m Two s numbers.table two). subst (IsOneMoveEntry m were.since.total) (sym b) second) is) posted)

@@ -4,6 +4,7 @@ pub mod ChildLemmas
 pub mod EndLemmas
 pub mod GapLemmas
 pub mod HeldLemmas
+pub mod OverLemmas
 pub mod PlaceLemmas
 pub mod PlanLemmas
 pub mod PostLemmas

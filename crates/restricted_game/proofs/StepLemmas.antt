@@ -118,10 +118,10 @@ module _ {S G N : Type 0} (m : GameModel S) (game : IsGame m) (s : S) (reach : R
       (numbers_in Two table) plans.two.weights.items plans.two.bound plans.two.fresh planned.two
       (two_read m u v s rows cols table filled) read.total
 
-  pub step_run : {w : BoardView G N} {row : ℕ} → IsLater v w → v.entries ≡ u.entries → u.key_at row ≡ Some (m.key s) → ArePosted m v w s table plans
+  pub step_run : {w : BoardView G N} {row : ℕ} → IsLater v w → v.entries ≡ u.entries → v.key_at row ≡ Some (m.key s) → ArePosted m v w s table plans
       → IsStepRun m u w solver s rows cols plans.two.fresh plans.one.fresh plans.one.bound plans.two.bound
   step_run {w} {row} after quiet holds posted = record {
-    claimed = record { row = row; holds = after.keys row _ (read.keys row _ holds) };
+    claimed = record { row = row; holds = after.keys row _ holds };
     grid = planned.grid;
     row_weights = planned.row_weights;
     col_weights = planned.col_weights;

@@ -4,5 +4,6 @@ pub mod Held
 pub mod Numbers
 pub mod Runs
 pub mod Sizes
+pub mod Stages
 pub mod Tables
 pub mod Turns

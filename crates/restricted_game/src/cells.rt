@@ -3,9 +3,10 @@ ghost use Rattle.std.specs.Prelude.{◌≡◌, ◌*◌, ◌≤◌, ◌<◌, All,
 ghost use Rattle.sim_game.specs.Model.{Reachable};
 ghost use Rattle.matrix_game.specs.Grid.{IsSmallCell};
 ghost use Rattle.restricted_game.specs.Held.{AreMoves};
+ghost use Rattle.restricted_game.specs.Stages.{HasCells};
 ghost use Rattle.restricted_game.specs.Tables.{AreCells, HasShape, pair_cell, held_cells};
 
-use crate::table::{Cells, Table};
+use crate::table::{Cells, StageNumbers, Table};
 use sim_game::{CHANCE, Game, NoMemory, Side};
 use std::alloc::Global;
 use sums::weighted;
@@ -77,4 +78,22 @@ pub(crate) fn held_cells(
         held.push(items[row * cells.width as usize + col])?;
     }
     Ok(held)
+}
+
+/// What was read, with the cells of both sides.
+pub(crate) fn numbers_of<G: Game>(
+    alloc: Global,
+    g: G,
+    s: G::State,
+    table: Table,
+) -> Result<StageNumbers, NoMemory>
+    requires reachable { Reachable (G.model g) s }
+    requires goes_on { 1 ≤ (G.model g).rank s }
+    requires shape { HasShape (G.model g) s table }
+    ensures table { IfOk result (λ numbers. numbers.table ≡ table) }
+    ensures cells { IfOk result (HasCells (G.model g) s) }
+{
+    let lows = cells_of(alloc, g, s, Side::One, &table)?;
+    let highs = cells_of(alloc, g, s, Side::Two, &table)?;
+    Ok(StageNumbers { table, lows, highs })
 }

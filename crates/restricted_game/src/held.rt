@@ -1,11 +1,11 @@
 //! The moves that a restricted game holds.
-ghost use Rattle.std.specs.Prelude.{◌≡◌, ◌↔◌, ◌≤◌, ◌<◌, ◌∷◌, [], Some, Err, IfOk, OnErr, IfSome, vec_len, vec_capacity};
+ghost use Rattle.std.specs.Prelude.{◌≡◌, ◌⊎◌, ◌↔◌, ◌≤◌, ◌<◌, ◌∷◌, [], Some, Err, IfOk, OnOk, OnErr, IfSome, vec_len, vec_capacity};
 ghost use Rattle.matrix_game.specs.declared.TheConstants.{MOST_MOVES};
 ghost use Rattle.std.specs.List.{range_with_len};
 ghost use Rattle.sim_game.specs.Model.{Reachable};
 ghost use Rattle.plan_book.specs.Books.{Grows};
 ghost use Rattle.plan_book.specs.Entries.{IsLawfulEntry};
-ghost use Rattle.matrix_game.specs.Budget.{left_of};
+ghost use Rattle.matrix_game.specs.Budget.{left_of, after_one_turn};
 ghost use Rattle.matrix_game.specs.Solvers.{UsesRegret};
 ghost use Rattle.bounds_board.specs.Views.{IsLater, WasFull};
 ghost use Rattle.restricted_game.specs.Children.{AreChildRows};
@@ -13,14 +13,17 @@ ghost use Rattle.restricted_game.specs.Held.{AreMoves, HoldsAll, HasGrown, IsGro
 ghost use Rattle.restricted_game.specs.Gaps.{HasStepGap};
 ghost use Rattle.restricted_game.specs.Numbers.{IsReadChild};
 ghost use Rattle.restricted_game.specs.Runs.{IsOneMoveEntry, IsStepEnd};
+ghost use Rattle.restricted_game.specs.Stages.{AreStageNumbers, WereStageNumbers, HasStepEnd, HasStepGapOver};
 ghost use Rattle.restricted_game.specs.Turns.{TakesStepTurn};
 
-use crate::alone::plan_alone;
+use crate::alone::best_alone;
+use crate::cells::numbers_of;
 use crate::children::ChildRows;
 use crate::node::Node;
-use crate::plans::Plans;
+use crate::plans::{Plans, plan_side};
 use crate::posts::post_both;
 use crate::reading::read_table;
+use crate::table::StageNumbers;
 use bounds_board::{BoardFault, Bounds};
 use matrix_game::{StageSolver, Turns};
 use sim_game::{Game, NoMemory, Side};
@@ -199,25 +202,93 @@ impl Restricted {
         if turns.left() == 0 {
             return Err(StepFault::Spent);
         }
-        let alloc = *self.rows.allocator();
-        let s = node.state;
-        let rows = self.rows.as_slice();
-        let cols = self.cols.as_slice();
-        let total = board.total();
-        let table = match read_table(alloc, g, s, rows, cols, children, board) {
-            Ok(table) => table,
+        let numbers = match self.read(g, node.state, children, board) {
+            Ok(numbers) => numbers,
             Err(BoardFault::Full) => return Err(StepFault::Full),
             Err(BoardFault::NoMemory) => return Err(StepFault::NoMemory),
         };
-        let plans = match self.plan(g, s, total, &table, turns, solver) {
+        match self.step_over(g, node, &numbers, board, turns, solver) {
+            Ok(end) => Ok(end),
+            Err(_) => Err(StepFault::NoMemory),
+        }
+    }
+
+    /// Reads the states after held moves, as a step does. `Full` comes where the claim of a child found the board full.
+    pub fn read<G: Game, B: Bounds<G>>(
+        &self,
+        g: G,
+        s: G::State,
+        children: &mut ChildRows,
+        board: &mut B,
+    ) -> Result<StageNumbers, BoardFault>
+        requires game { (B.view board.old).game ≡ g }
+        requires reachable { Reachable (G.model g) s }
+        requires goes_on { 1 ≤ (G.model g).rank s }
+        requires children { AreChildRows (G.model g) (B.view board.old) s children.old }
+        ensures later { IsLater (B.view board.old) (B.view board.new) }
+        ensures entries { (B.view board.new).entries ≡ (B.view board.old).entries }
+        ensures children { AreChildRows (G.model g) (B.view board.new) s children.new }
+        ensures read { IfOk result (AreStageNumbers (G.model g) (B.view board.old) (B.view board.new) s self.now) }
+        ensures full { result ≡ Err BoardFault.Full → WasFull (G.model g) (B.view board.new)
+            (IsReadChild (G.model g) s self.now.rows self.now.cols) }
+    {
+        let alloc = *self.rows.allocator();
+        let table = match read_table(alloc, g, s, self.rows(), self.cols(), children, board) {
+            Ok(table) => table,
+            Err(BoardFault::Full) => return Err(BoardFault::Full),
+            Err(BoardFault::NoMemory) => return Err(BoardFault::NoMemory),
+        };
+        match numbers_of(alloc, g, s, table) {
+            Ok(numbers) => Ok(numbers),
+            Err(_) => Err(BoardFault::NoMemory),
+        }
+    }
+
+    /// A step over numbers that were read, with nothing read anew. A turn is left.
+    pub fn step_over<G: Game, B: Bounds<G>>(
+        &mut self,
+        g: G,
+        node: Node<G::State>,
+        numbers: &StageNumbers,
+        board: &mut B,
+        turns: &mut Turns,
+        solver: &mut StageSolver,
+    ) -> Result<StepEnd, NoMemory>
+        requires game { (B.view board.old).game ≡ g }
+        requires reachable { Reachable (G.model g) node.state }
+        requires goes_on { 1 ≤ (G.model g).rank node.state }
+        requires row { (B.view board.old).key_at node.row ≡ Some ((G.model g).key node.state) }
+        requires rows { self.old.most_rows ≡ (G.model g).moves Side.One node.state }
+        requires cols { self.old.most_cols ≡ (G.model g).moves Side.Two node.state }
+        requires read { WereStageNumbers (G.model g) (B.view board.old) node.state self.old numbers.now }
+        requires left { 1 ≤ left_of turns.old }
+        ensures later { IsLater (B.view board.old) (B.view board.new) }
+        ensures posted { Grows (IsLawfulEntry (G.model g) (B.view board.old).total)
+            (B.view board.old).entries (B.view board.new).entries }
+        ensures ended { IfOk result (HasStepEnd (G.model g)
+            (B.view board.old) (B.view board.new) solver.old node.state self.old numbers.now) }
+        ensures gap { IfOk result (HasStepGapOver (G.model g)
+            (B.view board.old) (B.view board.new) node.state self.old numbers.now) }
+        ensures held { IfOk result (λ end. self.new ≡ held_after self.old end) }
+        ensures grown { IfOk result (HasGrown self.old self.new) }
+        ensures all { HoldsAll self.old → IfOk result (λ end. IsGrown end → ⊥) }
+        ensures ok { OnOk result (turns.new ≡ after_one_turn turns.old) }
+        ensures at_most_one { (turns.new ≡ turns.old) ⊎ (turns.new ≡ after_one_turn turns.old) }
+        ensures unposted { turns.new ≡ turns.old → B.view board.new ≡ B.view board.old }
+        ensures kept { OnErr result (self.new ≡ self.old) }
+        ensures kind { UsesRegret solver.new ↔ UsesRegret solver.old }
+    {
+        let alloc = *self.rows.allocator();
+        let total = board.total();
+        let plans = match self.plan(g, node.state, total, numbers, turns, solver) {
             Ok(plans) => plans,
-            Err(_) => return Err(StepFault::NoMemory),
+            Err(_) => return Err(NoMemory),
         };
         let (lower, fresh_col) = (plans.one.bound, plans.one.fresh);
         let (upper, fresh_row) = (plans.two.bound, plans.two.fresh);
-        match post_both(alloc, g, node, &table, plans, board) {
+        match post_both(alloc, g, node, &numbers.table, plans, board) {
             Ok(()) => {}
-            Err(_) => return Err(StepFault::NoMemory),
+            Err(_) => return Err(NoMemory),
         }
         if fresh_row.is_none() && fresh_col.is_none() {
             return Ok(StepEnd::Done { lower, upper });
@@ -230,58 +301,43 @@ impl Restricted {
         })
     }
 
-    /// Posts what one held move of each side proves alone against all replies, that which proves most, where this and
-    /// what is known bring the gap at the state to at most the goal, in millionths. It takes no turn; the rest is as in
-    /// `step`.
+    /// Posts what one held move of each side proves alone against all replies, that which proves most, over numbers that
+    /// were read, where this and what is known bring the gap at the state to at most the goal, in millionths. It takes
+    /// no turn.
     pub fn post_alone<G: Game, B: Bounds<G>>(
         &self,
         g: G,
         node: Node<G::State>,
         goal: i64,
-        children: &mut ChildRows,
+        numbers: &StageNumbers,
         board: &mut B,
-    ) -> Result<(), BoardFault>
+    ) -> Result<(), NoMemory>
         requires game { (B.view board.old).game ≡ g }
         requires reachable { Reachable (G.model g) node.state }
         requires goes_on { 1 ≤ (G.model g).rank node.state }
         requires row { (B.view board.old).key_at node.row ≡ Some ((G.model g).key node.state) }
         requires rows { self.now.most_rows ≡ (G.model g).moves Side.One node.state }
         requires cols { self.now.most_cols ≡ (G.model g).moves Side.Two node.state }
-        requires children { AreChildRows (G.model g) (B.view board.old) node.state children.old }
+        requires read { WereStageNumbers (G.model g) (B.view board.old) node.state self.now numbers.now }
         ensures later { IsLater (B.view board.old) (B.view board.new) }
         ensures posted { Grows (IsOneMoveEntry (G.model g) (B.view board.old).total)
             (B.view board.old).entries (B.view board.new).entries }
-        ensures children { AreChildRows (G.model g) (B.view board.new) node.state children.new }
-        ensures full { result ≡ Err BoardFault.Full → WasFull (G.model g) (B.view board.new)
-            (IsReadChild (G.model g) node.state self.now.rows self.now.cols) }
     {
-        let alloc = *self.rows.allocator();
-        let s = node.state;
+        let StageNumbers { table, lows, highs } = numbers;
         let rows = self.rows();
         let cols = self.cols();
-        let total = board.total();
-        let table = match read_table(alloc, g, s, rows, cols, children, board) {
-            Ok(table) => table,
-            Err(BoardFault::Full) => return Err(BoardFault::Full),
-            Err(BoardFault::NoMemory) => return Err(BoardFault::NoMemory),
-        };
-        let one = match plan_alone(g, s, Side::One, total, &table, rows, cols) {
-            Ok(plan) => plan,
-            Err(_) => return Err(BoardFault::NoMemory),
-        };
-        let two = match plan_alone(g, s, Side::Two, total, &table, cols, rows) {
-            Ok(plan) => plan,
-            Err(_) => return Err(BoardFault::NoMemory),
-        };
+        let row = best_alone(Side::One, lows, rows);
+        let col = best_alone(Side::Two, highs, cols);
         let known = board.read(node.row);
-        let lower = known.lower.max(one.bound);
-        if known.upper.min(two.bound).saturating_sub(lower) > goal {
+        let lower = known.lower.max(row.floor);
+        if known.upper.min(col.floor).saturating_sub(lower) > goal {
             return Ok(());
         }
-        match post_both(alloc, g, node, &table, Plans { one, two }, board) {
-            Ok(()) => Ok(()),
-            Err(_) => Err(BoardFault::NoMemory),
-        }
+        let alloc = *self.rows.allocator();
+        let total = board.total();
+        let one = plan_side(alloc, Side::One, total, lows, &[row.place], cols, &[total])?;
+        let two = plan_side(alloc, Side::Two, total, highs, &[col.place], rows, &[total])?;
+        post_both(alloc, g, node, table, Plans { one, two }, board)
     }
 }
 

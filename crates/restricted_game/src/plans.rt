@@ -9,12 +9,12 @@ ghost use Rattle.matrix_game.specs.Rounds.{IsWeighted};
 ghost use Rattle.best_reply.specs.Replies.{IsBestReply, worth_in};
 ghost use Rattle.restricted_game.specs.Held.{AreMoves};
 ghost use Rattle.restricted_game.specs.Runs.{IsSpreadOver};
-ghost use Rattle.restricted_game.specs.Tables.{HasShape, ArePlans, IsCellPlan};
+ghost use Rattle.restricted_game.specs.Stages.{HasCells};
+ghost use Rattle.restricted_game.specs.Tables.{ArePlans, IsCellPlan};
 
-use crate::cells::cells_of;
 use crate::held::Restricted;
 use crate::stage::solve_held;
-use crate::table::{Cells, Table};
+use crate::table::{Cells, StageNumbers};
 use best_reply::{Reply, reply_one, reply_two};
 use matrix_game::{StageSolver, Turns};
 use sim_game::{Game, NoMemory, Side};
@@ -94,40 +94,38 @@ pub(crate) struct Plans {
 }
 
 impl Restricted {
-    /// Plans for both sides over what was read, by the weights that solve the game on the held moves: for one turn,
+    /// Plans for both sides over these numbers, by the weights that solve the game on the held moves: for one turn,
     /// which out of memory may take as well.
     pub(crate) fn plan<G: Game>(
         &self,
         g: G,
         s: G::State,
         total: u32,
-        table: &Table,
+        numbers: &StageNumbers,
         turns: &mut Turns,
         solver: &mut StageSolver,
     ) -> Result<Plans, NoMemory>
-        requires reachable { Reachable (G.model g) s }
-        requires goes_on { 1 ≤ (G.model g).rank s }
-        requires shape { HasShape (G.model g) s table.now }
+        requires cells { HasCells (G.model g) s numbers.now }
         requires rows { self.now.most_rows ≡ (G.model g).moves Side.One s }
         requires cols { self.now.most_cols ≡ (G.model g).moves Side.Two s }
         requires some { 1 ≤ total }
         requires light { total ≤ MOST_WEIGHT }
         requires left { 0 < left_of turns.old }
-        ensures plans { IfOk result (ArePlans (G.model g) solver.old s total self.now.rows self.now.cols table.now) }
+        ensures plans { IfOk result
+            (ArePlans (G.model g) solver.old s total self.now.rows self.now.cols numbers.now.table) }
         ensures ok { OnOk result (turns.new ≡ after_one_turn turns.old) }
         ensures err { OnErr result ((turns.new ≡ turns.old) ⊎ (turns.new ≡ after_one_turn turns.old)) }
         ensures kind { UsesRegret solver.new ↔ UsesRegret solver.old }
     {
-        let alloc = *table.enclosures.allocator();
+        let alloc = *numbers.table.enclosures.allocator();
         let rows = self.rows();
         let cols = self.cols();
-        let lows = cells_of(alloc, g, s, Side::One, table)?;
-        let highs = cells_of(alloc, g, s, Side::Two, table)?;
-        let stage = solve_held(alloc, &lows, rows, cols, total, turns, solver)?;
+        let StageNumbers { lows, highs, .. } = numbers;
+        let stage = solve_held(alloc, lows, rows, cols, total, turns, solver)?;
         let p = stage.p.as_slice();
         let v = stage.v.as_slice();
-        let one = plan_side(alloc, Side::One, total, &lows, rows, cols, p)?;
-        let two = plan_side(alloc, Side::Two, total, &highs, cols, rows, v)?;
+        let one = plan_side(alloc, Side::One, total, lows, rows, cols, p)?;
+        let two = plan_side(alloc, Side::Two, total, highs, cols, rows, v)?;
         Ok(Plans { one, two })
     }
 }

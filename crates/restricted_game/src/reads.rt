@@ -56,6 +56,20 @@ fn add_move<G: Game>(
     Ok(())
 }
 
+/// How many numbers there are after own moves of positive weight, where each pair of moves has one draw: elsewhere the
+/// list grows.
+fn count_reads<G: Game>(g: G, s: G::State, side: Side, weights: &[u32]) -> usize
+    requires { Reachable (G.model g) s }
+{
+    let mut moves = 0usize;
+    for own in 0..weights.len() {
+        if weights[own] > 0 {
+            moves = moves.saturating_add(1);
+        }
+    }
+    moves.saturating_mul(g.moves(side.other(), s) as usize)
+}
+
 /// The numbers after each own move of positive weight.
 pub(crate) fn reads_of<G: Game>(
     alloc: Global,
@@ -70,7 +84,7 @@ pub(crate) fn reads_of<G: Game>(
     requires weights { length weights.now ≡ (G.model g).moves side s }
     ensures { IfOk result (λ reads. reads.items ≡ reads_of (G.model g) side s weights.now (numbers_in side table.now)) }
 {
-    let mut reads = Vec::new(alloc);
+    let mut reads = Vec::with_capacity(alloc, count_reads(g, s, side, weights))?;
     for own in 0..g.moves(side, s) {
         if weights[own as usize] > 0 {
             add_move(g, s, side, own, table, &mut reads)?;

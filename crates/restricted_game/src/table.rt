@@ -40,6 +40,16 @@ pub(crate) struct Cells {
     ghost small: { All IsSmallCell items.items },
 }
 
+/// The numbers that a stage is made of: what was read of the states after held moves, and the cells of each side.
+#[derive(Drop)]
+pub struct StageNumbers {
+    pub(crate) table: Table,
+    /// One's cells.
+    pub(crate) lows: Cells,
+    /// Two's cells.
+    pub(crate) highs: Cells,
+}
+
 impl Table {
     ghost use Rattle.std.specs.Prelude.{◌≡◌, ◌<◌, ◌≤◌, unsigned_abs};
     ghost use Rattle.bounds_board.specs.Views.{bound_in};

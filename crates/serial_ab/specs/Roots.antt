@@ -29,5 +29,5 @@ pub record IsRootCut {S : Type 0} (m : GameModel S) (side : Side) (old new : Vis
 abbrev pub IsRootEnd : {S : Type 0} → GameModel S → ℕ → VisitsView → VisitsView → RootEnd → Type 0
 IsRootEnd m rows old new (Found lower upper) = IsRootValue m One old new lower × IsRootValue m Two old new upper
 IsRootEnd m rows old new (Cut One) = IsRootCut m One old new
-IsRootEnd m rows old new (Cut Two) = IsRootCut m Two old new × 1 ≤ left_on One old
+IsRootEnd m rows old new (Cut Two) = IsRootCut m Two old new × spent_on One old + 2 ≤ spent_on One new
 IsRootEnd m rows old new Full = IsSearchable m × 1 ≤ left_on One old × (HasAtMost m rows → ⊥)

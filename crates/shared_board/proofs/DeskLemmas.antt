@@ -1,6 +1,6 @@
 -- A desk as a search sees it: what stays, what grows, what its calls tell, and the rows that it has met.
-use Rattle.std.proofs.Common.{◌≡◌, ◌≢◌, ⊎_elim, ℕ, ◌+◌, ◌<◌, ◌≤◌, ℤ, Bool, true, false, cond, eqb, Option, None, Some, IsSome, List, ◌∷◌, ◌++◌, length, sym}
-use Rattle.std.proofs.Common.{refl, ap, ◌∙◌, subst, arith, Result, Ok, Err, OnOk, OnErr, get_or-set_same, ◌⊎◌, slice_set}
+use Rattle.std.proofs.Common.{◌≡◌, ◌≢◌, ⊎_elim, ℕ, ◌+◌, ◌<◌, ◌≤◌, ℤ, Bool, true, false, cond, eqb, None, Some, IsSome, List, ◌∷◌, ◌++◌, length, sym}
+use Rattle.std.proofs.Common.{refl, ap, ◌∙◌, subst, arith, Result, Ok, Err, OnOk, OnErr, get_or-set_same, All}
 use Rattle.std.proofs.lemmas.Int.{ints}
 use Rattle.sim_game.specs.declared.Side.{Side}
 use Rattle.sim_game.specs.declared.Side.TheVariants.{One, Two}
@@ -22,10 +22,9 @@ use Rattle.shared_board.proofs.WordLemmas.{word_refl, word_trans, word_left, wor
 use Rattle.shared_board.proofs.BoundLemmas.{sees_more, opening_back, seen_here}
 use Rattle.shared_board.proofs.SeenLemmas.{looser_bound, key_of_has, has_key_of, seen_opening, seen_has, seen_most, seen_grows, seen_one}
 use Rattle.shared_board.proofs.PassLemmas.{entry_back}
-use Rattle.std.proofs.lemmas.List.Elements.{All-set, All-weaker}
-use Rattle.shared_board.specs.Known.{IsKnownRow, IsPlace, AreKnown}
-use Rattle.shared_board.specs.declared.known.KnownRow.{KnownRow}
-use Rattle.shared_board.specs.declared.known.KnownRows.{KnownRows}
+use Rattle.std.proofs.lemmas.List.Elements.{All-cons, All-contains, All-weaker}
+use Rattle.shared_board.specs.Known.{IsPlace, AreKnown, IsFreeOrIn}
+use Rattle.shared_board.specs.declared.known.Place.{Place}
 
 -- ---- answers
 pub ok_always : {A E : Type 0} (r : Result A E) (Q : Type 0) → Q → OnOk r Q
@@ -205,17 +204,14 @@ module _ {S G : Type 0} (model : G → GameModel S) where
         (looser_trans e.side e.bound (as_bound (seen_at m e.side after i)) (seen_by m after e.side e.key) low (seen_has m e.side after after.keys i e.key known))
 
 -- no less is known
-pub known_more : (ks old new : List (ℕ × ℕ)) (places : List (Option KnownRow)) → new ≡ ks ++ old → IsApart new → AreKnown old places → AreKnown new places
+pub known_more : (ks old new : List (ℕ × ℕ)) (places : List Place) → new ≡ ks ++ old → IsApart new → AreKnown old places → AreKnown new places
 known_more ks old new places is apart = All-weaker (IsPlace old) (IsPlace new) more places where
-  more : (place : Option KnownRow) → IsPlace old place → IsPlace new place
-  more None h = tt
-  more (Some x) h = record { has = subst (Has (x.row, x.key)) (sym is) (has_right (x.row, x.key) ks old h.has); apart = apart }
+  more : (place : Place) → IsPlace old place → IsPlace new place
+  more place h = record { taken = λ row e. record { has = subst (Has (row, place.key)) (sym is) (has_right (row, place.key) ks old (h.taken row e).has); apart = apart } }
 
 -- a row is kept
-pub known_kept : (keys : List (ℕ × ℕ)) (old new : KnownRows) (x : KnownRow) → (new ≡ old) ⊎ ((place : ℕ) × (new.places.items ≡ slice_set old.places.items place (Some x)))
-    → IsKnownRow keys x → AreKnown keys old.places.items → AreKnown keys new.places.items
-known_kept keys old new x set row known = ⊎_elim
-    (λ (same : new ≡ old). subst (λ (k : KnownRows). AreKnown keys k.places.items) (sym same) known)
-    (λ (at : (place : ℕ) × (new.places.items ≡ slice_set old.places.items place (Some x))). subst (AreKnown keys) (sym at.1)
-    (All-set (IsPlace keys) old.places.items at.0 (Some x) row known))
-    set
+pub known_kept : (keys : List (ℕ × ℕ)) (old new : List Place) (x : Place) → All (IsFreeOrIn (x ∷ old)) new → IsPlace keys x → AreKnown keys old → AreKnown keys new
+known_kept keys old new x places here known = All-weaker (IsFreeOrIn (x ∷ old)) (IsPlace keys) is new places where
+  is : (place : Place) → IsFreeOrIn (x ∷ old) place → IsPlace keys place
+  is place = ⊎_elim (λ free. record { taken = λ row e. absurd (omega arith) })
+      (λ stood. All-contains (IsPlace keys) (x ∷ old) place (All-cons (IsPlace keys) x old here known) stood)

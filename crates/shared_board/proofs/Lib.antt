@@ -7,4 +7,5 @@ pub mod BoundLemmas
 pub mod CloseLemmas
 pub mod SeenLemmas
 pub mod PassLemmas
+pub mod PlaceLemmas
 pub mod DeskLemmas

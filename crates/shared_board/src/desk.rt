@@ -86,7 +86,7 @@ impl<'a, G: Game> Desk<'a, G> {
         let pass = &mut self.pass;
         match claim_row(&board.words.shared, &mut pass.bare.seat, board.rows, key) {
             Some(row) => {
-                self.known.keep(key, row);
+                self.known.keep(board.alloc, key, row);
                 Ok(Row::new(row))
             }
             None => Err(Full),
@@ -130,7 +130,6 @@ impl<'a, G: Game> Desk<'a, G> {
         let board = self.board;
         let pass = &mut self.pass;
         pass.bare.book.reserve(1)?;
-        self.known.make_places(board.alloc, board.rows)?;
         let bound = word_of_bound(e.bound);
         post_word(
             &board.words.shared,
@@ -167,8 +166,8 @@ impl<'a, G: Game> Bounds<G> for Desk<'a, G> {
         board.total
     }
 
-    /// The row that has the key, claimed if need be, by at most one try a row. It takes no memory, and the pass
-    /// learns no more than keys of rows.
+    /// The row that has the key, claimed if need be, by at most one try a row. It never fails for want of memory, and
+    /// the pass learns no more than keys of rows.
     fn claim(&mut self, key: u64) -> Result<Row, Full>
         requires { IsInnerKey (G.model self.old.board.game) key }
         ensures later { IsLater (desk_view G.model self.old) (desk_view G.model self.new) }

@@ -118,7 +118,7 @@ pub(crate) fn search_root<G: Game, B: Bounds<G>>(
         alloc,
         game: g,
         worker: 0,
-        has_others: false,
+        workers: 1,
         gate: &OpenGate,
     };
     let limits = MemoryLimits {

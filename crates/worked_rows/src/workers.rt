@@ -3,7 +3,7 @@ ghost use Rattle.std.specs.Prelude.{◌≡◌, ◌≤◌};
 use crate::games::{cards_to_four, two_cards};
 use crate::reports::CARDS;
 use crate::steps::search_root;
-use certificate::{Ask, StageMethod, read, write};
+use certificate::{Ask, LEAST, read, write};
 use lazy_workers::solve;
 use oracle_search::{Gate, OpenGate, SearchEnd};
 use seq::Seq;
@@ -84,7 +84,7 @@ fn solve_cards<R: Threads + Abort + Sync, T: Gate + Sync>(
         visits,
         rows: 1024,
         workers,
-        stages: StageMethod::Regret,
+        ..LEAST
     };
     let report = solve(rt, alloc, g, alone.position, &ask, gate)?.report;
     let Some((head, tail)) = CARDS.split_once(" 3\n") else {
@@ -119,7 +119,7 @@ fn turns_of_four<R: Threads + Abort + Sync, T: Gate + Sync>(
         visits: 100000,
         rows: 4096,
         workers,
-        stages: StageMethod::Regret,
+        ..LEAST
     };
     let report = solve(rt, alloc, g, asked.position, &ask, gate)?.report;
     Ok(report.spent)

@@ -1,8 +1,7 @@
-use Rattle.std.proofs.Common.{◌≡◌, ◌∙◌, List, length, map, ap, refl, subst}
-use Rattle.plan_book.specs.declared.SheetRow.{SheetRow}
+use Rattle.std.proofs.Common.{◌≡◌, ◌∙◌, length, map, ap, refl, subst}
 use Rattle.commands.specs.Measured.{sheet_of}
 use Rattle.dosolve_c.specs.Calls.{put_over}
-use Rattle.dosolve_c.specs.Plans.{row_told, weights_in, IsFault, IsPlanTold}
+use Rattle.dosolve_c.specs.Plans.{row_told, weights_in, IsFault, IsUnread, IsPlanTold}
 use Rattle.dosolve_c.proofs.plans.dosolve_plan.Goals as goal
 
 pub returns-in-Ok-list_rows : goal.returns-in-Ok-list_rows
@@ -20,7 +19,7 @@ returns-in-Ok-list_rows c =
     (λ i. record { rows = counted i; weights = weighed i; total = total i })
 
 pub returns-in-Ok : goal.returns-in-Ok
-returns-in-Ok c = IsPlanTold.fault 8 IsFault.no_memory refl refl refl
+returns-in-Ok c = IsPlanTold.fault 8 (IsFault.unread 8 IsUnread.no_memory) refl refl refl
 
 pub returns : goal.returns
 returns c = IsPlanTold.fault c.in-Err.status c.in-Err.ensures refl refl refl

@@ -1,20 +1,11 @@
-use Rattle.std.proofs.Common.{◌≡◌, ◌↔◌, Bool, inl, refl, sym, ap, subst}
+use Rattle.std.proofs.Common.{◌≡◌, Bool, inl, refl, sym, ap, subst}
 use Rattle.sim_game.specs.Model.{LeadsTo}
-use Rattle.matrix_game.specs.declared.solver.StageSolver.{StageSolver}
-use Rattle.matrix_game.specs.declared.solver.StageSolver.TheVariants as solvers
-use Rattle.matrix_game.specs.Solvers.{UsesRegret}
 use Rattle.bounds_board.proofs.FullLemmas.{full_weaker}
 use Rattle.restricted_game.proofs.ReadLemmas.{read_child_leads}
 use Rattle.oracle_search.specs.Workers.{WorkerView, is_linear, at_work}
 use Rattle.oracle_search.specs.Searches.{HasKept, IsWorked}
-use Rattle.oracle_search.proofs.GrowLemmas.{worked_turn}
+use Rattle.oracle_search.proofs.GrowLemmas.{worked_turn, same_kind}
 use Rattle.oracle_search.proofs.growth.take_turn.Goals as goal
-
-same_kind : (a b : StageSolver) → UsesRegret a ↔ UsesRegret b → is_linear a ≡ is_linear b
-same_kind (solvers.Regret x) (solvers.Regret y) same = refl
-same_kind (solvers.Regret x) solvers.Linear same = absurd (same.0 tt)
-same_kind solvers.Linear (solvers.Regret y) same = absurd (same.1 tt)
-same_kind solvers.Linear solvers.Linear same = refl
 
 pub returns-clause-worked : goal.returns-clause-worked
 returns-clause-worked g c =

@@ -13,7 +13,7 @@ use Rattle.oracle_search.specs.Searches.{HasKept, IsAtRow, IsBoardFull, AreDone}
 use Rattle.oracle_search.specs.Passes.{ArePassed, HasSwept, IsSweepEnd, IsPassDone, AreAllDone}
 use Rattle.oracle_search.proofs.WorkLemmas.{worked_none}
 use Rattle.oracle_search.proofs.GrowLemmas.{worked_quiet, worked_full, full_stop, each_more, done_later, are_done_later, done_within, drawn_below, pair_inside, ring_all, stop_under}
-use Rattle.oracle_search.proofs.PassLemmas.{swept_by, swept_after, swept_under, one_after, done_passed, not_passed, swept_key, one_key, one_spent, ended_from}
+use Rattle.oracle_search.proofs.PassLemmas.{swept_by, swept_after, swept_under, one_after, not_passed, swept_key, one_key, one_spent, ended_from}
 use Rattle.oracle_search.proofs.sweeps.+sweep.Goals as goal
 
 pub sweep_child-returns-in-None-clause-swept : goal.sweep_child-returns-in-None-clause-swept
@@ -28,28 +28,13 @@ sweep_child-returns-in-None-clause-ended g t c =
     let end : IsEnd m c.args.s = subst (HasRow m (g.B.Bounds.view c.args.board.now) c.args.s) c.in-None.is c.requires.row in
     (λ last goes_on stage is. absurd (omega arith), record { unless_full = λ not. omega arith })
 
-pub sweep_child-returns-then-has_passed-clause-swept : goal.sweep_child-returns-then-has_passed-clause-swept
-sweep_child-returns-then-has_passed-clause-swept g t c =
-    let m = g.G.Game.model c.args.setup.now.game in
-    swept_by m c.args.pass.now.is_last c.args.s (m.rank c.args.s + 1) (g.B.Bounds.view c.args.board.now)
-    (g.B.Bounds.view c.args.board.now) c.args.worker.now c.args.worker.now c.requires.passed (worked_none m c.args.s (m.rank c.args.s) _ c.requires.kept) refl
-
-pub sweep_child-returns-then-has_passed-clause-ended : goal.sweep_child-returns-then-has_passed-clause-ended
-sweep_child-returns-then-has_passed-clause-ended g t c =
-    let m = g.G.Game.model c.args.setup.now.game in
-    let has : Contains c.args.worker.now.passed (m.key c.args.s) = subst (Contains c.args.worker.now.passed) c.key.ensures c.if-has_passed.ensures in (
-      λ last. done_passed m c.args.pass.now.is_last
-          (g.met.G.Game.lawful c.args.setup.now.game) c.args.s c.requires.reachable _ (g.B.Bounds.view c.args.board.now) c.args.worker.now.passed refl
-          c.requires.passed has last,
-      record { unless_full = λ not. omega arith },
-    )
-
 pub sweep_child-is_enough-requires : goal.sweep_child-is_enough-requires
 sweep_child-is_enough-requires g t c =
     let m = g.G.Game.model c.args.setup.now.game in
     let is_row : IsRowOf m (g.B.Bounds.view c.args.board.now) c.args.s c.in-Some.row = subst (HasRow m (g.B.Bounds.view c.args.board.now) c.args.s) c.in-Some.is c.requires.row in
     let here : IsAtRow m c.args.setup.now.game c.args.s c.in-Some.row (at_work (g.B.Bounds.view c.args.board.now) c.args.worker.now) =
     record { game = c.requires.game; reachable = c.requires.reachable; has_row = is_row; kept = c.requires.kept } in
+    let passed : ArePassed m c.args.pass.now.is_last (g.B.Bounds.view c.args.board.now).total (g.B.Bounds.view c.args.board.now) c.args.worker.now.passed = c.requires.passed in
     search rules
 
 pub sweep_child-returns-then-is_enough-clause-swept : goal.sweep_child-returns-then-is_enough-clause-swept
@@ -84,8 +69,7 @@ sweep_child-sweep-requires g t c =
     } in
     let passed : ArePassed m c.args.pass.now.is_last (g.B.Bounds.view c.is_enough.new.board).total (g.B.Bounds.view c.is_enough.new.board) c.is_enough.new.worker.passed = sofar.kept in
     let unmet : Contains c.is_enough.new.worker.passed (m.key c.args.s) → ⊥ =
-    λ has. subst (λ (key : ℕ). Contains c.args.worker.now.passed key → ⊥) c.key.ensures c.if-has_passed.ensures
-    (subst (λ (keys : List ℕ). Contains keys (m.key c.args.s)) (ap (λ (w : WorkerView). w.passed) c.is_enough.ensures.same) has) in
+    λ has. c.in-Ok.ensures.unmet c.if-is_enough.false (subst (λ (keys : List ℕ). Contains keys (m.key c.args.s)) (ap (λ (w : WorkerView). w.passed) c.is_enough.ensures.same) has) in
     search rules
 
 pub sweep_child-returns-else-is_enough-clause-swept : goal.sweep_child-returns-else-is_enough-clause-swept
@@ -324,12 +308,12 @@ pub sweep_children-sweep_draws-requires : goal.sweep_children-sweep_draws-requir
 sweep_children-sweep_draws-requires g t c =
     let m = g.G.Game.model c.args.setup.now.game in
     let below = c.loop-turn-test.true in
-    let inside = pair_inside (c.args.setup.now.worker % (c.moves.result * c.moves-cols.result) + c.loop-turn.turn) c.moves.result c.moves-cols.result (omega arith) in
-    let one : (c.args.setup.now.worker % (c.moves.result * c.moves-cols.result) + c.loop-turn.turn) % (c.moves.result * c.moves-cols.result) / c.moves-cols.result < m.moves One c.args.s =
-    subst (λ (k : ℕ). (c.args.setup.now.worker % (c.moves.result * c.moves-cols.result) + c.loop-turn.turn) % (c.moves.result * c.moves-cols.result) / c.moves-cols.result < k)
+    let inside = pair_inside (c.first_pair-first.result % (c.moves.result * c.moves-cols.result) + c.loop-turn.turn) c.moves.result c.moves-cols.result (omega arith) in
+    let one : (c.first_pair-first.result % (c.moves.result * c.moves-cols.result) + c.loop-turn.turn) % (c.moves.result * c.moves-cols.result) / c.moves-cols.result < m.moves One c.args.s =
+    subst (λ (k : ℕ). (c.first_pair-first.result % (c.moves.result * c.moves-cols.result) + c.loop-turn.turn) % (c.moves.result * c.moves-cols.result) / c.moves-cols.result < k)
     c.moves.ensures inside.0 in
-    let two : (c.args.setup.now.worker % (c.moves.result * c.moves-cols.result) + c.loop-turn.turn) % (c.moves.result * c.moves-cols.result) % c.moves-cols.result < m.moves Two c.args.s =
-    subst (λ (k : ℕ). (c.args.setup.now.worker % (c.moves.result * c.moves-cols.result) + c.loop-turn.turn) % (c.moves.result * c.moves-cols.result) % c.moves-cols.result < k)
+    let two : (c.first_pair-first.result % (c.moves.result * c.moves-cols.result) + c.loop-turn.turn) % (c.moves.result * c.moves-cols.result) % c.moves-cols.result < m.moves Two c.args.s =
+    subst (λ (k : ℕ). (c.first_pair-first.result % (c.moves.result * c.moves-cols.result) + c.loop-turn.turn) % (c.moves.result * c.moves-cols.result) % c.moves-cols.result < k)
     c.moves-cols.ensures inside.1 in
     let children : AreChildRows m (g.B.Bounds.view c.loop-turn.board) c.args.s c.loop-turn.children = c.loop-turn.invariant.3 in
     let game : (g.B.Bounds.view c.loop-turn.board).game ≡ c.args.setup.now.game = c.loop-turn.invariant.0.worked.board.later.game ∙ c.requires.game in
@@ -342,10 +326,10 @@ sweep_children-loop-turn-preserved g t c =
     let m = g.G.Game.model c.args.setup.now.game in
     let end = subst (IsSweepEnd m c.args.s (m.rank c.args.s - 1)
     (c.args.pass.now.is_last ≡ true → AreDone m (g.B.Bounds.view c.sweep_draws.new.board) c.args.s
-    ((c.args.setup.now.worker % (c.moves.result * c.moves-cols.result) + c.loop-turn.turn) % (c.moves.result * c.moves-cols.result) / c.moves-cols.result)
-    ((c.args.setup.now.worker % (c.moves.result * c.moves-cols.result) + c.loop-turn.turn) % (c.moves.result * c.moves-cols.result) % c.moves-cols.result))
+    ((c.first_pair-first.result % (c.moves.result * c.moves-cols.result) + c.loop-turn.turn) % (c.moves.result * c.moves-cols.result) / c.moves-cols.result)
+    ((c.first_pair-first.result % (c.moves.result * c.moves-cols.result) + c.loop-turn.turn) % (c.moves.result * c.moves-cols.result) % c.moves-cols.result))
     (g.B.Bounds.view c.sweep_draws.new.board) c.loop-turn.worker c.sweep_draws.new.worker) c.in-Ok-None.field-0-is c.in-Ok-None.ensures.ended in
-    let pair : ℕ → ℕ = λ turn. (c.args.setup.now.worker % (m.moves One c.args.s * m.moves Two c.args.s) + turn) % (m.moves One c.args.s * m.moves Two c.args.s) in
+    let pair : ℕ → ℕ = λ turn. (c.first_pair-first.result % (m.moves One c.args.s * m.moves Two c.args.s) + turn) % (m.moves One c.args.s * m.moves Two c.args.s) in
     let done = rw (c.moves.ensures, c.moves-cols.ensures) at end.0 in (
       swept_after m c.args.pass.now.is_last c.args.s (m.rank c.args.s) (m.rank c.args.s) (m.rank c.args.s) _ _ _ _ _ _ (omega arith) (omega arith) c.loop-turn.invariant.0 c.sweep_draws.ensures.swept,
       one_after m c.args.pass.now.is_last c.args.s (m.rank c.args.s) 0 0 _ _ _ _ _ (omega arith) c.loop-turn.invariant.1 c.sweep_draws.ensures.swept end.1,
@@ -370,8 +354,8 @@ sweep_children-returns-in-Ok-Some-clause-ended g t c =
     let m = g.G.Game.model c.args.setup.now.game in
     let end = subst (IsSweepEnd m c.args.s (m.rank c.args.s - 1)
     (c.args.pass.now.is_last ≡ true → AreDone m (g.B.Bounds.view c.sweep_draws.new.board) c.args.s
-    ((c.args.setup.now.worker % (c.moves.result * c.moves-cols.result) + c.loop-turn.turn) % (c.moves.result * c.moves-cols.result) / c.moves-cols.result)
-    ((c.args.setup.now.worker % (c.moves.result * c.moves-cols.result) + c.loop-turn.turn) % (c.moves.result * c.moves-cols.result) % c.moves-cols.result))
+    ((c.first_pair-first.result % (c.moves.result * c.moves-cols.result) + c.loop-turn.turn) % (c.moves.result * c.moves-cols.result) / c.moves-cols.result)
+    ((c.first_pair-first.result % (c.moves.result * c.moves-cols.result) + c.loop-turn.turn) % (c.moves.result * c.moves-cols.result) % c.moves-cols.result))
     (g.B.Bounds.view c.sweep_draws.new.board) c.loop-turn.worker c.sweep_draws.new.worker) c.in-Ok-Some.field-0-is c.in-Ok-Some.ensures.ended in (
       end.0,
       one_after m c.args.pass.now.is_last c.args.s (m.rank c.args.s) (m.rank c.args.s - 1)
@@ -385,7 +369,7 @@ sweep_children-returns-clause-ended g t c =
     let before : c.moves.result * c.moves-cols.result ≤ c.loop-turn.turn = omega arith in
     let all : m.moves One c.args.s * m.moves Two c.args.s ≤ c.loop-turn.turn = rw (c.moves.ensures, c.moves-cols.ensures) at before in (
       λ last. ring_all (AreDone m (g.B.Bounds.view c.loop-turn.board) c.args.s)
-          (c.args.setup.now.worker % (m.moves One c.args.s * m.moves Two c.args.s)) (m.moves One c.args.s) (m.moves Two c.args.s)
+          (c.first_pair-first.result % (m.moves One c.args.s * m.moves Two c.args.s)) (m.moves One c.args.s) (m.moves Two c.args.s)
           (λ turn l. c.loop-turn.invariant.2 last turn (omega arith)),
       c.loop-turn.invariant.1,
     )

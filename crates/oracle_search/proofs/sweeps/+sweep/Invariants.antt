@@ -22,7 +22,7 @@ invariant-sweep_children-loop-turn g l =
     let m = g.G.Game.model l.setup.game in
     let v = g.B.Bounds.view l.board in
     let pairs = m.moves One l.s * m.moves Two l.s in
-    let pair : ℕ → ℕ = λ turn. (l.setup.worker % pairs + turn) % pairs in
+    let pair : ℕ → ℕ = λ turn. (l.first % pairs + turn) % pairs in
     HasSwept m l.pass.is_last l.s (m.rank l.s) (g.B.Bounds.view l.initial.board) v l.initial.worker l.worker × TakesOne 0 l.initial.worker l.worker
     × (l.pass.is_last ≡ true → (turn : ℕ) → turn < l.turn → AreDone m v l.s (pair turn / m.moves Two l.s) (pair turn % m.moves Two l.s))
     × AreChildRows m v l.s l.children

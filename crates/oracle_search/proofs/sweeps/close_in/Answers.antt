@@ -2,110 +2,164 @@ use Rattle.std.proofs.Common.{rules, ◌≡◌, ◌≤◌, Some, ap, ◌∙◌, 
 use Rattle.sim_game.specs.declared.Side.TheVariants.{One, Two}
 use Rattle.sim_game.specs.Model.{LeadsTo, Reachable}
 use Rattle.bounds_board.proofs.FullLemmas.{full_weaker}
-use Rattle.restricted_game.specs.Children.{AreChildRows}
-use Rattle.restricted_game.proofs.ChildLemmas.{child_rows_later}
+use Rattle.bounds_board.proofs.ViewLemmas.{later_trans}
+use Rattle.restricted_game.proofs.ChildLemmas.{row_later}
+use Rattle.restricted_game.proofs.OverLemmas.{numbers_later}
 use Rattle.restricted_game.proofs.ReadLemmas.{read_child_leads}
+use Rattle.restricted_game.specs.Stages.{WereStageNumbers}
 use Rattle.oracle_search.specs.Workers.{at_work}
-use Rattle.oracle_search.specs.Searches.{HasKept}
+use Rattle.oracle_search.specs.Searches.{IsAtRow}
 use Rattle.oracle_search.proofs.WorkLemmas.{worked_after}
-use Rattle.oracle_search.proofs.GrowLemmas.{worked_alone, worked_quiet, are_done_later}
+use Rattle.oracle_search.proofs.GrowLemmas.{worked_over, worked_quiet}
 use Rattle.oracle_search.proofs.PassLemmas.{close_full, all_rows, all_cols}
 use Rattle.oracle_search.proofs.sweeps.close_in.Goals as goal
+
+pub read-requires : goal.read-requires
+read-requires g c =
+    let m = g.G.Game.model c.args.setup.now.game in
+    let goes_on : 1 ≤ m.rank c.args.s = c.requires.here.has_row.goes_on in
+    let reachable : Reachable m c.args.s = c.requires.here.reachable in
+    search rules
 
 pub post_alone-requires : goal.post_alone-requires
 post_alone-requires g c =
     let m = g.G.Game.model c.args.setup.now.game in
+    let old = g.B.Bounds.view c.args.board.now in
+    let read = g.B.Bounds.view c.read.new.board in
+    let game : read.game ≡ c.args.setup.now.game = c.read.ensures.later.game ∙ c.requires.here.game in
     let goes_on : 1 ≤ m.rank c.args.s = c.requires.here.has_row.goes_on in
     let reachable : Reachable m c.args.s = c.requires.here.reachable in
-    let row : (g.B.Bounds.view c.args.board.now).key_at c.args.row ≡ Some (m.key c.args.s) = c.requires.here.has_row.holds in
+    let row : read.key_at c.args.row ≡ Some (m.key c.args.s) = c.read.ensures.later.keys c.args.row (m.key c.args.s) c.requires.here.has_row.holds in
     let rows : c.args.growth.now.held.most_rows ≡ m.moves One c.args.s = c.requires.held.most_rows in
     let cols : c.args.growth.now.held.most_cols ≡ m.moves Two c.args.s = c.requires.held.most_cols in
+    let were : WereStageNumbers m read c.args.s c.args.growth.now.held c.in-Ok.numbers = record { since = old; are = c.in-Ok.ensures.read } in
     search rules
 
 pub is_within-requires : goal.is_within-requires
 is_within-requires g c =
     let m = g.G.Game.model c.args.setup.now.game in
-    let game : (g.B.Bounds.view c.post_alone.new.board).game ≡ c.args.setup.now.game = c.post_alone.ensures.later.game ∙ c.requires.here.game in
+    let old = g.B.Bounds.view c.args.board.now in
+    let read = g.B.Bounds.view c.read.new.board in
+    let posted = g.B.Bounds.view c.post_alone.new.board in
+    let over = worked_over m c.args.s (m.rank c.args.s) old c.args.worker.now c.requires.here.kept read posted c.read.ensures.later c.read.ensures.entries
+    c.post_alone.ensures.later c.post_alone.ensures.posted in
+    let game : posted.game ≡ c.args.setup.now.game = over.board.later.game ∙ c.requires.here.game in
     let reachable : Reachable m c.args.s = c.requires.here.reachable in
-    let row : (g.B.Bounds.view c.post_alone.new.board).key_at c.args.row ≡ Some (m.key c.args.s) = c.post_alone.ensures.later.keys c.args.row (m.key c.args.s) c.requires.here.has_row.holds in
+    let row : posted.key_at c.args.row ≡ Some (m.key c.args.s) = over.board.later.keys c.args.row (m.key c.args.s) c.requires.here.has_row.holds in
     search rules
 
-pub take_turn-requires : goal.take_turn-requires
-take_turn-requires g c =
+pub take_turn_over-requires : goal.take_turn_over-requires
+take_turn_over-requires g c =
     let m = g.G.Game.model c.args.setup.now.game in
+    let old = g.B.Bounds.view c.args.board.now in
+    let read = g.B.Bounds.view c.read.new.board in
+    let posted = g.B.Bounds.view c.post_alone.new.board in
+    let over = worked_over m c.args.s (m.rank c.args.s) old c.args.worker.now c.requires.here.kept read posted c.read.ensures.later c.read.ensures.entries
+    c.post_alone.ensures.later c.post_alone.ensures.posted in
     let v = g.B.Bounds.view c.is_within.new.board in
-    let alone = worked_alone m c.args.s (m.rank c.args.s) (g.B.Bounds.view c.args.board.now) c.args.worker.now c.requires.here.kept
-    (g.B.Bounds.view c.post_alone.new.board) c.post_alone.ensures.later c.post_alone.ensures.posted in
-    let quiet = worked_quiet m c.args.s (m.rank c.args.s) (g.B.Bounds.view c.post_alone.new.board) c.args.worker.now alone.kept v c.is_within.ensures.later c.is_within.ensures.entries in
-    let goes_on : 1 ≤ m.rank c.args.s = c.requires.here.has_row.goes_on in
-    let game : v.game ≡ c.args.setup.now.game = c.is_within.ensures.later.game ∙ c.post_alone.ensures.later.game ∙ c.requires.here.game in
-    let reachable : Reachable m c.args.s = c.requires.here.reachable in
-    let row : v.key_at c.args.row ≡ Some (m.key c.args.s) = c.is_within.ensures.later.keys c.args.row (m.key c.args.s)
-    (c.post_alone.ensures.later.keys c.args.row (m.key c.args.s) c.requires.here.has_row.holds) in
+    let quiet = worked_after m c.args.s (m.rank c.args.s) (m.rank c.args.s) (m.rank c.args.s) _ _ _ (omega arith) (omega arith) over
+    (worked_quiet m c.args.s (m.rank c.args.s) posted c.args.worker.now over.kept v c.is_within.ensures.later c.is_within.ensures.entries) in
+    let after = later_trans read posted v c.post_alone.ensures.later c.is_within.ensures.later in
+    let here : IsAtRow m c.args.setup.now.game c.args.s c.args.row (at_work v c.args.worker.now) = record {
+      game = quiet.board.later.game ∙ c.requires.here.game;
+      reachable = c.requires.here.reachable;
+      has_row = row_later m old v c.args.s c.args.row quiet.board.later c.requires.here.has_row;
+      kept = quiet.kept;
+    } in
     let rows : c.args.growth.now.held.most_rows ≡ m.moves One c.args.s = c.requires.held.most_rows in
     let cols : c.args.growth.now.held.most_cols ≡ m.moves Two c.args.s = c.requires.held.most_cols in
-    let children : AreChildRows m v c.args.s c.post_alone.new.children = child_rows_later m _ _ c.args.s _ c.is_within.ensures.later c.post_alone.ensures.children in
-    let kept : HasKept m (at_work v c.args.worker.now) = quiet.kept in
+    let were : WereStageNumbers m v c.args.s c.args.growth.now.held c.in-Ok.numbers =
+    record { since = old; are = numbers_later m old read v c.args.s c.args.growth.now.held c.in-Ok.numbers after c.in-Ok.ensures.read } in
     search rules
 
-pub returns-then-is_within-clause-worked : goal.returns-then-is_within-clause-worked
-returns-then-is_within-clause-worked g c =
+pub returns-in-Err-Full-clause-worked : goal.returns-in-Err-Full-clause-worked
+returns-in-Err-Full-clause-worked g c =
     let m = g.G.Game.model c.args.setup.now.game in
-    let alone = worked_alone m c.args.s (m.rank c.args.s) (g.B.Bounds.view c.args.board.now) c.args.worker.now c.requires.here.kept
-    (g.B.Bounds.view c.post_alone.new.board) c.post_alone.ensures.later c.post_alone.ensures.posted in
-    worked_after m c.args.s (m.rank c.args.s) (m.rank c.args.s) (m.rank c.args.s) _ _ _ (omega arith) (omega arith) alone
-    (worked_quiet m c.args.s (m.rank c.args.s) (g.B.Bounds.view c.post_alone.new.board) c.args.worker.now alone.kept
-    (g.B.Bounds.view c.is_within.new.board) c.is_within.ensures.later c.is_within.ensures.entries)
+    let old = g.B.Bounds.view c.args.board.now in
+    let read = g.B.Bounds.view c.read.new.board in
+    worked_quiet m c.args.s (m.rank c.args.s) old c.args.worker.now c.requires.here.kept read c.read.ensures.later c.read.ensures.entries
 
-pub returns-in-Ok-take_turn-clause-worked : goal.returns-in-Ok-take_turn-clause-worked
-returns-in-Ok-take_turn-clause-worked g c =
+pub returns-in-Err-Full-clause-full : goal.returns-in-Err-Full-clause-full
+returns-in-Err-Full-clause-full g c is =
     let m = g.G.Game.model c.args.setup.now.game in
-    let alone = worked_alone m c.args.s (m.rank c.args.s) (g.B.Bounds.view c.args.board.now) c.args.worker.now c.requires.here.kept
-    (g.B.Bounds.view c.post_alone.new.board) c.post_alone.ensures.later c.post_alone.ensures.posted in
-    worked_after m c.args.s (m.rank c.args.s) (m.rank c.args.s) (m.rank c.args.s) _ _ _ (omega arith) (omega arith) alone
-    (worked_after m c.args.s (m.rank c.args.s) (m.rank c.args.s) (m.rank c.args.s) _ _ _ (omega arith) (omega arith)
-    (worked_quiet m c.args.s (m.rank c.args.s) (g.B.Bounds.view c.post_alone.new.board) c.args.worker.now alone.kept
-    (g.B.Bounds.view c.is_within.new.board) c.is_within.ensures.later c.is_within.ensures.entries) c.take_turn.ensures.worked)
+    full_weaker m (g.B.Bounds.view c.read.new.board) _ (LeadsTo m c.args.s) (read_child_leads m c.args.s c.args.growth.now.held.rows c.args.growth.now.held.cols)
+    (c.read.ensures.full (c.in-Err-Full.is ∙ ap Err c.in-Err-Full.field-0-is))
+
+pub returns-in-Err-NoMemory-clause-worked : goal.returns-in-Err-NoMemory-clause-worked
+returns-in-Err-NoMemory-clause-worked g c =
+    let m = g.G.Game.model c.args.setup.now.game in
+    let old = g.B.Bounds.view c.args.board.now in
+    let read = g.B.Bounds.view c.read.new.board in
+    worked_quiet m c.args.s (m.rank c.args.s) old c.args.worker.now c.requires.here.kept read c.read.ensures.later c.read.ensures.entries
 
 pub returns-in-Err-clause-worked : goal.returns-in-Err-clause-worked
 returns-in-Err-clause-worked g c =
     let m = g.G.Game.model c.args.setup.now.game in
-    let alone = worked_alone m c.args.s (m.rank c.args.s) (g.B.Bounds.view c.args.board.now) c.args.worker.now c.requires.here.kept
-    (g.B.Bounds.view c.post_alone.new.board) c.post_alone.ensures.later c.post_alone.ensures.posted in
-    worked_after m c.args.s (m.rank c.args.s) (m.rank c.args.s) (m.rank c.args.s) _ _ _ (omega arith) (omega arith) alone
-    (worked_after m c.args.s (m.rank c.args.s) (m.rank c.args.s) (m.rank c.args.s) _ _ _ (omega arith) (omega arith)
-    (worked_quiet m c.args.s (m.rank c.args.s) (g.B.Bounds.view c.post_alone.new.board) c.args.worker.now alone.kept
-    (g.B.Bounds.view c.is_within.new.board) c.is_within.ensures.later c.is_within.ensures.entries) c.take_turn.ensures.worked)
+    let old = g.B.Bounds.view c.args.board.now in
+    let read = g.B.Bounds.view c.read.new.board in
+    let posted = g.B.Bounds.view c.post_alone.new.board in
+    let over = worked_over m c.args.s (m.rank c.args.s) old c.args.worker.now c.requires.here.kept read posted c.read.ensures.later c.read.ensures.entries
+    c.post_alone.ensures.later c.post_alone.ensures.posted in
+    over
 
-pub returns-in-Ok-take_turn-clause-close : goal.returns-in-Ok-take_turn-clause-close
-returns-in-Ok-take_turn-clause-close g c turned done =
+pub returns-then-is_within-clause-worked : goal.returns-then-is_within-clause-worked
+returns-then-is_within-clause-worked g c =
     let m = g.G.Game.model c.args.setup.now.game in
+    let old = g.B.Bounds.view c.args.board.now in
+    let read = g.B.Bounds.view c.read.new.board in
+    let posted = g.B.Bounds.view c.post_alone.new.board in
+    let over = worked_over m c.args.s (m.rank c.args.s) old c.args.worker.now c.requires.here.kept read posted c.read.ensures.later c.read.ensures.entries
+    c.post_alone.ensures.later c.post_alone.ensures.posted in
+    let v = g.B.Bounds.view c.is_within.new.board in
+    let quiet = worked_after m c.args.s (m.rank c.args.s) (m.rank c.args.s) (m.rank c.args.s) _ _ _ (omega arith) (omega arith) over
+    (worked_quiet m c.args.s (m.rank c.args.s) posted c.args.worker.now over.kept v c.is_within.ensures.later c.is_within.ensures.entries) in
+    quiet
+
+pub returns-in-Ok-take_turn_over-clause-worked : goal.returns-in-Ok-take_turn_over-clause-worked
+returns-in-Ok-take_turn_over-clause-worked g c =
+    let m = g.G.Game.model c.args.setup.now.game in
+    let old = g.B.Bounds.view c.args.board.now in
+    let read = g.B.Bounds.view c.read.new.board in
+    let posted = g.B.Bounds.view c.post_alone.new.board in
+    let over = worked_over m c.args.s (m.rank c.args.s) old c.args.worker.now c.requires.here.kept read posted c.read.ensures.later c.read.ensures.entries
+    c.post_alone.ensures.later c.post_alone.ensures.posted in
+    let v = g.B.Bounds.view c.is_within.new.board in
+    let quiet = worked_after m c.args.s (m.rank c.args.s) (m.rank c.args.s) (m.rank c.args.s) _ _ _ (omega arith) (omega arith) over
+    (worked_quiet m c.args.s (m.rank c.args.s) posted c.args.worker.now over.kept v c.is_within.ensures.later c.is_within.ensures.entries) in
+    worked_after m c.args.s (m.rank c.args.s) (m.rank c.args.s) (m.rank c.args.s) _ _ _ (omega arith) (omega arith) quiet c.take_turn_over.ensures.worked
+
+pub returns-clause-worked : goal.returns-clause-worked
+returns-clause-worked g c =
+    let m = g.G.Game.model c.args.setup.now.game in
+    let old = g.B.Bounds.view c.args.board.now in
+    let read = g.B.Bounds.view c.read.new.board in
+    let posted = g.B.Bounds.view c.post_alone.new.board in
+    let over = worked_over m c.args.s (m.rank c.args.s) old c.args.worker.now c.requires.here.kept read posted c.read.ensures.later c.read.ensures.entries
+    c.post_alone.ensures.later c.post_alone.ensures.posted in
+    let v = g.B.Bounds.view c.is_within.new.board in
+    let quiet = worked_after m c.args.s (m.rank c.args.s) (m.rank c.args.s) (m.rank c.args.s) _ _ _ (omega arith) (omega arith) over
+    (worked_quiet m c.args.s (m.rank c.args.s) posted c.args.worker.now over.kept v c.is_within.ensures.later c.is_within.ensures.entries) in
+    worked_after m c.args.s (m.rank c.args.s) (m.rank c.args.s) (m.rank c.args.s) _ _ _ (omega arith) (omega arith) quiet c.take_turn_over.ensures.worked
+
+pub returns-in-Ok-take_turn_over-clause-close : goal.returns-in-Ok-take_turn_over-clause-close
+returns-in-Ok-take_turn_over-clause-close g c turned done =
+    let m = g.G.Game.model c.args.setup.now.game in
+    let old = g.B.Bounds.view c.args.board.now in
+    let read = g.B.Bounds.view c.read.new.board in
+    let posted = g.B.Bounds.view c.post_alone.new.board in
+    let over = worked_over m c.args.s (m.rank c.args.s) old c.args.worker.now c.requires.here.kept read posted c.read.ensures.later c.read.ensures.entries
+    c.post_alone.ensures.later c.post_alone.ensures.posted in
+    let v = g.B.Bounds.view c.is_within.new.board in
+    let quiet = worked_after m c.args.s (m.rank c.args.s) (m.rank c.args.s) (m.rank c.args.s) _ _ _ (omega arith) (omega arith) over
+    (worked_quiet m c.args.s (m.rank c.args.s) posted c.args.worker.now over.kept v c.is_within.ensures.later c.is_within.ensures.entries) in
     let game = g.met.G.Game.lawful c.args.setup.now.game in
     let goes_on = c.requires.here.has_row.goes_on in
     let held = c.args.growth.now.held in
     let is_row = all_rows m c.args.s held (game.other_moves One c.args.s c.requires.here.reachable goes_on) c.requires.held in
     let is_col = all_cols m c.args.s held (game.other_moves Two c.args.s c.requires.here.reachable goes_on) c.requires.held in
-    close_full m c.args.s goes_on game c.requires.here.reachable (g.B.Bounds.view c.is_within.new.board) (g.B.Bounds.view c.take_turn.new.board) held c.in-Ok-take_turn.field-0
-    c.take_turn.ensures.worked.board.later.total is_row is_col
-    (λ one two has_one has_two. are_done_later m c.args.s one two (g.B.Bounds.view c.post_alone.new.board) (g.B.Bounds.view c.is_within.new.board) c.is_within.ensures.later
-    (are_done_later m c.args.s one two (g.B.Bounds.view c.args.board.now) (g.B.Bounds.view c.post_alone.new.board) c.post_alone.ensures.later
-    (done one two (is_row one has_one) (is_col two has_two))))
-    (c.in-Ok-take_turn.ensures.all c.requires.held.all) c.in-Ok-take_turn.ensures.gap
-
-pub returns-in-Err-Full-clause-worked : goal.returns-in-Err-Full-clause-worked
-returns-in-Err-Full-clause-worked g c =
-    let m = g.G.Game.model c.args.setup.now.game in
-    worked_alone m c.args.s (m.rank c.args.s) (g.B.Bounds.view c.args.board.now) c.args.worker.now c.requires.here.kept
-    (g.B.Bounds.view c.post_alone.new.board) c.post_alone.ensures.later c.post_alone.ensures.posted
-
-pub returns-in-Err-Full-clause-full : goal.returns-in-Err-Full-clause-full
-returns-in-Err-Full-clause-full g c is =
-    let m = g.G.Game.model c.args.setup.now.game in
-    full_weaker m (g.B.Bounds.view c.post_alone.new.board) _ (LeadsTo m c.args.s) (read_child_leads m c.args.s c.args.growth.now.held.rows c.args.growth.now.held.cols)
-    (c.post_alone.ensures.full (c.in-Err-Full.is ∙ ap Err c.in-Err-Full.field-0-is))
-
-pub returns-in-Err-NoMemory-clause-worked : goal.returns-in-Err-NoMemory-clause-worked
-returns-in-Err-NoMemory-clause-worked g c =
-    let m = g.G.Game.model c.args.setup.now.game in
-    worked_alone m c.args.s (m.rank c.args.s) (g.B.Bounds.view c.args.board.now) c.args.worker.now c.requires.here.kept
-    (g.B.Bounds.view c.post_alone.new.board) c.post_alone.ensures.later c.post_alone.ensures.posted
+    let after = later_trans read posted v c.post_alone.ensures.later c.is_within.ensures.later in
+    close_full m c.args.s goes_on game c.requires.here.reachable old (g.B.Bounds.view c.take_turn_over.new.board) held c.in-Ok-take_turn_over.field-0
+    (c.take_turn_over.ensures.worked.board.later.total ∙ quiet.board.later.total) is_row is_col
+    (λ one two has_one has_two. done one two (is_row one has_one) (is_col two has_two))
+    (c.in-Ok-take_turn_over.ensures.all c.requires.held.all)
+    (c.in-Ok-take_turn_over.ensures.gap old (numbers_later m old read v c.args.s held c.in-Ok.numbers after c.in-Ok.ensures.read))

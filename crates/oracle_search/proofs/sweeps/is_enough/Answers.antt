@@ -1,4 +1,4 @@
-use Rattle.std.proofs.Common.{rules, w64, SFits, sym, subst, ◌∙◌, arith}
+use Rattle.std.proofs.Common.{rules, ℕ, Contains, w64, SFits, refl, sym, subst, ◌∙◌, arith}
 use Rattle.std.proofs.lemmas.Int.{to_z-of_z}
 use Rattle.restricted_game.proofs.ChildLemmas.{row_later}
 use Rattle.oracle_search.specs.Finished.{IsWithin}
@@ -6,7 +6,8 @@ use Rattle.oracle_search.specs.Workers.{WorkerView, at_work}
 use Rattle.oracle_search.specs.Searches.{IsWorked}
 use Rattle.oracle_search.proofs.BetterLemmas.{gap_within}
 use Rattle.oracle_search.proofs.WorkLemmas.{worked_after, close_below}
-use Rattle.oracle_search.proofs.GrowLemmas.{worked_quiet}
+use Rattle.oracle_search.proofs.GrowLemmas.{worked_quiet, done_later}
+use Rattle.oracle_search.proofs.PassLemmas.{done_passed}
 use Rattle.oracle_search.proofs.sweeps.is_enough.Goals as goal
 
 pub returns-then-is_within-clause-worked : goal.returns-then-is_within-clause-worked
@@ -88,3 +89,23 @@ returns-in-Ok-note_bounds-clause-last g c last enough goes_on =
     close_below m c.total.result v c.args.s c.wanted_gap-goal.result
     (c.gap_at-gap.ensures.later.total ∙ c.bound_state.ensures.worked.board.later.total ∙ c.is_within.ensures.later.total ∙ sym c.total.ensures.total)
     (c.wanted_gap-goal.ensures.last last) within
+
+pub returns-then-has_passed-clause-worked : goal.returns-then-has_passed-clause-worked
+returns-then-has_passed-clause-worked g c =
+    let m = g.G.Game.model c.args.setup.now.game in
+    (worked_quiet m c.args.s (m.rank c.args.s) (g.B.Bounds.view c.args.board.now) c.args.worker.now c.requires.here.kept
+    (g.B.Bounds.view c.is_within.new.board) c.is_within.ensures.later c.is_within.ensures.entries)
+
+pub returns-then-has_passed-clause-last : goal.returns-then-has_passed-clause-last
+returns-then-has_passed-clause-last g c last enough =
+    let m = g.G.Game.model c.args.setup.now.game in
+    let old = g.B.Bounds.view c.args.board.now in
+    let has : Contains c.args.worker.now.passed (m.key c.args.s) = subst (Contains c.args.worker.now.passed) c.key.ensures c.if-has_passed.ensures in
+    done_later m c.args.s old (g.B.Bounds.view c.is_within.new.board) c.is_within.ensures.later
+    (done_passed m c.args.pass.now.is_last (g.met.G.Game.lawful c.args.setup.now.game) c.args.s c.requires.here.reachable _ old c.args.worker.now.passed refl c.requires.passed has last)
+
+pub returns-then-not-wants_bounds-clause-unmet : goal.returns-then-not-wants_bounds-clause-unmet
+returns-then-not-wants_bounds-clause-unmet g c not = subst (λ (key : ℕ). Contains c.args.worker.now.passed key → ⊥) c.key.ensures c.if-has_passed.ensures
+
+pub returns-in-Ok-note_bounds-clause-unmet : goal.returns-in-Ok-note_bounds-clause-unmet
+returns-in-Ok-note_bounds-clause-unmet g c not = subst (λ (key : ℕ). Contains c.args.worker.now.passed key → ⊥) c.key.ensures c.if-has_passed.ensures

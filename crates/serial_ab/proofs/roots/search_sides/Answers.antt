@@ -1,5 +1,5 @@
-use Rattle.std.proofs.Common.{◌∙◌}
-use Rattle.sim_game.specs.declared.Side.TheVariants.{Two}
+use Rattle.std.proofs.Common.{◌∙◌, arith}
+use Rattle.sim_game.specs.declared.Side.TheVariants.{One, Two}
 use Rattle.sim_game.specs.Model.{LeadsTo}
 use Rattle.plan_book.specs.Serial.{tree_size}
 use Rattle.serial_ab.proofs.RootLemmas.{cut_before, no_room}
@@ -16,7 +16,7 @@ returns-in-Err-Cut-search_root-clause-ends g c =
         cut = cut_before Two size size c.args.worker.now.visits c.search_root.new.worker.visits c.search_root-in-Ok.new.worker.visits
             c.search_root.ensures.kept.visits second;
       },
-      first.had_left c.requires.searched,
+      (let other = c.search_root-in-Ok.ensures.kept.visits.other in let entered = first.entered c.requires.searched in omega arith),
     )
 
 pub returns-in-Err-Full-search_root-clause-ends : goal.returns-in-Err-Full-search_root-clause-ends

@@ -3,7 +3,7 @@ use Rattle.std.proofs.lemmas.List.Elements.{All-contains}
 use Rattle.shared_board.specs.Rule.{Has}
 use Rattle.shared_board.specs.Passes.{IsUnseen}
 use Rattle.shared_board.specs.Known.{IsKnownRow, IsPlace, AreKnown}
-use Rattle.shared_board.specs.declared.known.KnownRow.{KnownRow}
+use Rattle.shared_board.specs.declared.known.Place.{Place}
 use Rattle.shared_board.specs.declared.view.View.{View}
 use Rattle.shared_board.proofs.PassLemmas.{pass_claimed}
 use Rattle.shared_board.proofs.DeskLemmas.{known_more, known_kept}
@@ -12,18 +12,21 @@ use Rattle.shared_board.proofs.desk.Desk.claim_key.Goals as goal
 pub returns-in-Some : goal.returns-in-Some
 returns-in-Some g c =
     let keys : c.self.inside.pass.view.keys ≡ c.args.self.now.pass.view.keys = ap (λ d. d.pass.view.keys) c.self.view_is in
-    let x : KnownRow = record { key = c.args.key; row = c.in-Some.row } in
-    let row = subst (λ ks. IsKnownRow ks x) keys (All-contains (IsPlace c.self.inside.pass.view.keys) c.self.inside.known.places.items (Some x) c.self.invariant.1
-    c.in-Some.ensures) in
+    let x : Place = record { key = c.args.key; row_plus_one = c.in-Some.row + 1 } in
+    let row = subst (λ ks. IsKnownRow ks c.args.key c.in-Some.row) keys
+    ((All-contains (IsPlace c.self.inside.pass.view.keys) c.self.inside.known.places.items x c.self.invariant.1 c.in-Some.ensures).taken c.in-Some.row refl) in
     record { view = ([], refl, omega arith); ok = rw c.new.ensures row.has; apart = row.apart; err = tt }
 
 pub invariant_of-self : goal.invariant_of-self
 invariant_of-self g c =
-    let did = c.claim_row.ensures in let x : KnownRow = record { key = c.args.key; row = c.in-Some-claim_row.row } in
-    let here : IsKnownRow c.claim_row.new.seat.me.0.keys x = record { has = c.in-Some-claim_row.ensures.some.1; apart = did.apart } in
+    let did = c.claim_row.ensures in let found : ℕ = c.in-Some-claim_row.row in let x : Place = record { key = c.args.key; row_plus_one = found + 1 } in
+    let keys = c.claim_row.new.seat.me.0.keys in
+    let here : IsPlace keys x = record {
+      taken = λ row e. subst (IsKnownRow keys c.args.key) (omega arith) (record { has = c.in-Some-claim_row.ensures.some.1; apart = did.apart });
+    } in
     let before = subst (λ ks. AreKnown ks c.self.inside.known.places.items) (sym (ap (λ p. p.view.keys) c.pass.view_is)) c.self.invariant.1 in (
       search rules,
-      known_kept c.claim_row.new.seat.me.0.keys c.self.inside.known c.keep.new.self x c.keep.ensures here
+      known_kept keys c.self.inside.known.places.items c.keep.new.self.places.items x c.keep.ensures here
           (known_more did.keys.0 c.pass.inside.bare.seat.me.0.keys c.claim_row.new.seat.me.0.keys c.self.inside.known.places.items (ap (λ v. v.keys) did.keys.1) did.apart before),
     )
 

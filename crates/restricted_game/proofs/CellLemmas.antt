@@ -63,7 +63,7 @@ pub cell_small : {S : Type 0} (m : GameModel S) (s : S) (side : Side) (table : T
     → unsigned_abs (pair_cell m side s table one two) ≤ 4000000000
 cell_small m s side table one two game r shape p q =
     mean_small side (m.draws s one two) (m.chance s one two) (game.chance_sum s one two r p q) (λ draw. bound_in side (enclosure_in table one two draw))
-    (λ d l. bound_small side table one two d (rw shape.height p) (rw shape.width q) (omega (arith, shape.stride.draws s one two r p q)))
+    (λ d l. bound_small side table one two d (rw shape.height p) (rw shape.width q) (omega (arith, shape.stride.draws one two p q)))
 
 -- one draw more in a sum of 64 bits
 pub sum_step : (n : ℕ) (f : ℕ → ℤ) (sum x : ℤ) → n < 13 → sum ≡ sum_below n f → unsigned_abs sum ≤ n * 4194304000000000 → x ≡ f n → unsigned_abs x ≤ 4194304000000000

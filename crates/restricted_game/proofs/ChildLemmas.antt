@@ -30,7 +30,7 @@ module _ {S : Type 0} (m : GameModel S) (s : S) (reach : Reachable m s) (childre
   place = draw_index children.width children.stride one two draw
 
   fits : (a b d : ℕ) → a < m.moves One s → b < m.moves Two s → d < m.draws s a b → d < children.stride
-  fits a b d p q r = omega (arith, places.stride.draws s a b reach p q)
+  fits a b d p q r = omega (arith, places.stride.draws a b p q)
 
   pub place_in : place < length children.rows
   place_in = rw (places.room, places.width) (place_within (m.moves One s) (m.moves Two s) children.stride one two draw one_in two_in (fits one two draw one_in two_in draw_in))

@@ -27,7 +27,7 @@ HasRow m v t (Some row) = IsRowOf m v t row
 -- there is a place for each draw after each pair of moves
 pub record HasPlaces {S : Type 0} (m : GameModel S) (s : S) (children : KeptRows) : Type 0 where
   pub width : children.width ≡ m.moves Two s
-  pub stride : IsStride m children.stride
+  pub stride : IsStride m s children.stride
   pub room : length children.rows ≡ m.moves One s * m.moves Two s * children.stride
 
 -- no row is known

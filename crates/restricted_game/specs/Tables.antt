@@ -5,7 +5,7 @@ use Rattle.std.specs.List.{Contains, range_with_len}
 use Rattle.sums.specs.Sums.{sum_below}
 use Rattle.sim_game.specs.declared.Side.{Side}
 use Rattle.sim_game.specs.declared.Side.TheVariants.{One, Two}
-use Rattle.sim_game.specs.Model.{GameModel, Reachable}
+use Rattle.sim_game.specs.Model.{GameModel}
 use Rattle.sim_game.specs.Sides.{IsNoTighter, move_of_one, move_of_two, quotient}
 use Rattle.plan_book.specs.declared.Entry.{Entry}
 use Rattle.plan_book.specs.Entries.{reads_of}
@@ -30,11 +30,11 @@ draw_index width stride one two draw = (one * width + two) * stride + draw
 abbrev pub enclosure_at : List Enclosure → ℕ → Enclosure
 enclosure_at enclosures place = slice_index_or enclosures place (record { lower = pos 0; upper = pos 0 })
 
--- no pair of moves has more draws
-pub record IsStride {S : Type 0} (m : GameModel S) (stride : ℕ) : Type 0 where
+-- no pair of moves of the state has more draws
+pub record IsStride {S : Type 0} (m : GameModel S) (s : S) (stride : ℕ) : Type 0 where
   pub some : 1 ≤ stride
   pub few : stride ≤ 13
-  pub draws : (s : S) (one two : ℕ) → Reachable m s → one < m.moves One s → two < m.moves Two s → m.draws s one two ≤ stride
+  pub draws : (one two : ℕ) → one < m.moves One s → two < m.moves Two s → m.draws s one two ≤ stride
 
 -- the wanted draws at the first places were read between two views
 pub record AreFilled {S G N : Type 0} (m : GameModel S) (u v : BoardView G N) (s : S) (rows cols : List ℕ) (width stride places : ℕ) (enclosures : List Enclosure) : Type 0 where
@@ -53,7 +53,7 @@ numbers_in side table move other draw = bound_in side (enclosure_in table (move_
 pub record HasShape {S : Type 0} (m : GameModel S) (s : S) (table : Table) : Type 0 where
   pub height : table.height ≡ m.moves One s
   pub width : table.width ≡ m.moves Two s
-  pub stride : IsStride m table.stride
+  pub stride : IsStride m s table.stride
 
 -- each wanted draw was read between two views
 pub record IsFilled {S G N : Type 0} (m : GameModel S) (u v : BoardView G N) (s : S) (rows cols : List ℕ) (table : Table) : Type 0 where

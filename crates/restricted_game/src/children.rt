@@ -10,14 +10,20 @@ use sim_game::{Game, NoMemory, Side};
 use std::alloc::Global;
 use std::marker::Model;
 
-/// How many draws a pair of moves may have.
-const MOST_DRAWS: u32 = 13;
-
-/// How many draws a pair of moves of this game has at most.
-pub(crate) fn stride_of<G: Game>(g: G) -> u32
-    ensures { IsStride (G.model g) result }
+/// How many draws a pair of moves of the state has at most.
+fn most_draws<G: Game>(g: G, s: G::State) -> u32
+    requires { Reachable (G.model g) s }
+    ensures { IsStride (G.model g) s result }
 {
-    if g.chance_free() { 1 } else { MOST_DRAWS }
+    if g.chance_free() {
+        return 1;
+    }
+    let width = g.moves(Side::Two, s);
+    let mut most = 1;
+    for pair in 0..g.moves(Side::One, s) * width {
+        most = most.max(g.draws(s, pair / width, pair % width));
+    }
+    most
 }
 
 /// The rows of the states after pairs of moves at one state that were claimed so far.
@@ -43,15 +49,36 @@ impl ChildRows {
         requires reachable { Reachable (G.model g) s }
         ensures { IfOk result (HasNoRows (G.model g) s) }
     {
+        let none = ChildRows {
+            width: 0,
+            stride: 0,
+            rows: Vec::new(alloc),
+        };
+        none.renew(g, s)
+    }
+
+    /// The same in the memory of these rows.
+    pub fn renew<G: Game>(self, g: G, s: G::State) -> Result<ChildRows, NoMemory>
+        requires reachable { Reachable (G.model g) s }
+        ensures { IfOk result (HasNoRows (G.model g) s) }
+    {
         let width = g.moves(Side::Two, s);
-        let stride = stride_of(g);
-        let places = g.moves(Side::One, s) * width * stride;
-        let rows = Vec::from_elem(alloc, None, places as usize)?;
+        let stride = most_draws(g, s);
+        let mut rows = self.rows;
+        rows.clear();
+        rows.resize((g.moves(Side::One, s) * width * stride) as usize, None)?;
         Ok(ChildRows {
             width,
             stride,
             rows,
         })
+    }
+
+    /// How many draws a pair of moves has room for.
+    pub(crate) fn stride(&self) -> u32
+        ensures { result ≡ self.now.stride }
+    {
+        self.stride
     }
 
     /// The row of the state after a pair of moves and a draw, claimed where it is not known yet; an end has none.

@@ -19,7 +19,7 @@ loop-draw-preserved g c =
     let few : c.loop-draw.draw < 13 =
     omega (
       arith,
-      c.requires.shape.stride.draws c.args.s c.args.one c.args.two c.requires.reachable c.requires.one
+      c.requires.shape.stride.draws c.args.one c.args.two c.requires.one
           c.requires.two,
       c.requires.shape.stride.few,
       c.draws-draw-end.ensures,

@@ -77,7 +77,8 @@ impl Book {
         }
     }
 
-    /// Appends all entries of the other book, or hands it back for want of memory.
+    /// Appends all entries of the other book, or hands it back for want of memory. An empty book takes over the other's
+    /// memory.
     pub fn join(&mut self, mut other: Book) -> Result<(), Book>
         requires { other.total ≡ self.old.total }
         ensures total { self.new.total ≡ self.old.total }
@@ -85,6 +86,10 @@ impl Book {
         ensures err { OnErr result (self.new.entries ≡ self.old.entries) }
         ensures handed_back { IfErr result (λ book. book ≡ other) }
     {
+        if self.entries.is_empty() {
+            *self = other;
+            return Ok(());
+        }
         match self.entries.append(&mut other.entries) {
             Ok(()) => Ok(()),
             Err(_full) => Err(other),

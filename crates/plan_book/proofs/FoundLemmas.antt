@@ -1,11 +1,12 @@
 -- The rows of the best entries at the states that they reach are the best sheet.
-use Rattle.std.proofs.Common.{◌≡◌, ℕ, Bool, true, false, cond, ◌||◌, eqb, Option, None, Some, List, [], ◌∷◌, map, nat_cmp, inl, inr, refl, sym, ap, subst, ◌∙◌, arith}
+use Rattle.std.proofs.Common.{◌≡◌, ℕ, ◌<◌, zero, suc, length, get_or, Bool, true, false, cond, ◌||◌, eqb, Option, None, Some, List, [], ◌∷◌, map, nat_cmp, inl, inr, refl, sym, ap, subst, ◌∙◌, arith}
 use Rattle.std.proofs.lemmas.Bool.{eqb-true}
 use Rattle.std.proofs.lemmas.Bool.Decides.{nat_tests}
-use Rattle.std.proofs.lemmas.List.Elements.{All-from_recursion}
-use Rattle.std.proofs.lemmas.List.Kept.{IsStrictlyIncreasing-filter}
-use Rattle.std.specs.List.{AllByRecursion, filter, filter_map, cons_option, list_any}
-use Rattle.std.specs.List.Sorted.{IsStrictlyIncreasing}
+use Rattle.std.proofs.lemmas.List.Elements.{recursion_from_All}
+use Rattle.std.proofs.lemmas.List.Sorted.{All-permutation, IsNonDecreasingBy-from_default, IsPermutation-map, list_any-IsPermutation}
+use Rattle.std.proofs.lemmas.Map.Keys.{IsDistinct-IsPermutation, IsStrictlyIncreasing-from_distinct}
+use Rattle.std.specs.List.{All, AllByRecursion, IsDistinct, list_any}
+use Rattle.std.specs.List.Sorted.{IsNonDecreasing, IsNonDecreasingBy, IsPermutation}
 use Rattle.std.specs.Map.{lookup}
 use Rattle.std.specs.Option.{IsSome, is_some}
 use Rattle.std.specs.Ordering.{is_eq}
@@ -17,7 +18,9 @@ use Rattle.plan_book.specs.declared.SheetRow.{SheetRow}
 use Rattle.plan_book.specs.Books.{IsBestSheet, best_row}
 use Rattle.plan_book.specs.Gathered.{IsGathered}
 use Rattle.plan_book.specs.Sheets.{row_at, IsKeptHistory, IsReached}
-use Rattle.plan_book.proofs.BestLemmas.{best_keyed, reached_root, reached_turn}
+use Rattle.plan_book.proofs.ExpectedLemmas.{is_same}
+use Rattle.plan_book.proofs.LookupLemmas.{row_keys, keys_length, key_of}
+use Rattle.plan_book.proofs.BestLemmas.{reached_root, reached_turn}
 
 same_key_is : (x y : ℕ) → is_eq (nat_cmp x y) ≡ eqb x y
 same_key_is x y = grind (arith, nat_tests)
@@ -35,59 +38,34 @@ key_listed [] key = refl
 key_listed (e ∷ es) key = key_step (is_eq (nat_cmp key e.0)) e.1 _ _ (key_listed es key) ∙ ap (λ (b : Bool). b || list_any (eqb key) (map (λ x. x.0) es)) (same_key_is key e.0)
 
 -- ---- rows by key
--- a row of the key, or none
-row_step : (here others : Bool) (r : SheetRow) (found : Option SheetRow) (rest : Option SheetRow) → (here ≡ true → found ≡ Some r)
-    → rest ≡ cond others found None → cond here (Some r) rest ≡ cond (here || others) found None
-row_step true others r found rest h e = sym (h refl)
-row_step false others r found rest h e = e
+pub row_listed : (rows : List SheetRow) (key : ℕ) → is_some (row_at rows key) ≡ list_any (eqb key) (row_keys rows)
+row_listed [] key = refl
+row_listed (r ∷ rows) key = key_step (eqb r.key key) r _ _ (row_listed rows key) ∙ ap (λ (b : Bool). b || list_any (eqb key) (row_keys rows)) (flip_eqb r.key key)
 
-none_step : (here others : Bool) (found : Option SheetRow) (rest : Option SheetRow) → (here ≡ true → found ≡ None) → rest ≡ cond others found None → rest ≡ cond (here || others) found None
-none_step true true found rest h e = e
-none_step true false found rest h e = e ∙ sym (h refl)
-none_step false others found rest h e = e
+still_some : (here : Bool) (r : SheetRow) (o : Option SheetRow) → IsSome o → IsSome (cond here (Some r) o)
+still_some true r o h = refl
+still_some false r o h = h
 
-keys_step : (f : ℕ → Option SheetRow) (k : ℕ) (ks : List ℕ) (o : Option SheetRow) → f k ≡ o → ((r : SheetRow) → o ≡ Some r → r.key ≡ k)
-    → map (λ r. r.key) (filter_map f ks) ≡ filter (λ j. is_some (f j)) ks
-    → map (λ r. r.key) (cons_option o (filter_map f ks)) ≡ cond (is_some o) (k ∷ filter (λ j. is_some (f j)) ks) (filter (λ j. is_some (f j)) ks)
-keys_step f k ks None e keyed h = h
-keys_step f k ks (Some r) e keyed h = let here = keyed r refl in rw (here, h) refl
+row_item : (rows : List SheetRow) (k : ℕ) (d : SheetRow) → k < length rows → IsSome (row_at rows (get_or rows k d).key)
+row_item [] k d h = absurd (omega arith)
+row_item (r ∷ rows) zero d h = rw (is_same r.key r.key refl) refl
+row_item (r ∷ rows) (suc k) d h = still_some _ r _ (row_item rows k d (omega arith))
 
-all_step : (P : SheetRow → Type 0) (o : Option SheetRow) (rest : List SheetRow) → ((r : SheetRow) → o ≡ Some r → P r) → AllByRecursion P rest → AllByRecursion P (cons_option o rest)
-all_step P None rest h all = all
-all_step P (Some r) rest h all = (h r refl, all)
+row_step : (here : Bool) (r : SheetRow) (found rest : Option SheetRow) → (here ≡ true → found ≡ Some r) → rest ≡ cond (is_some rest) found None
+    → cond here (Some r) rest ≡ cond (is_some (cond here (Some r) rest)) found None
+row_step true r found rest h e = sym (h refl)
+row_step false r found rest h e = e
 
-or_right : (a b : Bool) → b ≡ true → (a || b) ≡ true
-or_right true b h = refl
-or_right false b h = h
+-- a row of the key, if there is one, is what f has there
+row_from : (f : ℕ → Option SheetRow) (rows : List SheetRow) (key : ℕ) → AllByRecursion (λ r. f r.key ≡ Some r) rows → row_at rows key ≡ cond (is_some (row_at rows key)) (f key) None
+row_from f [] key all = refl
+row_from f (r ∷ rows) key all = row_step (eqb r.key key) r (f key) (row_at rows key) (λ same. ap f (sym (eqb-true r.key key same)) ∙ all.0) (row_from f rows key all.1)
 
-or_left : (a b : Bool) → a ≡ true → (a || b) ≡ true
-or_left true b h = refl
-or_left false b h = absurd (cc)
-
-eqb_self : (k : ℕ) → eqb k k ≡ true
-eqb_self k = grind (arith, nat_tests)
-
-module _ (f : ℕ → Option SheetRow) (keyed : (k : ℕ) (r : SheetRow) → f k ≡ Some r → r.key ≡ k) where
-  listed_step : (k key : ℕ) (ks : List ℕ) (o : Option SheetRow) → f k ≡ o → row_at (filter_map f ks) key ≡ cond (list_any (eqb key) ks) (f key) None
-      → row_at (cons_option o (filter_map f ks)) key ≡ cond (eqb key k || list_any (eqb key) ks) (f key) None
-  listed_step k key ks None e h = none_step (eqb key k) (list_any (eqb key) ks) (f key) _ (λ same. ap f (eqb-true key k same) ∙ e) h
-  listed_step k key ks (Some r) e h =
-      let flipped : eqb r.key key ≡ eqb key k = ap (λ (n : ℕ). eqb n key) (keyed k r e) ∙ flip_eqb k key in
-      rw flipped (row_step (eqb key k) (list_any (eqb key) ks) r (f key) (row_at (filter_map f ks) key) (λ same. ap f (eqb-true key k same) ∙ e) h)
-
-  listed_row : (ks : List ℕ) (key : ℕ) → row_at (filter_map f ks) key ≡ cond (list_any (eqb key) ks) (f key) None
-  listed_row [] key = refl
-  listed_row (k ∷ ks) key = listed_step k key ks (f k) refl (listed_row ks key)
-
-  row_keys : (ks : List ℕ) → map (λ r. r.key) (filter_map f ks) ≡ filter (λ k. is_some (f k)) ks
-  row_keys [] = refl
-  row_keys (k ∷ ks) = keys_step f k ks (f k) refl (keyed k) (row_keys ks)
-
-rows_all : (f : ℕ → Option SheetRow) (P : SheetRow → Type 0) (ks : List ℕ) → ((k : ℕ) (r : SheetRow) → list_any (eqb k) ks ≡ true → f k ≡ Some r → P r) → AllByRecursion P (filter_map f ks)
-rows_all f P [] h = tt
-rows_all f P (k ∷ ks) h =
-    all_step P (f k) (filter_map f ks) (λ r e. h k r (or_left (eqb k k) (list_any (eqb k) ks) (eqb_self k)) e)
-    (rows_all f P ks (λ j r listed e. h j r (or_right (eqb j k) (list_any (eqb j) ks) listed) e))
+keys_rise : (rows : List SheetRow) → IsNonDecreasingBy (λ r. r.key) rows → IsNonDecreasing (row_keys rows)
+keys_rise [] h = λ i j d le p. absurd (omega arith)
+keys_rise (r ∷ rows) h = IsNonDecreasingBy-from_default (λ x. x) (row_keys (r ∷ rows)) 0 (λ i j le p.
+    let q : j < length (r ∷ rows) = rw (← keys_length (r ∷ rows)) p in
+    rw (key_of (r ∷ rows) i r (omega arith), key_of (r ∷ rows) j r q) (h i j r le q))
 
 -- ---- reached states are found
 some_from : {X : Type 0} (o : Option X) → IsSome o → (x : X) × (o ≡ Some x)
@@ -98,7 +76,7 @@ some_and : (o : Option SheetRow) (P : SheetRow → Type 0) → IsSomeAnd o P →
 some_and None P h = absurd h
 some_and (Some r) P h = refl
 
-module _ {S : Type 0} (m : GameModel S) (side : Side) (rows : ℕ → Option SheetRow) (before after : ℕ → Option ℕ)
+module _ {S : Type 0} (m : GameModel S) (side : Side) (rows : ℕ → Option SheetRow) (before after : ℕ → Option SheetRow)
     (nothing : (key : ℕ) → before key ≡ None) (walk : IsGathered m side rows m.root before after) where
   not_before : (key : ℕ) → IsSome (before key) → ⊥
   not_before key h = let h' = subst IsSome (nothing key) h in absurd (cc)
@@ -133,19 +111,21 @@ IsFoundRow {S} m side entries r = (s : S) × IsReached m side (best_row side ent
 pub nothing_in : {X : Type 0} (es : List (ℕ × X)) (key : ℕ) → es ≡ [] → lookup (λ k. is_eq (nat_cmp key k)) es ≡ None
 nothing_in es key e = ap (lookup (λ k. is_eq (nat_cmp key k))) e
 
--- the rows of the keys that a walk from the root found
-pub found_sheet : {S : Type 0} (m : GameModel S) (side : Side) (entries : List Entry) (ks : List ℕ) (before after : ℕ → Option ℕ) (sheet_rows : List SheetRow)
-    → ((k : ℕ) → is_some (after k) ≡ list_any (eqb k) ks) → IsStrictlyIncreasing ks → ((key : ℕ) → before key ≡ None) → IsGathered m side (best_row side entries) m.root before after
-    → sheet_rows ≡ filter_map (best_row side entries) ks → IsBestSheet m side entries sheet_rows
-found_sheet m side entries ks before after sheet_rows listed rising nothing walk is =
+-- the rows that a walk from the root found, in rising order of keys
+pub found_sheet : {S : Type 0} (m : GameModel S) (side : Side) (entries : List Entry) (found sheet_rows : List SheetRow)
+    → All (λ r. best_row side entries r.key ≡ Some r) found → IsDistinct eqb (row_keys found) → IsGathered m side (best_row side entries) m.root (row_at []) (row_at found)
+    → IsPermutation found sheet_rows → IsNonDecreasingBy (λ r. r.key) sheet_rows → IsBestSheet m side entries sheet_rows
+found_sheet m side entries found sheet_rows each distinct walk moved rising =
     let f : ℕ → Option SheetRow = best_row side entries in
-    let keyed : (k : ℕ) (r : SheetRow) → f k ≡ Some r → r.key ≡ k = best_keyed side entries in
+    let keys : IsPermutation (row_keys found) (row_keys sheet_rows) = IsPermutation-map (λ r. r.key) found sheet_rows moved in
     record {
-      rising = rw (is, row_keys f keyed ks) (IsStrictlyIncreasing-filter (λ k. is_some (f k)) ks rising);
-      kept = λ s r. rw is (listed_row f keyed ks (m.key s)
-          ∙ none_or (list_any (eqb (m.key s)) ks) (f (m.key s)) (λ some. sym (listed (m.key s)) ∙ reached_found m side f before after nothing walk s r some));
-      only = rw is (All-from_recursion (IsFoundRow m side entries) (filter_map f ks) (rows_all f (IsFoundRow m side entries) ks (λ k r here e.
-          let it = found_reached m side f before after nothing walk k (listed k ∙ here) in
-          let key : r.key ≡ k = keyed k r e in
-          (it.0, it.1, it.2 ∙ sym key, subst (λ (n : ℕ). f n ≡ Some r) (sym key) e))));
+      rising = IsStrictlyIncreasing-from_distinct (row_keys sheet_rows) (keys_rise sheet_rows rising) (IsDistinct-IsPermutation eqb flip_eqb _ _ keys distinct);
+      kept = λ s r.
+          row_from f sheet_rows (m.key s) (recursion_from_All (λ x. f x.key ≡ Some x) sheet_rows (All-permutation (λ x. f x.key ≡ Some x) found sheet_rows moved each))
+          ∙ none_or (is_some (row_at sheet_rows (m.key s))) (f (m.key s)) (λ some.
+          row_listed sheet_rows (m.key s) ∙ sym (list_any-IsPermutation (eqb (m.key s)) _ _ keys) ∙ sym (row_listed found (m.key s))
+          ∙ reached_found m side f (row_at []) (row_at found) (λ key. refl) walk s r some);
+      only = All-permutation (IsFoundRow m side entries) found sheet_rows moved (λ k d h.
+          let it = found_reached m side f (row_at []) (row_at found) (λ key. refl) walk (get_or found k d).key (row_item found k d h) in
+          (it.0, it.1, it.2, each k d h));
     }

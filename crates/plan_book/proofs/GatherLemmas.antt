@@ -1,13 +1,10 @@
 -- The best entries by key, and the states that they reach.
-use Rattle.std.proofs.Common.{◌≡◌, ℕ, zero, suc, ◌+◌, ◌<◌, ◌≤◌, Bool, true, false, cond, ◌&&◌, eqb, Option, None, Some, option_and_then, List, [], ◌∷◌, ◌++◌, length, take, nat_cmp, ◌-◌, inl, inr, length-append, append_assoc, get_or, slice_get, refl, sym, ap, ◌∙◌, arith}
+use Rattle.std.proofs.Common.{◌≡◌, ℕ, zero, suc, ◌+◌, ◌<◌, ◌≤◌, Bool, true, false, cond, ◌&&◌, eqb, Option, None, Some, option_and_then, List, [], ◌∷◌, length, take, ◌-◌, inl, inr, length-append, get_or, slice_get, refl, sym, ap, ◌∙◌, arith}
 use Rattle.std.proofs.lemmas.Bool.{eqb-true}
-use Rattle.std.proofs.lemmas.Bool.Decides.{nat_tests}
 use Rattle.std.proofs.lemmas.List.{get_or_append_left, get_or-append-add}
 use Rattle.std.proofs.Math.Seq.{get_or-append_right}
 use Rattle.std.proofs.lemmas.List.Sums.{fold_more}
 use Rattle.std.specs.Option.{IfSome}
-use Rattle.std.specs.List.{filter_map, cons_option}
-use Rattle.std.specs.Ordering.{is_eq}
 use Rattle.sim_game.specs.declared.Side.{Side}
 use Rattle.plan_book.specs.declared.Entry.{Entry}
 use Rattle.std.proofs.lemmas.Bool.{cases_lt}
@@ -22,9 +19,6 @@ pub item_at : {X : Type 0} (xs : List X) (n : ℕ) (e : X) → n < length xs →
 item_at [] n e h is = absurd (omega arith)
 item_at (x ∷ xs) zero e h is = ap Some (sym is)
 item_at (x ∷ xs) (suc n) e h is = item_at xs n e (omega arith) is
-
-same_key_is : (x y : ℕ) → is_eq (nat_cmp x y) ≡ eqb x y
-same_key_is x y = grind (arith, nat_tests)
 
 and_false : (b : Bool) → (b && false) ≡ false
 and_false true = refl
@@ -49,10 +43,10 @@ place_more side xs n e true test old new kept item was is better = rw (is, and_t
 pub best_more : (side : Side) (xs : List Entry) (n : ℕ) (e : Entry) (key : ℕ) (test : Bool) (places : ℕ → Option ℕ) (new : Option ℕ) → n < length xs → e ≡ get_or xs n e
     → ((k : ℕ) → option_and_then (slice_get xs) (places k) ≡ best_entry side (take n xs) k)
     → test ≡ (same_side e.side side && beats side e (option_and_then (slice_get xs) (places e.key)))
-    → new ≡ cond (test && is_eq (nat_cmp e.key key)) (Some n) (places key)
+    → new ≡ cond (test && eqb e.key key) (Some n) (places key)
     → option_and_then (slice_get xs) new ≡ best_entry side (take (n + 1) xs) key
 best_more side xs n e key test places new h is was better is_new =
-    place_more side xs n e (eqb e.key key) test (places key) new (best_entry side (take n xs) key) (item_at xs n e h is) (was key) (rw (← same_key_is e.key key) is_new)
+    place_more side xs n e (eqb e.key key) test (places key) new (best_entry side (take n xs) key) (item_at xs n e h is) (was key) is_new
     (λ same. better ∙ ap (λ (o : Option Entry). same_side e.side side && beats side e o) (ap (λ (k : ℕ). option_and_then (slice_get xs) (places k)) (eqb-true e.key key same) ∙ was key))
     ∙ ap (λ (x : Entry). better_entry side key (best_entry side (take n xs) key) x) is
     ∙ sym (fold_more (better_entry side key) None xs n e h)
@@ -146,9 +140,3 @@ module _ {S : Type 0} (m : GameModel S) (side : Side) (weights : List ℕ) (s : 
         positive = w;
         is = all.2.2 d ∙ ap (λ (xs : List S). get_or xs all.2.0 d) e ∙ move.2.2 d ∙ pair.2.2 d ∙ ap (λ (n : ℕ). get_or (child_of m side s own move.0 pair.0 ∷ []) n d) first;
       }
-
--- a row more, of the keys that are left
-pub row_taken : {K R : Type 0} (f : K → Option R) (rows : List R) (left rest : List K) (key : K) (row : R) (whole : List R) → left ≡ key ∷ rest → f key ≡ Some row
-    → rows ++ filter_map f left ≡ whole → (rows ++ row ∷ []) ++ filter_map f rest ≡ whole
-row_taken f rows left rest key row whole e is h =
-    append_assoc rows (row ∷ []) (filter_map f rest) ∙ sym (ap (λ xs. rows ++ filter_map f xs) e ∙ ap (λ o. rows ++ cons_option o (filter_map f rest)) is) ∙ h

@@ -15,4 +15,5 @@ pub mod WalkLemmas
 pub mod SerialLemmas
 pub mod SheetLemmas
 pub mod StepLemmas
+pub mod TakenLemmas
 pub mod TreeSums

@@ -1,10 +1,9 @@
 -- A walk through the states that rows reach, one child after another.
-use Rattle.std.proofs.Common.{◌≡◌, ℕ, ◌+◌, ◌<◌, ◌≤◌, Bool, true, false, cond, Option, Some, List, [], ◌∷◌, zero, suc, length, nat_cmp, get_or, slice_get, option_and_then, option_map, ◌⊎◌, inl, inr, refl, sym, ap, subst, ◌∙◌, arith}
+use Rattle.std.proofs.Common.{◌≡◌, ℕ, ◌+◌, ◌<◌, ◌≤◌, Bool, cond, Option, Some, List, [], ◌∷◌, zero, suc, length, eqb, get_or, slice_get, option_and_then, option_map, ◌⊎◌, inl, inr, refl, sym, ap, subst, ◌∙◌, arith}
 use Rattle.std.proofs.lemmas.Bool.{cases_eq, cases_lt}
-use Rattle.std.proofs.lemmas.Bool.Decides.{nat_tests}
 use Rattle.std.specs.Option.{IsSome, IfSome}
 use Rattle.std.specs.Prelude.{IsSomeAnd}
-use Rattle.std.specs.Ordering.{is_eq}
+use Rattle.plan_book.proofs.ExpectedLemmas.{is_same, is_other}
 use Rattle.sim_game.specs.declared.Side.{Side}
 use Rattle.sim_game.specs.declared.Side.TheVariants.{One, Two}
 use Rattle.sim_game.specs.Model.{GameModel, Turn, IsTurn, IsGame, after_turn}
@@ -21,18 +20,12 @@ use Rattle.plan_book.proofs.SheetLemmas.{reached_reachable}
 use Rattle.sim_game.proofs.SideLemmas.{side_turn}
 
 -- the walk from a state after so many of its children: what was found before it, with the state itself, and now
-pub record IsWalking {S : Type 0} (m : GameModel S) (side : Side) (rows : ℕ → Option SheetRow) (s : S) (items : List S) (index : ℕ) (before now : ℕ → Option ℕ) : Type 0 where
+pub record IsWalking {S : Type 0} (m : GameModel S) (side : Side) (rows : ℕ → Option SheetRow) (s : S) (items : List S) (index : ℕ) (before now : ℕ → Option SheetRow) : Type 0 where
   pub grows : (key : ℕ) → IsSome (before key) → IsSome (now key)
   pub here : IsSome (now (m.key s))
   pub sound : (key : ℕ) → IsSome (now key) → IsSome (before key) ⊎ ((t : S) × IsReached m side rows t × (m.key t ≡ key) × IsSome (rows key))
   pub closed : (t : S) → IsReached m side rows t → IsSome (now (m.key t)) → IsSome (before (m.key t)) ⊎ ((m.key t ≡ m.key s) ⊎ IsFollowed m side rows now t)
   pub done : (k : ℕ) (d : S) → k < index → IsSome (rows (m.key (get_or items k d))) → IsSome (now (m.key (get_or items k d)))
-
-is_key : (x y : ℕ) → x ≡ y → is_eq (nat_cmp x y) ≡ true
-is_key x y h = grind (arith, nat_tests)
-
-no_key : (x y : ℕ) → ¬ (x ≡ y) → is_eq (nat_cmp x y) ≡ false
-no_key x y h = grind (arith, nat_tests)
 
 same_item : {X : Type 0} (xs : List X) (k : ℕ) (d e : X) → k < length xs → get_or xs k d ≡ get_or xs k e
 same_item [] k d e h = absurd (omega arith)
@@ -81,7 +74,7 @@ item_below m game side rows s weights row k child r is same h item =
 
 module _ {S : Type 0} (m : GameModel S) (side : Side) (rows : ℕ → Option SheetRow) where
   -- nothing to find
-  pub gathered_nothing : (s : S) (before : ℕ → Option ℕ) → (IsSome (rows (m.key s)) → IsSome (before (m.key s))) → IsGathered m side rows s before before
+  pub gathered_nothing : (s : S) (before : ℕ → Option SheetRow) → (IsSome (rows (m.key s)) → IsSome (before (m.key s))) → IsGathered m side rows s before before
   gathered_nothing s before h = record {
     grows = λ key some. some;
     here = h;
@@ -90,30 +83,30 @@ module _ {S : Type 0} (m : GameModel S) (side : Side) (rows : ℕ → Option She
   }
 
   -- the state itself
-  pub walk_start : (s : S) (items : List S) (place : ℕ) (before now : ℕ → Option ℕ) → IsReached m side rows s → IsSome (rows (m.key s))
-      → ((key : ℕ) → now key ≡ cond (is_eq (nat_cmp (m.key s) key)) (Some place) (before key)) → IsWalking m side rows s items 0 before now
-  walk_start s items place before now r row is = record {
+  pub walk_start : (s : S) (items : List S) (row : SheetRow) (before now : ℕ → Option SheetRow) → IsReached m side rows s → IsSome (rows (m.key s))
+      → ((key : ℕ) → now key ≡ cond (eqb (m.key s) key) (Some row) (before key)) → IsWalking m side rows s items 0 before now
+  walk_start s items row before now r some_row is = record {
     grows = λ key some. elim (cases_eq (m.key s) key) [
-      | inl same ↦ subst IsSome (sym (is key ∙ ap (λ (b : Bool). cond b (Some place) (before key)) (is_key (m.key s) key same))) refl
-      | inr other ↦ subst IsSome (sym (is key ∙ ap (λ (b : Bool). cond b (Some place) (before key)) (no_key (m.key s) key other))) some
+      | inl same ↦ subst IsSome (sym (is key ∙ ap (λ (b : Bool). cond b (Some row) (before key)) (is_same (m.key s) key same))) refl
+      | inr other ↦ subst IsSome (sym (is key ∙ ap (λ (b : Bool). cond b (Some row) (before key)) (is_other (m.key s) key other))) some
     ];
-    here = subst IsSome (sym (is (m.key s) ∙ ap (λ (b : Bool). cond b (Some place) (before (m.key s))) (is_key (m.key s) (m.key s) refl))) refl;
+    here = subst IsSome (sym (is (m.key s) ∙ ap (λ (b : Bool). cond b (Some row) (before (m.key s))) (is_same (m.key s) (m.key s) refl))) refl;
     sound = λ key some. elim (cases_eq (m.key s) key) [
-      | inl same ↦ inr (s, r, same, subst (λ (k : ℕ). IsSome (rows k)) same row)
-      | inr other ↦ inl (subst IsSome (is key ∙ ap (λ (b : Bool). cond b (Some place) (before key)) (no_key (m.key s) key other)) some)
+      | inl same ↦ inr (s, r, same, subst (λ (k : ℕ). IsSome (rows k)) same some_row)
+      | inr other ↦ inl (subst IsSome (is key ∙ ap (λ (b : Bool). cond b (Some row) (before key)) (is_other (m.key s) key other)) some)
     ];
     closed = λ t r' some. elim (cases_eq (m.key s) (m.key t)) [
       | inl same ↦ inr (inl (sym same))
-      | inr other ↦ inl (subst IsSome (is (m.key t) ∙ ap (λ (b : Bool). cond b (Some place) (before (m.key t))) (no_key (m.key s) (m.key t) other)) some)
+      | inr other ↦ inl (subst IsSome (is (m.key t) ∙ ap (λ (b : Bool). cond b (Some row) (before (m.key t))) (is_other (m.key s) (m.key t) other)) some)
     ];
     done = λ k d h row'. absurd (omega arith);
   }
 
-  followed_more : (now later : ℕ → Option ℕ) (t : S) → ((key : ℕ) → IsSome (now key) → IsSome (later key)) → IsFollowed m side rows now t → IsFollowed m side rows later t
+  followed_more : (now later : ℕ → Option SheetRow) (t : S) → ((key : ℕ) → IsSome (now key) → IsSome (later key)) → IsFollowed m side rows now t → IsFollowed m side rows later t
   followed_more now later t grows h = λ u turn row. grows _ (h u turn row)
 
   -- one more child
-  pub walk_more : (s : S) (items : List S) (index : ℕ) (child : S) (before now later : ℕ → Option ℕ) → index < length items → child ≡ get_or items index child
+  pub walk_more : (s : S) (items : List S) (index : ℕ) (child : S) (before now later : ℕ → Option SheetRow) → index < length items → child ≡ get_or items index child
       → IsWalking m side rows s items index before now → IsGathered m side rows child now later → IsWalking m side rows s items (index + 1) before later
   walk_more s items index child before now later h item walk found = record {
     grows = λ key some. found.grows key (walk.grows key some);
@@ -135,7 +128,7 @@ module _ {S : Type 0} (m : GameModel S) (side : Side) (rows : ℕ → Option She
     ];
   }
 
-  all_followed : (weights : List ℕ) (row : SheetRow) (s : S) (now : ℕ → Option ℕ) → IsGame m → rows (m.key s) ≡ Some row → row.weights ≡ weights
+  all_followed : (weights : List ℕ) (row : SheetRow) (s : S) (now : ℕ → Option SheetRow) → IsGame m → rows (m.key s) ≡ Some row → row.weights ≡ weights
       → ((k : ℕ) (d : S) → k < length (children_of m side weights s) → IsSome (rows (m.key (get_or (children_of m side weights s) k d)))
       → IsSome (now (m.key (get_or (children_of m side weights s) k d))))
       → IsFollowed m side rows now s
@@ -147,7 +140,7 @@ module _ {S : Type 0} (m : GameModel S) (side : Side) (rows : ℕ → Option She
       subst (λ (x : S). IsSome (now (m.key x))) it (done place.0 s place.1 (subst (λ (x : S). IsSome (rows (m.key x))) (sym it) some))
 
   -- all children
-  pub walk_end : (s : S) (weights : List ℕ) (row : SheetRow) (before now : ℕ → Option ℕ) → IsGame m → IsReached m side rows s → rows (m.key s) ≡ Some row → row.weights ≡ weights
+  pub walk_end : (s : S) (weights : List ℕ) (row : SheetRow) (before now : ℕ → Option SheetRow) → IsGame m → IsReached m side rows s → rows (m.key s) ≡ Some row → row.weights ≡ weights
       → IsWalking m side rows s (children_of m side weights s) (length (children_of m side weights s)) before now → IsGathered m side rows s before now
   walk_end s weights row before now game r is same_weights walk = record {
     grows = walk.grows;
@@ -178,7 +171,7 @@ pub some_is : {X : Type 0} (o : Option X) (x : X) → o ≡ Some x → IsSome o
 some_is o x e = rw e refl
 
 pub walk_done : {S : Type 0} (m : GameModel S) (side : Side) (rows : ℕ → Option SheetRow) (s : S) (weights : List ℕ) (row : SheetRow)
-    (items : List S) (index : ℕ) (before now : ℕ → Option ℕ) → IsGame m → IsReached m side rows s
+    (items : List S) (index : ℕ) (before now : ℕ → Option SheetRow) → IsGame m → IsReached m side rows s
     → rows (m.key s) ≡ Some row → row.weights ≡ weights → items ≡ children_of m side weights s → index ≡ length items
     → IsWalking m side rows s items index before now → IsGathered m side rows s before now
 walk_done {S} m side rows s weights row items index before now game r is same e last walk =

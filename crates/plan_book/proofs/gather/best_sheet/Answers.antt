@@ -1,18 +1,31 @@
-use Rattle.std.proofs.Common.{nat_cmp, subst, ◌∙◌}
-use Rattle.std.proofs.lemmas.Map.Keys.{IsStrictlyIncreasing-from_sorted}
-use Rattle.std.specs.BTreeMap.{get, keys}
+use Rattle.std.proofs.Common.{List, [], nat_eq, rules, subst}
+use Rattle.std.proofs.lemmas.List.Sorted.{IsNonDecreasingBy-from_sort_by_key}
+use Rattle.std.specs.HashMap.{get}
+use Rattle.plan_book.specs.declared.SheetRow.{SheetRow}
 use Rattle.plan_book.specs.Books.{best_row}
 use Rattle.plan_book.specs.Gathered.{IsGathered}
-use Rattle.plan_book.proofs.FoundLemmas.{key_listed, nothing_in, found_sheet}
+use Rattle.plan_book.specs.Sheets.{row_at}
+use Rattle.plan_book.proofs.BestLemmas.{reached_root}
+use Rattle.plan_book.proofs.FoundLemmas.{found_sheet}
+use Rattle.plan_book.proofs.TakenLemmas.{all_left}
 use Rattle.plan_book.proofs.gather.best_sheet.Goals as goal
+
+pub gather-requires : goal.gather-requires
+gather-requires g c = record {
+  reached = rw c.root.ensures (reached_root _ c.args.side (best_row c.args.side c.args.entries.now));
+  taken = rw c.new-rows.ensures.items (all_left c.args.side c.args.entries.now (get nat_eq c.in_ok-left.left) c.in_ok-left.ensures);
+}
 
 pub returns-clause-best : goal.returns-clause-best
 returns-clause-best g c =
     let m = g.G.Game.model c.args.g in
+    let side = c.args.side in
     let entries = c.args.entries.now in
-    let walk : IsGathered m c.args.side (best_row c.args.side entries) m.root (get nat_cmp c.new-found.result) (get nat_cmp c.gather.new.found) =
-    subst (λ (s : g.row.G-State.Denot). IsGathered m c.args.side (best_row c.args.side entries) s (get nat_cmp c.new-found.result) (get nat_cmp c.gather.new.found))
-    c.root.ensures c.in_ok-gather.ensures in
-    found_sheet m c.args.side entries (keys c.gather.new.found) (get nat_cmp c.new-found.result) (get nat_cmp c.gather.new.found) c.from_vec.result
-    (key_listed c.gather.new.found.entries) (IsStrictlyIncreasing-from_sorted _ c.in_ok-rows.ensures.ordered)
-    (λ key. nothing_in c.new-found.result.entries key c.new-found.ensures.empty) walk (c.from_vec.ensures ∙ c.in_ok-rows.ensures.rows)
+    let found = c.gather.new.rows.items in
+    let from_root : IsGathered m side (best_row side entries) m.root (row_at c.new-rows.result.items) (row_at found) =
+    subst (λ (s : g.row.G-State.Denot). IsGathered m side (best_row side entries) s (row_at c.new-rows.result.items) (row_at found)) c.root.ensures c.in_ok-gather.ensures.gathered in
+    let walk : IsGathered m side (best_row side entries) m.root (row_at []) (row_at found) =
+    subst (λ (xs : List SheetRow). IsGathered m side (best_row side entries) m.root (row_at xs) (row_at found)) c.new-rows.ensures.items from_root in
+    let taken = c.in_ok-gather.ensures.taken in
+    rw c.from_vec.ensures (found_sheet m side entries found c.sort_unstable_by_key.new.self.items taken.each taken.distinct walk c.sort_unstable_by_key.ensures.permutation
+    (IsNonDecreasingBy-from_sort_by_key (λ r. r.key) _ c.sort_unstable_by_key.ensures.sorted (λ a r q k. search rules)))

@@ -15,8 +15,9 @@ use Rattle.matrix_game.proofs.Mixtures.{length-mixture_of}
 use Rattle.matrix_game.proofs.Law.{weight_before, length-regrets_before, weight-reply_counts, length-reply_counts, get_or-all_on, weight-all_on, stage_law, resolution_of}
 use Rattle.matrix_game.proofs.Loop.{floor_before, best_mixture_is}
 use Rattle.sums.specs.Sums.{sum_below}
+use Rattle.matrix_game.specs.declared.stage.StagePlans.{StagePlans}
 use Rattle.matrix_game.specs.Grid.{Grid, IsShaped, IsMatrix, IsSaddle, IsFirstSaddle, cell_at, column_sum, row_sum, best_reply, row_floor, col_ceiling, first_greatest}
-use Rattle.matrix_game.specs.Plans.{AreStagePlans, plans_by}
+use Rattle.matrix_game.specs.Plans.{AreStagePlans, AreWeighed, plans_by}
 use Rattle.matrix_game.specs.Rounds.{regrets_before, rounds, all_on, IsStage, pure, mixed, IsWeighted, HasSmallGap}
 
 pub all_on_written : (n i w : ℕ) (xs : List ℕ) → i < n → xs ≡ replicate n 0 → set xs i w ≡ all_on n i w
@@ -113,19 +114,21 @@ col_ceiling-small m w v i h =
     let s = weighted_sum-small m.cols 4000000000 (λ b. get_or v b 0) (λ b. cell_at m a b) (λ b l. cell-small m a b i a_in l) in
     omega (arith, s, ap (λ t. 4000000000 * t) (weights_sum m.cols w v h))
 
--- weights that keep the stage law
-pub plans_of_gap : (m : Grid) (w : ℕ) (p v : List ℕ) → IsMatrix m → IsWeighted m.rows w p → IsWeighted m.cols w v
-    → HasSmallGap m w (row_floor m p) (col_ceiling m v) → AreStagePlans m w (plans_by m p v)
-plans_of_gap m w p v i rows cols gap = record {
-  rows = rows;
-  cols = cols;
-  low = refl;
-  high = refl;
+-- plans that keep the stage law
+pub plans_of_gap : (m : Grid) (w : ℕ) (plans : StagePlans) → IsMatrix m → AreWeighed m w plans → HasSmallGap m w plans.low plans.high → AreStagePlans m w plans
+plans_of_gap m w plans i weighed gap = record {
+  rows = weighed.rows;
+  cols = weighed.cols;
+  low = weighed.low;
+  high = weighed.high;
   gap = gap;
-  resolution = resolution_of m w (row_floor m p) (col_ceiling m v) gap;
-  small_low = row_floor-small m w p i rows;
-  small_high = col_ceiling-small m w v i cols;
+  resolution = resolution_of m w plans.low plans.high gap;
+  small_low = omega (arith, ints, row_floor-small m w plans.p i weighed.rows, ap unsigned_abs weighed.low);
+  small_high = omega (arith, ints, col_ceiling-small m w plans.v i weighed.cols, ap unsigned_abs weighed.high);
 }
 
 pub plans_of_stage : (m : Grid) (w : ℕ) (p v : List ℕ) → IsMatrix m → 0 < w → IsStage m w p v → AreStagePlans m w (plans_by m p v)
-plans_of_stage m w p v i h stage = plans_of_gap m w p v i (stage-rows m w p v i.shaped h stage) (stage-cols m w p v i.shaped stage) (stage_law m w p v i.shaped stage)
+plans_of_stage m w p v i h stage =
+    plans_of_gap m w (plans_by m p v) i
+    (record { rows = stage-rows m w p v i.shaped h stage; cols = stage-cols m w p v i.shaped stage; low = refl; high = refl })
+    (stage_law m w p v i.shaped stage)

@@ -12,6 +12,13 @@ use Rattle.matrix_game.specs.Rounds.{IsWeighted, HasSmallGap, HasResolution}
 abbrev pub plans_by : Grid → List ℕ → List ℕ → StagePlans
 plans_by m p v = record { p = p; v = v; low = row_floor m p; high = col_ceiling m v }
 
+-- plans of the weight w with what they secure and concede, however far apart that is
+pub record AreWeighed (m : Grid) (w : ℕ) (plans : StagePlans) : Type 0 where
+  pub rows : IsWeighted m.rows w plans.p
+  pub cols : IsWeighted m.cols w plans.v
+  pub low : plans.low ≡ row_floor m plans.p
+  pub high : plans.high ≡ col_ceiling m plans.v
+
 -- plans of the weight w: what they secure and concede, and how close that is
 pub record AreStagePlans (m : Grid) (w : ℕ) (plans : StagePlans) : Type 0 where
   pub rows : IsWeighted m.rows w plans.p

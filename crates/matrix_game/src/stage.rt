@@ -3,8 +3,8 @@
 ghost use Rattle.std.specs.Prelude.{◌≡◌, IfOk, ◌<◌, ◌≤◌, ℕ};
 ghost use Rattle.sums.specs.declared.TheConstants.{MOST_WEIGHT};
 ghost use Rattle.matrix_game.specs.Grid.{IsSaddle};
-ghost use Rattle.matrix_game.specs.Plans.{AreStagePlans, TakesTurn, plans_by};
-ghost use Rattle.matrix_game.specs.Rounds.{all_on, IsStage};
+ghost use Rattle.matrix_game.specs.Plans.{AreStagePlans, AreWeighed, TakesTurn, plans_by};
+ghost use Rattle.matrix_game.specs.Rounds.{all_on, IsStage, IsWeighted};
 ghost use Rattle.matrix_game.specs.Budget.{left_of, after_one_turn};
 
 use crate::budget::Turns;
@@ -36,13 +36,7 @@ pub enum StageError {
 
 impl Matrix {
     // All of the weight at a cell.
-    pub(crate) fn pure(
-        &self,
-        alloc: Global,
-        row: u32,
-        col: u32,
-        weight: u32,
-    ) -> Result<Solution, AllocError>
+    fn pure(&self, alloc: Global, row: u32, col: u32, weight: u32) -> Result<Solution, AllocError>
         requires row_in { row < self.now.rows }
         requires col_in { col < self.now.cols }
         ensures p { IfOk result (λ r. r.p.items ≡ all_on self.now.rows row weight) }
@@ -56,7 +50,7 @@ impl Matrix {
     }
 
     // By rounds.
-    pub(crate) fn played(&self, alloc: Global, weight: u32) -> Result<Solution, AllocError>
+    fn played(&self, alloc: Global, weight: u32) -> Result<Solution, AllocError>
         requires some { 1 ≤ weight }
         requires light { weight ≤ MOST_WEIGHT }
         requires mixed { (a b : ℕ) → IsSaddle self.now a b → ⊥ }
@@ -93,7 +87,7 @@ impl Matrix {
     }
 
     // Pure at the first saddle, else by the memory or by rounds.
-    fn weights(
+    pub(crate) fn weights(
         &self,
         alloc: Global,
         weight: u32,
@@ -113,17 +107,14 @@ impl Matrix {
         Ok(weights)
     }
 
-    // The plans of weights that were found, for one turn.
-    pub(crate) fn settle(&self, total: u32, weights: Solution, turns: &mut Turns) -> StagePlans
+    // The plans of weights.
+    pub(crate) fn plans(&self, total: u32, weights: Solution) -> StagePlans
         requires light { total ≤ MOST_WEIGHT }
-        requires plans { AreStagePlans self.now total (plans_by self.now weights.p.items weights.v.items) }
-        requires left { 0 < left_of turns.old }
-        ensures p { result.p ≡ weights.p.items }
-        ensures v { result.v ≡ weights.v.items }
-        ensures plans { AreStagePlans self.now total result }
-        ensures turns { turns.new ≡ after_one_turn turns.old }
+        requires rows { IsWeighted self.now.rows total weights.p.items }
+        requires cols { IsWeighted self.now.cols total weights.v.items }
+        ensures plans { result ≡ plans_by self.now weights.p.items weights.v.items }
+        ensures weighed { AreWeighed self.now total result }
     {
-        turns.spend();
         let low = self.row_floor(&weights.p);
         let high = self.col_ceiling(&weights.v);
         StagePlans {
@@ -171,7 +162,10 @@ impl Matrix {
             return Err(StageError::Spent);
         }
         match self.weights(alloc, total, memory) {
-            Ok(weights) => Ok(self.settle(total, weights, turns)),
+            Ok(weights) => {
+                turns.spend();
+                Ok(self.plans(total, weights))
+            }
             Err(_) => Err(StageError::NoMemory),
         }
     }

@@ -1,9 +1,10 @@
-use Rattle.std.proofs.Common.{◌≡◌, ℕ, ℤ, pos, ◌-ℤ◌, ◌*ℤ◌, ◌≤ℤ◌, ◌≤◌, ◌*◌, unsigned_abs, ap, ◌∙◌, arith}
+use Rattle.std.proofs.Common.{◌≡◌, ℕ, ℤ, pos, ◌-ℤ◌, ◌*ℤ◌, ◌≤ℤ◌, ◌≤◌, ◌*◌, unsigned_abs, ap, subst, ◌∙◌, arith}
 use Rattle.std.proofs.Math.Nat.{mul-le-mul, mul-le-mul_left}
 use Rattle.std.proofs.lemmas.Int.{ints, unsigned_abs-mul}
 use Rattle.std.proofs.lemmas.Bool.{leb-true}
-use Rattle.matrix_game.specs.Grid.{Grid}
+use Rattle.matrix_game.specs.Grid.{Grid, IsMatrix}
 use Rattle.sums.proofs.CountLemmas.{square_mono}
+use Rattle.matrix_game.proofs.Stages.{plans_of_gap}
 use Rattle.matrix_game.proofs.cells.Matrix.keeps_law.Goals as goal
 
 -- a number whose size has so small a square, over a spread that is no greater
@@ -22,12 +23,15 @@ overflow_mul-result-3 c =
     omega (arith, all)
 
 pub returns : goal.returns
-returns c test d spread large =
+returns c test =
+    let m = c.args.self.now in
+    let matrix : IsMatrix m = subst IsMatrix c.self.view_is c.self.invariant in
+    plans_of_gap m c.args.total c.args.plans.now matrix c.requires.weighed (λ d spread large.
     let near : c.from-spread.result ≤ d = omega (arith, c.spread.ensures.least d spread) in
-    let gap : c.from-gap.result ≡ unsigned_abs (c.args.high -ℤ c.args.low) = omega (arith, ints, c.from-gap.ensures, c.abs_diff.ensures) in
+    let gap : c.from-gap.result ≡ unsigned_abs (c.args.plans.now.high -ℤ c.args.plans.now.low) = omega (arith, ints, c.from-gap.ensures, c.abs_diff.ensures) in
     let law = leb-true _ _ test in
-    let rows = ap (λ (m : Grid). m.rows) c.self.view_is in
-    let times : 2 * c.self.inside.rows * c.from.result ≡ 2 * c.args.self.now.rows * c.args.total = ap (λ n. 2 * n * c.from.result) rows ∙ ap (λ n. 2 * c.args.self.now.rows * n) c.from.ensures in
-    let at : c.from-gap.result * c.from-gap.result ≤ 2 * c.args.self.now.rows * c.args.total * (c.from-spread.result * c.from-spread.result) =
+    let rows = ap (λ (g : Grid). g.rows) c.self.view_is in
+    let times : 2 * c.self.inside.rows * c.from.result ≡ 2 * m.rows * c.args.total = ap (λ n. 2 * n * c.from.result) rows ∙ ap (λ n. 2 * m.rows * n) c.from.ensures in
+    let at : c.from-gap.result * c.from-gap.result ≤ 2 * m.rows * c.args.total * (c.from-spread.result * c.from-spread.result) =
     omega (arith, law, ap (λ n. n * (c.from-spread.result * c.from-spread.result)) times) in
-    law_by c.args.self.now.rows c.args.total c.from-spread.result d c.from-gap.result (c.args.high -ℤ c.args.low) gap near at
+    law_by m.rows c.args.total c.from-spread.result d c.from-gap.result (c.args.plans.now.high -ℤ c.args.plans.now.low) gap near at)

@@ -1,10 +1,9 @@
 -- What was read stands in its places: one place more, and the numbers of each side.
-use Rattle.std.proofs.Common.{◌≡◌, inl, inr, ⊎_elim, ℕ, ◌+◌, ◌*◌, ◌/◌, ◌%◌, ◌<◌, ◌≤◌, pos, List, [], ◌∷◌, ◌++◌, length, mod-lt, sym, ap, subst, ◌∙◌, arith}
+use Rattle.std.proofs.Common.{◌≡◌, inl, inr, ⊎_elim, ℕ, ◌+◌, ◌*◌, ◌/◌, ◌%◌, ◌<◌, ◌≤◌, pos, List, length, set, mod-lt, sym, ap, subst, ◌∙◌, arith}
 use Rattle.std.specs.List.{Contains}
 use Rattle.std.proofs.lemmas.Bool.{cases_lt}
 use Rattle.std.proofs.lemmas.Nat.{div-add-mod'}
-use Rattle.std.proofs.Math.ListN.{get_or-append}
-use Rattle.std.proofs.Math.Seq.{get_or-append_seam}
+use Rattle.std.proofs.lemmas.List.{get_or-set_same, get_or-set_other}
 use Rattle.sim_game.specs.declared.Side.TheVariants.{One, Two}
 use Rattle.sim_game.specs.Model.{GameModel, Reachable}
 use Rattle.sim_game.specs.Sides.{draws_of, child_of}
@@ -35,20 +34,17 @@ module _ {S G N : Type 0} (m : GameModel S) (s : S) (reach : Reachable m s) (t u
   is_place : draw_index width stride one two draw ≡ place
   is_place = ap (λ (pair : ℕ). pair * stride + place % stride) (div-add-mod' (place / stride) width) ∙ div-add-mod' place stride
 
-  module _ (e : Enclosure) (read : IsWanted rows cols one two → draw < m.draws s one two → AreRead m u v (m.drawn s one two draw) e) (old : List Enclosure) (counted : length old ≡ place) where
-    last : enclosure_at (old ++ e ∷ []) place ≡ e
-    last = subst (λ (n : ℕ). enclosure_at (old ++ e ∷ []) n ≡ e) counted (get_or-append_seam old e [] unread)
-
-    here : (a b d : ℕ) → a ≡ one → b ≡ two → d ≡ draw → IsWanted rows cols a b → d < m.draws s a b → AreRead m t v (m.drawn s a b d) (enclosure_at (old ++ e ∷ []) (draw_index width stride a b d))
+  module _ (e : Enclosure) (read : IsWanted rows cols one two → draw < m.draws s one two → AreRead m u v (m.drawn s one two draw) e) (old : List Enclosure) (inside : place < length old) where
+    here : (a b d : ℕ) → a ≡ one → b ≡ two → d ≡ draw → IsWanted rows cols a b → d < m.draws s a b → AreRead m t v (m.drawn s a b d) (enclosure_at (set old place e) (draw_index width stride a b d))
     here a b d i j k w r = rw (i, j, k, is_place)
-        (subst (AreRead m t v (m.drawn s one two draw)) (sym last)
+        (subst (AreRead m t v (m.drawn s one two draw)) (sym (get_or-set_same old place e unread inside))
         (read_between m t u v v _ _ earlier (later_refl v) (read (rw (← i, ← j) w) (rw (← i, ← j, ← k) r))))
 
     -- one place more
-    pub filled_more : AreFilled m t u s rows cols width stride place old → AreFilled m t v s rows cols width stride (place + 1) (old ++ e ∷ [])
+    pub filled_more : AreFilled m t u s rows cols width stride place old → AreFilled m t v s rows cols width stride (place + 1) (set old place e)
     filled_more so_far = record {
       read = λ a b d p q k w r. ⊎_elim
-          (λ (lt : draw_index width stride a b d < place). subst (AreRead m t v (m.drawn s a b d)) (sym (get_or-append old (e ∷ []) unread (draw_index width stride a b d) (omega arith)))
+          (λ (lt : draw_index width stride a b d < place). subst (AreRead m t v (m.drawn s a b d)) (sym (get_or-set_other old place (draw_index width stride a b d) e unread (λ z. omega arith)))
           (read_between m t t u v _ _ (later_refl t) later (so_far.read a b d p q lt w r)))
           (λ (ge : place ≤ draw_index width stride a b d).
           let at : draw_index width stride a b d ≡ draw_index width stride one two draw = sym (is_place ∙ omega arith) in

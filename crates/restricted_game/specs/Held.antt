@@ -1,6 +1,6 @@
 -- The moves that a restricted game holds, and how a step adds to them.
 use Rattle.std.specs.Prelude.{◌≡◌, ℕ, ◌+◌, ◌<◌, ◌≤◌, nat_eq, Option, None, Some, List, [], ◌∷◌, ◌++◌, length, All}
-use Rattle.std.specs.List.{IsDistinct, range_with_len}
+use Rattle.std.specs.List.{IsDistinct}
 use Rattle.restricted_game.specs.declared.held.StepEnd.{StepEnd}
 use Rattle.restricted_game.specs.declared.held.StepEnd.TheVariants.{Grown, Done}
 
@@ -29,11 +29,6 @@ pub record IsHolding (h : HeldMoves) : Type 0 where
 pub record HoldsAll (h : HeldMoves) : Type 0 where
   pub rows : length h.rows ≡ h.most_rows
   pub cols : length h.cols ≡ h.most_cols
-
--- all of so many moves of One and so many of Two are held, in order of their numbers
-pub record IsAllHeld (rows cols : ℕ) (h : HeldMoves) : Type 0 where
-  pub held : h ≡ record { rows = range_with_len 0 rows; cols = range_with_len 0 cols; most_rows = rows; most_cols = cols }
-  pub all : HoldsAll h
 
 -- how many moves are held
 abbrev pub count_held : HeldMoves → ℕ

@@ -29,13 +29,13 @@ fn pair_cell<G: Game>(g: G, s: G::State, side: Side, one: u32, two: u32, table: 
     side.quotient(sum, CHANCE)
 }
 
-/// The cells of all pairs of moves, in the memory of earlier ones.
-fn cells_of<G: Game>(
+/// The cells of all pairs of moves.
+pub(crate) fn cells_of<G: Game>(
+    alloc: Global,
     g: G,
     s: G::State,
     side: Side,
     table: &Table,
-    mut items: Vec<i64>,
 ) -> Result<Cells, NoMemory>
     requires reachable { Reachable (G.model g) s }
     requires goes_on { 1 ≤ (G.model g).rank s }
@@ -43,7 +43,7 @@ fn cells_of<G: Game>(
     ensures { IfOk result (AreCells (G.model g) side s table.now) }
 {
     let pairs = table.height * table.width;
-    items.clear();
+    let mut items = Vec::with_capacity(alloc, pairs as usize)?;
     for pair in 0..pairs {
         let one = pair / table.width;
         let two = pair % table.width;
@@ -80,13 +80,12 @@ pub(crate) fn held_cells(
     Ok(held)
 }
 
-/// What was read, with the cells of both sides, in the memory of earlier ones.
+/// What was read, with the cells of both sides.
 pub(crate) fn numbers_of<G: Game>(
+    alloc: Global,
     g: G,
     s: G::State,
     table: Table,
-    lows: Vec<i64>,
-    highs: Vec<i64>,
 ) -> Result<StageNumbers, NoMemory>
     requires reachable { Reachable (G.model g) s }
     requires goes_on { 1 ≤ (G.model g).rank s }
@@ -94,7 +93,7 @@ pub(crate) fn numbers_of<G: Game>(
     ensures table { IfOk result (λ numbers. numbers.table ≡ table) }
     ensures cells { IfOk result (HasCells (G.model g) s) }
 {
-    let lows = cells_of(g, s, Side::One, &table, lows)?;
-    let highs = cells_of(g, s, Side::Two, &table, highs)?;
+    let lows = cells_of(alloc, g, s, Side::One, &table)?;
+    let highs = cells_of(alloc, g, s, Side::Two, &table)?;
     Ok(StageNumbers { table, lows, highs })
 }

@@ -49,24 +49,10 @@ impl ChildRows {
         requires reachable { Reachable (G.model g) s }
         ensures { IfOk result (HasNoRows (G.model g) s) }
     {
-        let none = ChildRows {
-            width: 0,
-            stride: 0,
-            rows: Vec::new(alloc),
-        };
-        none.renew(g, s)
-    }
-
-    /// The same in the memory of these rows.
-    pub fn renew<G: Game>(self, g: G, s: G::State) -> Result<ChildRows, NoMemory>
-        requires reachable { Reachable (G.model g) s }
-        ensures { IfOk result (HasNoRows (G.model g) s) }
-    {
         let width = g.moves(Side::Two, s);
         let stride = most_draws(g, s);
-        let mut rows = self.rows;
-        rows.clear();
-        rows.resize((g.moves(Side::One, s) * width * stride) as usize, None)?;
+        let places = g.moves(Side::One, s) * width * stride;
+        let rows = Vec::from_elem(alloc, None, places as usize)?;
         Ok(ChildRows {
             width,
             stride,

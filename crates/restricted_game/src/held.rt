@@ -9,7 +9,7 @@ ghost use Rattle.matrix_game.specs.Budget.{left_of, after_one_turn};
 ghost use Rattle.matrix_game.specs.Solvers.{UsesRegret};
 ghost use Rattle.bounds_board.specs.Views.{IsLater, WasFull};
 ghost use Rattle.restricted_game.specs.Children.{AreChildRows};
-ghost use Rattle.restricted_game.specs.Held.{AreMoves, HoldsAll, IsAllHeld, HasGrown, IsGrown, held_after, with_move};
+ghost use Rattle.restricted_game.specs.Held.{AreMoves, HoldsAll, HasGrown, IsGrown, held_after, with_move};
 ghost use Rattle.restricted_game.specs.Gaps.{HasStepGap};
 ghost use Rattle.restricted_game.specs.Numbers.{IsReadChild};
 ghost use Rattle.restricted_game.specs.Runs.{IsOneMoveEntry, IsStepEnd};
@@ -23,7 +23,7 @@ use crate::node::Node;
 use crate::plans::{Plans, plan_side};
 use crate::posts::post_both;
 use crate::reading::read_table;
-use crate::table::{StageBuffers, StageNumbers};
+use crate::table::StageNumbers;
 use bounds_board::{BoardFault, Bounds};
 use matrix_game::{StageSolver, Turns};
 use sim_game::{Game, NoMemory, Side};
@@ -120,21 +120,16 @@ impl Restricted {
         requires few_rows { rows ≤ MOST_MOVES }
         requires some_col { 1 ≤ cols }
         requires few_cols { cols ≤ MOST_MOVES }
-        ensures { IfOk result (IsAllHeld rows cols) }
+        ensures held { IfOk result (λ r. r ≡ record {
+          rows = range_with_len 0 rows;
+          cols = range_with_len 0 cols;
+          most_rows = rows;
+          most_cols = cols;
+        }) }
+        ensures all { IfOk result HoldsAll }
     {
-        Restricted::new(alloc, rows, cols, (0, 0))?.hold_all(rows, cols)
-    }
-
-    /// The same in the memory of this one.
-    pub fn hold_all(self, rows: u32, cols: u32) -> Result<Restricted, NoMemory>
-        requires some_row { 1 ≤ rows }
-        requires few_rows { rows ≤ MOST_MOVES }
-        requires some_col { 1 ≤ cols }
-        requires few_cols { cols ≤ MOST_MOVES }
-        ensures { IfOk result (IsAllHeld rows cols) }
-    {
-        let held_rows = all_moves(self.rows, rows)?;
-        let held_cols = all_moves(self.cols, cols)?;
+        let held_rows = all_moves(alloc, rows)?;
+        let held_cols = all_moves(alloc, cols)?;
         Ok(Restricted {
             rows: held_rows,
             cols: held_cols,
@@ -207,8 +202,7 @@ impl Restricted {
         if turns.left() == 0 {
             return Err(StepFault::Spent);
         }
-        let buffers = StageBuffers::new(*self.rows.allocator());
-        let numbers = match self.read(g, node.state, buffers, children, board) {
+        let numbers = match self.read(g, node.state, children, board) {
             Ok(numbers) => numbers,
             Err(BoardFault::Full) => return Err(StepFault::Full),
             Err(BoardFault::NoMemory) => return Err(StepFault::NoMemory),
@@ -219,13 +213,11 @@ impl Restricted {
         }
     }
 
-    /// Reads the states after held moves, as a step does, in the memory of earlier numbers. `Full` comes where the claim
-    /// of a child found the board full.
+    /// Reads the states after held moves, as a step does. `Full` comes where the claim of a child found the board full.
     pub fn read<G: Game, B: Bounds<G>>(
         &self,
         g: G,
         s: G::State,
-        buffers: StageBuffers,
         children: &mut ChildRows,
         board: &mut B,
     ) -> Result<StageNumbers, BoardFault>
@@ -240,16 +232,13 @@ impl Restricted {
         ensures full { result ≡ Err BoardFault.Full → WasFull (G.model g) (B.view board.new)
             (IsReadChild (G.model g) s self.now.rows self.now.cols) }
     {
-        let StageBuffers {
-            enclosures,
-            lows,
-            highs,
-        } = buffers;
-        let table = match read_table(g, s, self.rows(), self.cols(), enclosures, children, board) {
+        let alloc = *self.rows.allocator();
+        let table = match read_table(alloc, g, s, self.rows(), self.cols(), children, board) {
             Ok(table) => table,
-            Err(fault) => return Err(fault),
+            Err(BoardFault::Full) => return Err(BoardFault::Full),
+            Err(BoardFault::NoMemory) => return Err(BoardFault::NoMemory),
         };
-        match numbers_of(g, s, table, lows, highs) {
+        match numbers_of(alloc, g, s, table) {
             Ok(numbers) => Ok(numbers),
             Err(_) => Err(BoardFault::NoMemory),
         }
@@ -352,13 +341,12 @@ impl Restricted {
     }
 }
 
-/// All of so many moves, in order of their numbers, in the memory of earlier ones.
-fn all_moves(mut moves: Vec<u32>, count: u32) -> Result<Vec<u32>, NoMemory>
+/// All of so many moves, in order of their numbers.
+fn all_moves(alloc: Global, count: u32) -> Result<Vec<u32>, NoMemory>
     ensures moves { IfOk result (λ moves. moves.items ≡ range_with_len 0 count) }
     ensures room { IfOk result (λ moves. count ≤ vec_capacity moves) }
 {
-    moves.clear();
-    moves.reserve(count as usize)?;
+    let mut moves = Vec::with_capacity(alloc, count as usize)?;
     for number in 0..count {
         moves.push_reserved(number);
     }

@@ -18,7 +18,7 @@ mod table;
 pub use children::ChildRows;
 pub use held::{Restricted, StepEnd, StepFault};
 pub use node::Node;
-pub use table::{StageBuffers, StageNumbers};
+pub use table::StageNumbers;
 
 /// A restricted game takes at most 63 steps up to and with the first that is done.
 pub fn few_steps()

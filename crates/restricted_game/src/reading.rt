@@ -11,6 +11,7 @@ use crate::children::ChildRows;
 use crate::table::Table;
 use bounds_board::{BoardFault, Bounds, Enclosure, Full};
 use sim_game::{Game, Side, end_bound};
+use std::alloc::Global;
 
 /// Whether a step reads what follows a pair of moves.
 fn is_wanted(rows: &[u32], cols: &[u32], one: u32, two: u32) -> bool
@@ -76,14 +77,13 @@ fn read_child<G: Game, B: Bounds<G>>(
     }
 }
 
-/// Reads what follows each pair of moves of which at least one is held, in the memory of earlier enclosures. Full comes
-/// where a claim was full.
+/// Reads what follows each pair of moves of which at least one is held. Full comes where a claim was full.
 pub(crate) fn read_table<G: Game, B: Bounds<G>>(
+    alloc: Global,
     g: G,
     s: G::State,
     rows: &[u32],
     cols: &[u32],
-    mut enclosures: Vec<Enclosure>,
     children: &mut ChildRows,
     board: &mut B,
 ) -> Result<Table, BoardFault>
@@ -102,18 +102,17 @@ pub(crate) fn read_table<G: Game, B: Bounds<G>>(
     let height = g.moves(Side::One, s);
     let width = g.moves(Side::Two, s);
     let stride = children.stride();
-    enclosures.clear();
+    let zeros = Enclosure { lower: 0, upper: 0 };
+    let Ok(mut enclosures) = Vec::from_elem(alloc, zeros, (height * width * stride) as usize) else {
+        return Err(BoardFault::NoMemory);
+    };
     for place in 0..height * width * stride {
         let one = place / stride / width;
         let two = place / stride % width;
         let draw = place % stride;
-        let found = match read_child(g, s, rows, cols, Draw { one, two, draw }, children, board) {
-            Ok(found) => found,
+        match read_child(g, s, rows, cols, Draw { one, two, draw }, children, board) {
+            Ok(found) => enclosures[place as usize] = found,
             Err(_) => return Err(BoardFault::Full),
-        };
-        match enclosures.push(found) {
-            Ok(()) => {}
-            Err(_) => return Err(BoardFault::NoMemory),
         }
     }
     Ok(Table {

@@ -8,7 +8,6 @@ ghost use Rattle.restricted_game.specs.Sizes.{IsSmallEnclosure};
 
 use bounds_board::Enclosure;
 use sim_game::Side;
-use std::alloc::Global;
 
 /// The bounds at the states after pairs of moves, one place a draw, pair by pair, row by row; places that were not read
 /// have zeros.
@@ -49,37 +48,6 @@ pub struct StageNumbers {
     pub(crate) lows: Cells,
     /// Two's cells.
     pub(crate) highs: Cells,
-}
-
-/// Memory that numbers of a stage were read into, for those of the next one.
-#[derive(Drop)]
-pub struct StageBuffers {
-    pub(crate) enclosures: Vec<Enclosure>,
-    pub(crate) lows: Vec<i64>,
-    pub(crate) highs: Vec<i64>,
-}
-
-impl StageBuffers {
-    /// No memory yet.
-    pub fn new(alloc: Global) -> StageBuffers {
-        StageBuffers {
-            enclosures: Vec::new(alloc),
-            lows: Vec::new(alloc),
-            highs: Vec::new(alloc),
-        }
-    }
-}
-
-impl StageNumbers {
-    /// The memory of the numbers, for those of another stage.
-    pub fn into_buffers(self) -> StageBuffers {
-        let StageNumbers { table, lows, highs } = self;
-        StageBuffers {
-            enclosures: table.enclosures,
-            lows: lows.items,
-            highs: highs.items,
-        }
-    }
 }
 
 impl Table {

@@ -1,8 +1,7 @@
-use Rattle.std.proofs.Common.{rules, ◌≡◌, ℕ, ◌+◌, ◌*◌, ◌<◌, List, [], ◌∷◌, length, length-append, sym, ap, subst, ◌∙◌, arith}
-use Rattle.std.proofs.lemmas.List.Elements.{All-push}
+use Rattle.std.proofs.Common.{rules, ◌≡◌, ◌*◌, ◌<◌, length, sym, subst, ◌∙◌, arith}
+use Rattle.std.proofs.lemmas.List.Elements.{All-set}
 use Rattle.sim_game.specs.declared.Side.TheVariants.{Two}
 use Rattle.bounds_board.proofs.ViewLemmas.{later_trans}
-use Rattle.bounds_board.specs.declared.bounds.Enclosure.{Enclosure}
 use Rattle.restricted_game.specs.Sizes.{IsSmallEnclosure}
 use Rattle.restricted_game.specs.Tables.{IsStride}
 use Rattle.restricted_game.proofs.PlaceLemmas.{place_within}
@@ -12,25 +11,20 @@ use Rattle.restricted_game.proofs.reading.read_table.Goals as goal
 pub returns-in-Err-clause-later : goal.returns-in-Err-clause-later
 returns-in-Err-clause-later g c = later_trans _ _ _ c.loop-place.invariant.later c.in-Err.ensures.later
 
-pub returns-in-Err-push-clause-later : goal.returns-in-Err-push-clause-later
-returns-in-Err-push-clause-later g c = later_trans _ _ _ c.loop-place.invariant.later c.read_child.ensures.later
-
 pub loop-place-preserved : goal.loop-place-preserved
 loop-place-preserved g c =
-    let found = c.in-Ok.ensures in
-    let old = c.loop-place.enclosures.items in
-    let pushed = c.in-Ok-push.ensures.items in
+    let found = c.in-Ok-read_child.ensures in
     let some : 0 < c.moves-width.result = omega (arith, (g.met.G.Game.lawful c.args.g).other_moves Two c.args.s c.requires.reachable c.requires.goes_on, c.moves-width.ensures) in
+    let inside : c.loop-place.place < length c.loop-place.enclosures.items = search rules in
     let stride = subst (IsStride (g.G.Game.model c.args.g) c.args.s) (sym c.stride-stride.ensures) c.requires.children.places.stride in
     record {
       later = later_trans _ _ _ c.loop-place.invariant.later found.later;
       entries = found.entries ∙ c.loop-place.invariant.entries;
       children = found.children;
-      filled = rw pushed (filled_more (g.G.Game.model c.args.g) c.args.s c.requires.reachable _ _ _ c.loop-place.invariant.later found.later c.args.rows.now
+      filled = filled_more (g.G.Game.model c.args.g) c.args.s c.requires.reachable _ _ _ c.loop-place.invariant.later found.later c.args.rows.now
           c.args.cols.now c.moves-width.result c.stride-stride.result c.moves-width.ensures some
-          stride c.loop-place.place c.in-Ok.found found.read old c.loop-place.invariant.counted c.loop-place.invariant.filled);
-      counted = ap (λ (xs : List Enclosure). length xs) pushed ∙ length-append old (c.in-Ok.found ∷ []) ∙ ap (λ (n : ℕ). n + 1) c.loop-place.invariant.counted;
-      small = rw pushed (All-push IsSmallEnclosure old c.in-Ok.found c.loop-place.invariant.small found.small);
+          stride c.loop-place.place c.in-Ok-read_child.found found.read c.loop-place.enclosures.items inside c.loop-place.invariant.filled;
+      small = All-set IsSmallEnclosure c.loop-place.enclosures.items _ _ found.small c.loop-place.invariant.small;
     }
 
 pub returns-clause-filled : goal.returns-clause-filled

@@ -1,4 +1,4 @@
-use Rattle.std.proofs.Common.{◌≡◌, length, All}
+use Rattle.std.proofs.Common.{◌≡◌, All}
 use Rattle.bounds_board.specs.Views.{IsLater}
 use Rattle.restricted_game.specs.Children.{AreChildRows}
 use Rattle.restricted_game.specs.Sizes.{IsSmallEnclosure}
@@ -11,6 +11,5 @@ invariant-loop-place g l = record {
   entries : (g.B.Bounds.view l.board).entries ≡ (g.B.Bounds.view l.initial.board).entries;
   children : AreChildRows (g.G.Game.model l.g) (g.B.Bounds.view l.board) l.s l.children;
   filled : AreFilled (g.G.Game.model l.g) (g.B.Bounds.view l.initial.board) (g.B.Bounds.view l.board) l.s l.rows l.cols l.width l.stride l.place l.enclosures.items;
-  counted : length l.enclosures.items ≡ l.place;
   small : All IsSmallEnclosure l.enclosures.items;
 }

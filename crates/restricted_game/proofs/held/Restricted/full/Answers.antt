@@ -1,7 +1,7 @@
-use Rattle.std.proofs.Common.{rules, refl}
+use Rattle.std.proofs.Common.{rules}
 use Rattle.std.proofs.lemmas.List.FromFn.{length-range_with_len}
 use Rattle.restricted_game.proofs.HeldLemmas.{all_moves_held}
-use Rattle.restricted_game.proofs.held.Restricted.hold_all.Goals as goal
+use Rattle.restricted_game.proofs.held.Restricted.full.Goals as goal
 
 pub invariant_of-result : goal.invariant_of-result
 invariant_of-result c =
@@ -16,9 +16,7 @@ invariant_of-result c =
       search rules,
     )
 
-pub returns : goal.returns
-returns c =
-    rw (c.in_ok-held_rows.ensures.moves, c.in_ok-held_cols.ensures.moves) record {
-      held = refl;
-      all = record { rows = length-range_with_len 0 c.args.rows; cols = length-range_with_len 0 c.args.cols };
-    }
+pub returns-clause-all : goal.returns-clause-all
+returns-clause-all c =
+    rw (c.in_ok-held_rows.ensures.moves, c.in_ok-held_cols.ensures.moves)
+    record { rows = length-range_with_len 0 c.args.rows; cols = length-range_with_len 0 c.args.cols }

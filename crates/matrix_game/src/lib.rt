@@ -21,6 +21,7 @@ mod tableau;
 
 pub use budget::Turns;
 pub use cells::{Matrix, ShapeError};
+pub use linear::LinearBuffers;
 pub use memory::StageMemory;
 pub use solver::{SolverKind, StageSolver};
 pub use stage::{StageError, StagePlans};

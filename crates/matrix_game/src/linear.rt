@@ -1,45 +1,81 @@
 //! The other solver: weights by a linear program in floats, taken where they keep the stage law, else by rounds.
 
-ghost use Rattle.std.specs.Prelude.{◌≡◌, IsTrue, IfOk, ◌≤◌, length};
+ghost use Rattle.std.specs.Prelude.{◌≡◌, IsTrue, IfOk, ◌≤◌};
 ghost use Rattle.sums.specs.declared.TheConstants.{MOST_WEIGHT};
 ghost use Rattle.matrix_game.specs.Plans.{AreStagePlans, AreWeighed, TakesTurn};
 
 use crate::budget::Turns;
 use crate::cells::Matrix;
 use crate::memory::StageMemory;
-use crate::payoffs::Payoffs;
+use crate::payoffs::{Payoffs, ZEROS};
 use crate::rounds::Solution;
 use crate::stage::{StageError, StagePlans};
-use crate::tableau::{FIRST_PIVOT, SECOND_PIVOT, Shares};
+use crate::tableau::{FIRST_PIVOT, SECOND_PIVOT, Shares, Tableau};
 use std::alloc::{AllocError, Global};
+use std::marker::Model;
+
+// A matrix as each side sees it, and the tableau that either is solved by.
+#[derive(Drop)]
+struct Program {
+    one: Payoffs,
+    two: Payoffs,
+    tableau: Tableau,
+}
+
+/// What linear programs are solved in, kept from one matrix to the next. It changes no answer.
+#[derive(Drop)]
+pub struct LinearBuffers {
+    // None until the first is solved.
+    program: Option<Program>,
+}
+
+impl Model for LinearBuffers {
+    ghost Value = { Unit {0} };
+
+    ghost view = { λ b. tt };
+}
+
+impl LinearBuffers {
+    /// Those of no matrix yet. Takes no memory.
+    pub(crate) fn new() -> LinearBuffers {
+        LinearBuffers { program: None }
+    }
+
+    // Makes room, where there is none yet.
+    fn open(&mut self, alloc: Global) -> Result<(), AllocError> {
+        if self.program.is_none() {
+            self.program = Some(Program {
+                one: Payoffs::new(alloc)?,
+                two: Payoffs::new(alloc)?,
+                tableau: Tableau::new(alloc)?,
+            });
+        }
+        Ok(())
+    }
+}
 
 impl Payoffs {
     // The shares of two rows and two columns without a saddle: each makes the other side's moves pay the same.
-    fn shares_of_four(&self, alloc: Global) -> Result<Shares, AllocError>
+    fn shares_of_four(&self) -> Shares
         requires rows { self.now.rows ≡ 2 }
         requires cols { self.now.cols ≡ 2 }
-        ensures rows { IfOk result (λ r. length r.rows.items ≡ 2) }
-        ensures cols { IfOk result (λ r. length r.cols.items ≡ 2) }
     {
         let (a, b) = (self.cell(0, 0), self.cell(0, 1));
         let (c, d) = (self.cell(1, 0), self.cell(1, 1));
         let all = a - b - c + d;
         let (row, col) = ((d - c) / all, (d - b) / all);
-        Ok(Shares {
-            rows: vec![in alloc; row, 1.0 - row]?,
-            cols: vec![in alloc; col, 1.0 - col]?,
-        })
+        let (mut rows, mut cols) = (ZEROS, ZEROS);
+        (rows[0], rows[1]) = (row, 1.0 - row);
+        (cols[0], cols[1]) = (col, 1.0 - col);
+        Shares { rows, cols }
     }
 
     // Shares that solve the payoffs, where they have no saddle.
-    fn solved(&self, alloc: Global) -> Result<Shares, AllocError>
-        ensures rows { IfOk result (λ r. length r.rows.items ≡ self.now.rows) }
-        ensures cols { IfOk result (λ r. length r.cols.items ≡ self.now.cols) }
-    {
+    fn solved(&self, tableau: &mut Tableau) -> Shares {
         if self.rows == 2 && self.cols == 2 {
-            self.shares_of_four(alloc)
+            self.shares_of_four()
         } else {
-            self.shares(alloc, FIRST_PIVOT)
+            tableau.solve(self, FIRST_PIVOT)
         }
     }
 }
@@ -73,22 +109,27 @@ impl Matrix {
 
     // Plans by a linear program, and where they are not tight once more as the other side sees it, by other pivots.
     // Nothing is claimed of what they pay.
-    fn proposed(&self, alloc: Global, total: u32) -> Result<StagePlans, AllocError>
+    fn proposed(
+        &self,
+        alloc: Global,
+        total: u32,
+        program: &mut Program,
+    ) -> Result<StagePlans, AllocError>
         requires light { total ≤ MOST_WEIGHT }
         ensures { IfOk result (AreWeighed self.now total) }
     {
-        let one = self.payoffs(alloc)?;
-        let two = one.turned(alloc)?;
-        let shares = one.solved(alloc)?;
-        let p = one.weights(alloc, &shares.rows, total)?;
-        let v = two.weights(alloc, &shares.cols, total)?;
+        program.one.read(self);
+        program.two.turn(&program.one);
+        let shares = program.one.solved(&mut program.tableau);
+        let p = program.one.weights(alloc, &shares.rows, total)?;
+        let v = program.two.weights(alloc, &shares.cols, total)?;
         let first = self.plans(total, Solution { p, v });
         if self.is_tight(&first) {
             return Ok(first);
         }
-        let shares = two.shares(alloc, SECOND_PIVOT)?;
-        let p = one.weights(alloc, &shares.cols, total)?;
-        let v = two.weights(alloc, &shares.rows, total)?;
+        let shares = program.tableau.solve(&program.two, SECOND_PIVOT);
+        let p = program.one.weights(alloc, &shares.cols, total)?;
+        let v = program.two.weights(alloc, &shares.rows, total)?;
         Ok(self.better(total, first, self.plans(total, Solution { p, v })))
     }
 
@@ -105,15 +146,23 @@ impl Matrix {
     }
 
     // By the linear program where there is no saddle and it keeps the law, else as `solve`.
-    fn linear_plans(&self, alloc: Global, total: u32) -> Result<StagePlans, AllocError>
+    fn linear_plans(
+        &self,
+        alloc: Global,
+        total: u32,
+        buffers: &mut LinearBuffers,
+    ) -> Result<StagePlans, AllocError>
         requires some { 1 ≤ total }
         requires light { total ≤ MOST_WEIGHT }
         ensures { IfOk result (AreStagePlans self.now total) }
     {
         if self.saddle().is_none() {
-            let proposed = self.proposed(alloc, total)?;
-            if self.keeps_law(total, &proposed) {
-                return Ok(proposed);
+            buffers.open(alloc)?;
+            if let Some(program) = &mut buffers.program {
+                let proposed = self.proposed(alloc, total, program)?;
+                if self.keeps_law(total, &proposed) {
+                    return Ok(proposed);
+                }
             }
         }
         let weights = self.weights(alloc, total, &mut StageMemory::new(0))?;
@@ -134,10 +183,27 @@ impl Matrix {
         ensures plans { IfOk result (AreStagePlans self.now total) }
         ensures turn { TakesTurn turns.old turns.new result }
     {
+        self.solve_linear_in(alloc, total, turns, &mut LinearBuffers::new())
+    }
+
+    /// The same answer as that of `solve_linear`, for one turn as well. Where the buffers have solved a matrix before, a first
+    /// linear program takes no memory but that of its weights.
+    pub(crate) fn solve_linear_in(
+        &self,
+        alloc: Global,
+        total: u32,
+        turns: &mut Turns,
+        buffers: &mut LinearBuffers,
+    ) -> Result<StagePlans, StageError>
+        requires some { 1 ≤ total }
+        requires light { total ≤ MOST_WEIGHT }
+        ensures plans { IfOk result (AreStagePlans self.now total) }
+        ensures turn { TakesTurn turns.old turns.new result }
+    {
         if turns.left() == 0 {
             return Err(StageError::Spent);
         }
-        match self.linear_plans(alloc, total) {
+        match self.linear_plans(alloc, total, buffers) {
             Ok(plans) => {
                 turns.spend();
                 Ok(plans)

@@ -1,13 +1,19 @@
 //! The payoffs of a matrix as one side sees them, in floats, which hold them and their sums by weights exactly.
 
-ghost use Rattle.std.specs.Prelude.{◌≡◌, IfOk, IfSome, ◌+◌, ◌*◌, ◌<◌, ◌≤◌, length, slice_index, sum};
+ghost use Rattle.std.specs.Prelude.{◌≡◌, ◌+◌, ◌*◌, ◌<◌, ◌≤◌, length};
 ghost use Rattle.matrix_game.specs.declared.TheConstants.{MOST_MOVES};
 
 use crate::cells::Matrix;
 use std::alloc::{AllocError, Global};
 use std::num::nearest_i64_to_f64;
 
-/// The payoffs to a side, whose moves are the rows, row by row; the columns are the moves of the other side.
+/// A number for each move that a side may have.
+pub(crate) type Line = [f64; 32];
+
+pub(crate) const ZEROS: Line = [0.0; 32];
+
+/// The payoffs to a side, whose moves are the rows, row by row; the columns are the moves of the other side. There is room
+/// for as many as a matrix may have.
 #[derive(Drop)]
 pub(crate) struct Payoffs {
     pub(crate) rows: usize,
@@ -17,44 +23,43 @@ pub(crate) struct Payoffs {
     ghost few_rows: { rows ≤ MOST_MOVES },
     ghost some_col: { 1 ≤ cols },
     ghost few_cols: { cols ≤ MOST_MOVES },
-    ghost all_cells: { length cells.items ≡ rows * cols },
-}
-
-impl Matrix {
-    /// The payoffs to player one.
-    pub(crate) fn payoffs(&self, alloc: Global) -> Result<Payoffs, AllocError>
-        ensures rows { IfOk result (λ r. r.rows ≡ self.now.rows) }
-        ensures cols { IfOk result (λ r. r.cols ≡ self.now.cols) }
-    {
-        let mut cells = Vec::with_capacity(alloc, self.cells.len())?;
-        for cell in &self.cells {
-            cells.push(nearest_i64_to_f64(*cell))?;
-        }
-        Ok(Payoffs {
-            rows: self.rows,
-            cols: self.cols,
-            cells,
-        })
-    }
+    ghost room: { length cells.items ≡ 1024 },
 }
 
 impl Payoffs {
-    /// The same as the other side sees them.
-    pub(crate) fn turned(&self, alloc: Global) -> Result<Payoffs, AllocError>
-        ensures rows { IfOk result (λ r. r.rows ≡ self.now.cols) }
-        ensures cols { IfOk result (λ r. r.cols ≡ self.now.rows) }
+    /// Those of a single cell.
+    pub(crate) fn new(alloc: Global) -> Result<Payoffs, AllocError> {
+        Ok(Payoffs {
+            rows: 1,
+            cols: 1,
+            cells: vec![in alloc; 0.0f64; 1024]?,
+        })
+    }
+
+    /// Takes on the payoffs of a matrix to player one.
+    pub(crate) fn read(&mut self, matrix: &Matrix)
+        ensures rows { self.new.rows ≡ matrix.now.rows }
+        ensures cols { self.new.cols ≡ matrix.now.cols }
     {
-        let mut cells = Vec::with_capacity(alloc, self.cells.len())?;
-        for col in 0..self.cols {
-            for row in 0..self.rows {
-                cells.push(-self.cell(row, col))?;
+        for place in 0..matrix.rows * matrix.cols {
+            self.cells[place] = nearest_i64_to_f64(matrix.cells[place]);
+        }
+        self.rows = matrix.rows;
+        self.cols = matrix.cols;
+    }
+
+    /// Takes on payoffs as the other side sees them.
+    pub(crate) fn turn(&mut self, other: &Payoffs)
+        ensures rows { self.new.rows ≡ other.now.cols }
+        ensures cols { self.new.cols ≡ other.now.rows }
+    {
+        for col in 0..other.cols {
+            for row in 0..other.rows {
+                self.cells[col * other.rows + row] = -other.cell(row, col);
             }
         }
-        Ok(Payoffs {
-            rows: self.cols,
-            cols: self.rows,
-            cells,
-        })
+        self.rows = other.cols;
+        self.cols = other.rows;
     }
 
     /// What the row pays in the column.
@@ -69,7 +74,7 @@ impl Payoffs {
     pub(crate) fn range(&self) -> (f64, f64) {
         let mut least = self.cell(0, 0);
         let mut greatest = least;
-        for cell in &self.cells {
+        for cell in &self.cells[..self.rows * self.cols] {
             least = least.min(*cell);
             greatest = greatest.max(*cell);
         }
@@ -77,17 +82,16 @@ impl Payoffs {
     }
 
     /// What the weights of the rows pay in each column.
-    pub(crate) fn sums(&self, alloc: Global, weights: &[u32]) -> Result<Vec<f64>, AllocError>
-        requires weights { length weights.now ≡ self.now.rows }
-        ensures { IfOk result (λ r. length r.items ≡ self.now.cols) }
+    pub(crate) fn sums(&self, weights: &[u32]) -> Line
+        requires { length weights.now ≡ self.now.rows }
     {
-        let mut sums = vec![in alloc; 0.0f64; self.cols]?;
+        let mut sums = ZEROS;
         for row in 0..self.rows {
             if weights[row] > 0 {
-                self.add(row, f64::from(weights[row]), &mut sums);
+                self.add(row, f64::from(weights[row]), &mut sums[..self.cols]);
             }
         }
-        Ok(sums)
+        sums
     }
 
     /// Adds what a row pays with a weight to the sums of the columns.

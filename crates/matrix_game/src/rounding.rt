@@ -2,9 +2,10 @@
 
 ghost use Rattle.std.specs.Prelude.{◌≡◌, IfOk, IfSome, ◌+◌, ◌<◌, ◌≤◌, length, slice_index, sum};
 ghost use Rattle.sums.specs.declared.TheConstants.{MOST_WEIGHT};
+ghost use Rattle.matrix_game.specs.declared.TheConstants.{MOST_MOVES};
 ghost use Rattle.matrix_game.specs.Rounds.{IsWeighted};
 
-use crate::payoffs::Payoffs;
+use crate::payoffs::{Line, Payoffs, ZEROS};
 use std::alloc::{AllocError, Global};
 use std::num::saturating_f64_to_u32;
 
@@ -21,16 +22,15 @@ impl Payoffs {
     pub(crate) fn weights(
         &self,
         alloc: Global,
-        shares: &[f64],
+        shares: &Line,
         total: u32,
     ) -> Result<Vec<u32>, AllocError>
-        requires shares { length shares.now ≡ self.now.rows }
         requires light { total ≤ MOST_WEIGHT }
         ensures { IfOk result (λ r. IsWeighted self.now.rows total r.items) }
     {
-        let mut weights = rounded(alloc, shares, total)?;
-        let mut sums = self.sums(alloc, &weights)?;
-        self.improve(&mut weights, &mut sums);
+        let mut weights = rounded(alloc, &shares[..self.rows], total)?;
+        let mut sums = self.sums(&weights);
+        self.improve(&mut weights, &mut sums[..self.cols]);
         Ok(weights)
     }
 
@@ -129,20 +129,21 @@ fn least(numbers: &[f64]) -> f64 {
 // as 0.
 fn rounded(alloc: Global, shares: &[f64], total: u32) -> Result<Vec<u32>, AllocError>
     requires some { 1 ≤ length shares.now }
+    requires few { length shares.now ≤ MOST_MOVES }
     requires light { total ≤ MOST_WEIGHT }
     ensures { IfOk result (λ r. IsWeighted (length shares.now) total r.items) }
 {
     let mut weights = Vec::with_capacity(alloc, shares.len())?;
-    let mut rests = Vec::with_capacity(alloc, shares.len())?;
+    let mut rests = ZEROS;
     let mut left = total;
-    for share in shares {
+    for (place, share) in shares.iter().enumerate() {
         let exact = *share * f64::from(total);
         let whole = saturating_f64_to_u32(exact).min(left);
         weights.push(whole)?;
-        rests.push(exact - f64::from(whole))?;
+        rests[place] = exact - f64::from(whole);
         left -= whole;
     }
-    give(&mut weights, &mut rests, left);
+    give(&mut weights, &mut rests[..shares.len()], left);
     Ok(weights)
 }
 

@@ -8,6 +8,7 @@ ghost use Rattle.matrix_game.specs.Solvers.{UsesRegret, solver_of};
 
 use crate::budget::Turns;
 use crate::cells::Matrix;
+use crate::linear::LinearBuffers;
 use crate::memory::StageMemory;
 use crate::stage::{StageError, StagePlans};
 use std::alloc::Global;
@@ -27,7 +28,7 @@ pub enum StageSolver {
     /// By rounds of regret matching plus, whose answers the memory keeps.
     Regret(StageMemory),
     /// By a linear program in floats, or by rounds where that misses the stage law.
-    Linear,
+    Linear(LinearBuffers),
 }
 
 impl StageSolver {
@@ -37,7 +38,7 @@ impl StageSolver {
     {
         match kind {
             SolverKind::Regret { kept } => StageSolver::Regret(StageMemory::new(kept)),
-            SolverKind::Linear => StageSolver::Linear,
+            SolverKind::Linear => StageSolver::Linear(LinearBuffers::new()),
         }
     }
 
@@ -59,7 +60,7 @@ impl StageSolver {
     {
         match self {
             StageSolver::Regret(memory) => matrix.solve_with_memory(alloc, total, turns, memory),
-            StageSolver::Linear => matrix.solve_linear(alloc, total, turns),
+            StageSolver::Linear(buffers) => matrix.solve_linear_in(alloc, total, turns, buffers),
         }
     }
 }

@@ -5,7 +5,6 @@ ghost use Rattle.sums.specs.declared.TheConstants.{MOST_WEIGHT};
 ghost use Rattle.matrix_game.specs.Grid.{IsSaddle};
 ghost use Rattle.matrix_game.specs.Plans.{AreStagePlans, AreWeighed, TakesTurn, plans_by};
 ghost use Rattle.matrix_game.specs.Rounds.{all_on, IsStage, IsWeighted};
-ghost use Rattle.matrix_game.specs.Budget.{left_of, after_one_turn};
 
 use crate::budget::Turns;
 use crate::cells::Matrix;

@@ -1,10 +1,10 @@
 //! A matrix as a linear program in floats, solved by exchanges of variables. Nothing is claimed of its numbers: who uses
 //! them tests what comes of them.
 
-ghost use Rattle.std.specs.Prelude.{◌≡◌, IfOk, IfSome, ◌+◌, ◌*◌, ◌<◌, ◌≤◌, length};
+ghost use Rattle.std.specs.Prelude.{◌≡◌, IfSome, ◌+◌, ◌*◌, ◌<◌, ◌≤◌, length};
 ghost use Rattle.matrix_game.specs.declared.TheConstants.{MOST_MOVES};
 
-use crate::payoffs::Payoffs;
+use crate::payoffs::{Line, Payoffs, ZEROS};
 use std::alloc::{AllocError, Global};
 
 // A column enters where its cost is below this.
@@ -20,16 +20,17 @@ pub(crate) const FIRST_PIVOT: f64 = 1e-9;
 pub(crate) const SECOND_PIVOT: f64 = 1e-11;
 
 /// Shares of the rows and of the columns, which sum to 1 but for rounding.
-#[derive(Drop)]
+#[derive(Clone, Copy)]
 pub(crate) struct Shares {
-    pub(crate) rows: Vec<f64>,
-    pub(crate) cols: Vec<f64>,
+    pub(crate) rows: Line,
+    pub(crate) cols: Line,
 }
 
 /// With the payoffs shifted and scaled into 1 to 2, the weights of the columns that sum to the most where no row pays more
-/// than 1. Divided by their sum they are the plan of the columns, and the costs of the rows' slacks that of the rows.
+/// than 1. Divided by their sum they are the plan of the columns, and the costs of the rows' slacks that of the rows. There
+/// is room for as many as a matrix may have.
 #[derive(Drop)]
-struct Tableau {
+pub(crate) struct Tableau {
     rows: usize,
     cols: usize,
     // A line for each row: its numbers by columns, and the value of its variable; and a last one: the costs, and the sum.
@@ -41,73 +42,76 @@ struct Tableau {
     pivot: Vec<f64>,
     ghost few_rows: { rows ≤ MOST_MOVES },
     ghost few_cols: { cols ≤ MOST_MOVES },
-    ghost all_numbers: { length numbers.items ≡ (rows + 1) * (cols + 1) },
-    ghost all_basic: { length basic.items ≡ rows },
-    ghost all_free: { length free.items ≡ cols },
-    ghost all_pivot: { length pivot.items ≡ cols + 1 },
+    ghost room: { length numbers.items ≡ 1089 },
+    ghost basic_room: { length basic.items ≡ 32 },
+    ghost free_room: { length free.items ≡ 32 },
+    ghost pivot_room: { length pivot.items ≡ 33 },
 }
 
 impl Payoffs {
-    /// Shares of the rows and of the columns that solve the payoffs, or nearly so.
-    pub(crate) fn shares(&self, alloc: Global, least_pivot: f64) -> Result<Shares, AllocError>
-        ensures rows { IfOk result (λ r. length r.rows.items ≡ self.now.rows) }
-        ensures cols { IfOk result (λ r. length r.cols.items ≡ self.now.cols) }
-    {
-        let mut tableau = self.tableau(alloc)?;
-        tableau.maximise(least_pivot);
-        tableau.shares(alloc)
-    }
-
-    fn tableau(&self, alloc: Global) -> Result<Tableau, AllocError>
-        ensures rows { IfOk result (λ r. r.rows ≡ self.now.rows) }
-        ensures cols { IfOk result (λ r. r.cols ≡ self.now.cols) }
+    // Writes the numbers at first: no column has a weight.
+    fn write_numbers(&self, numbers: &mut [f64])
+        requires { length numbers.old ≡ 1089 }
     {
         let (rows, cols) = (self.rows, self.cols);
-        Ok(Tableau {
-            rows,
-            cols,
-            numbers: self.numbers(alloc)?,
-            basic: names(alloc, 0, rows)?,
-            free: names(alloc, rows, cols)?,
-            pivot: vec![in alloc; 0.0f64; cols + 1]?,
-        })
-    }
-
-    // The numbers at first: no column has a weight.
-    fn numbers(&self, alloc: Global) -> Result<Vec<f64>, AllocError>
-        ensures { IfOk result (λ r. length r.items ≡ (self.now.rows + 1) * (self.now.cols + 1)) }
-    {
         let (least, spread) = self.range();
         let scale = 1.0 / spread.max(1.0);
-        let mut numbers = Vec::with_capacity(alloc, (self.rows + 1) * (self.cols + 1))?;
-        for row in 0..self.rows {
-            for col in 0..self.cols {
-                numbers.push((self.cell(row, col) - least) * scale + 1.0)?;
+        for row in 0..rows {
+            let line = &mut numbers[row * (cols + 1)..(row + 1) * (cols + 1)];
+            for col in 0..cols {
+                line[col] = (self.cell(row, col) - least) * scale + 1.0;
             }
-            numbers.push(1.0)?;
+            line[cols] = 1.0;
         }
-        for _ in 0..self.cols {
-            numbers.push(-1.0)?;
-        }
-        numbers.push(0.0)?;
-        Ok(numbers)
+        let costs = &mut numbers[rows * (cols + 1)..];
+        costs[..cols].fill(-1.0);
+        costs[cols] = 0.0;
     }
 }
 
-// So many numbers from the first one on.
-fn names(alloc: Global, first: usize, count: usize) -> Result<Vec<usize>, AllocError>
+// Numbers the places from the first one on.
+fn name(names: &mut [usize], first: usize)
     requires first { first ≤ MOST_MOVES }
-    requires few { count ≤ MOST_MOVES }
-    ensures { IfOk result (λ r. length r.items ≡ count) }
+    requires few { length names.old ≤ MOST_MOVES }
 {
-    let mut names = Vec::with_capacity(alloc, count)?;
-    for place in 0..count {
-        names.push(first + place)?;
+    for place in 0..names.len() {
+        names[place] = first + place;
     }
-    Ok(names)
 }
 
 impl Tableau {
+    /// That of no payoffs.
+    pub(crate) fn new(alloc: Global) -> Result<Tableau, AllocError> {
+        Ok(Tableau {
+            rows: 0,
+            cols: 0,
+            numbers: vec![in alloc; 0.0f64; 1089]?,
+            basic: vec![in alloc; 0usize; 32]?,
+            free: vec![in alloc; 0usize; 32]?,
+            pivot: vec![in alloc; 0.0f64; 33]?,
+        })
+    }
+
+    /// Shares of the rows and of the columns that solve the payoffs, or nearly so.
+    pub(crate) fn solve(&mut self, payoffs: &Payoffs, least_pivot: f64) -> Shares {
+        self.begin(payoffs);
+        self.maximise(least_pivot);
+        let scale = 1.0 / self.number(self.rows, self.cols);
+        Shares {
+            rows: self.row_shares(scale),
+            cols: self.col_shares(scale),
+        }
+    }
+
+    // Takes on the payoffs, before any exchange.
+    fn begin(&mut self, payoffs: &Payoffs) {
+        self.rows = payoffs.rows;
+        self.cols = payoffs.cols;
+        payoffs.write_numbers(&mut self.numbers);
+        name(&mut self.basic, 0);
+        name(&mut self.free, payoffs.rows);
+    }
+
     fn number(&self, row: usize, col: usize) -> f64
         requires row_in { row ≤ self.now.rows }
         requires col_in { col ≤ self.now.cols }
@@ -192,7 +196,8 @@ impl Tableau {
         ensures rows { self.new.rows ≡ self.old.rows }
         ensures cols { self.new.cols ≡ self.old.cols }
     {
-        eliminate(&mut self.numbers, self.rows + 1, &mut self.pivot, row, col);
+        let (lines, width) = (self.rows + 1, self.cols + 1);
+        eliminate(&mut self.numbers, lines, width, &mut self.pivot, row, col);
         let name = self.basic[row];
         self.basic[row] = self.free[col];
         self.free[col] = name;
@@ -216,48 +221,46 @@ impl Tableau {
         }
     }
 
-    // The shares as the numbers tell them.
-    fn shares(&self, alloc: Global) -> Result<Shares, AllocError>
-        ensures rows { IfOk result (λ r. length r.rows.items ≡ self.now.rows) }
-        ensures cols { IfOk result (λ r. length r.cols.items ≡ self.now.cols) }
-    {
-        let (rows, cols) = (self.rows, self.cols);
-        let scale = 1.0 / self.number(rows, cols);
-        let mut shares = vec![in alloc; 0.0f64; rows]?;
-        for col in 0..cols {
+    // The shares of the rows, by the costs of their slacks.
+    fn row_shares(&self, scale: f64) -> Line {
+        let mut shares = ZEROS;
+        for col in 0..self.cols {
             let name = self.free[col];
-            if name < rows {
-                shares[name] = self.number(rows, col) * scale;
+            if name < self.rows {
+                shares[name] = self.number(self.rows, col) * scale;
             }
         }
-        Ok(Shares {
-            rows: shares,
-            cols: self.col_shares(alloc, scale)?,
-        })
+        shares
     }
 
-    fn col_shares(&self, alloc: Global, scale: f64) -> Result<Vec<f64>, AllocError>
-        ensures { IfOk result (λ r. length r.items ≡ self.now.cols) }
-    {
-        let (rows, cols) = (self.rows, self.cols);
-        let mut shares = vec![in alloc; 0.0f64; cols]?;
-        for row in 0..rows {
+    // The shares of the columns, by their weights.
+    fn col_shares(&self, scale: f64) -> Line {
+        let mut shares = ZEROS;
+        for row in 0..self.rows {
             let name = self.basic[row];
-            if name >= rows && name - rows < cols {
-                shares[name - rows] = self.number(row, cols) * scale;
+            if name >= self.rows && name - self.rows < self.cols {
+                shares[name - self.rows] = self.number(row, self.cols) * scale;
             }
         }
-        Ok(shares)
+        shares
     }
 }
 
 // Makes the number in a row and column the pivot: all others of the column go to 0, and its own place holds its inverse.
-fn eliminate(numbers: &mut [f64], lines: usize, pivot: &mut [f64], row: usize, col: usize)
-    requires all { length numbers.old ≡ lines * length pivot.old }
+fn eliminate(
+    numbers: &mut [f64],
+    lines: usize,
+    width: usize,
+    pivot: &mut [f64],
+    row: usize,
+    col: usize,
+)
+    requires all { lines * width ≤ length numbers.old }
+    requires width { width ≤ length pivot.old }
     requires row_in { row < lines }
-    requires col_in { col < length pivot.old }
+    requires col_in { col < width }
 {
-    let width = pivot.len();
+    let pivot = &mut pivot[..width];
     pivot.copy_from_slice(&numbers[row * width..row * width + width]);
     divide(pivot, col);
     for line in 0..lines {

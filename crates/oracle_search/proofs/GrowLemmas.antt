@@ -43,9 +43,9 @@ use Rattle.oracle_search.proofs.WorkLemmas.{visited_none, turned_none, worked_by
 -- a turn changes nothing of how stages are solved
 pub same_kind : (a b : StageSolver) → UsesRegret a ↔ UsesRegret b → is_linear a ≡ is_linear b
 same_kind (solvers.Regret x) (solvers.Regret y) same = refl
-same_kind (solvers.Regret x) solvers.Linear same = absurd (same.0 tt)
-same_kind solvers.Linear (solvers.Regret y) same = absurd (same.1 tt)
-same_kind solvers.Linear solvers.Linear same = refl
+same_kind (solvers.Regret x) (solvers.Linear y) same = absurd (same.0 tt)
+same_kind (solvers.Linear x) (solvers.Regret y) same = absurd (same.1 tt)
+same_kind (solvers.Linear x) (solvers.Linear y) same = refl
 
 -- what was kept, that no turn was taken but at states that were finished, and what is done
 pub record IsPassed {S G N : Type 0} (m : GameModel S) (s : S) (limit : ℕ) (old new : WorkView G N) (Known : Type 0) : Type 0 where

@@ -11,7 +11,7 @@ use Rattle.oracle_search.specs.Finished.{FinishedView}
 -- whether stages are solved by linear programs
 abbrev pub is_linear : StageSolver → Bool
 is_linear (solvers.Regret memory) = false
-is_linear solvers.Linear = true
+is_linear (solvers.Linear buffers) = true
 
 pub record WorkerView : Type 0 where
   pub turns : Budget

@@ -138,7 +138,7 @@ impl Worker {
     pub(crate) fn is_linear(&self) -> bool
         ensures { result ≡ self.now.linear }
     {
-        matches!(self.stages, StageSolver::Linear)
+        matches!(self.stages, StageSolver::Linear(_))
     }
 
     /// Whether serial searches may be worth it at a state of a pass: it has had none, and of those made so far enough

@@ -1,4 +1,7 @@
 pub mod BetterLemmas
 pub mod GrowLemmas
-pub mod PassLemmas
+pub mod KeyLemmas
+pub mod RingLemmas
+pub mod SweepLemmas
+pub mod TurnLemmas
 pub mod WorkLemmas

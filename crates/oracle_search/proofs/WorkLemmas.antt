@@ -1,43 +1,76 @@
 -- What one part of a search after another keeps.
-use Rattle.std.proofs.Common.{◌≡◌, ◌⊎◌, inl, inr, ⊎_elim, ℕ, ◌+◌, ◌*◌, ◌/◌, ◌≤◌, ℤ, pos, ◌-ℤ◌, ◌≤ℤ◌, ◌<ℤ◌, cond, true, List, [], ◌++◌, refl, sym, ap, subst, ◌∙◌, append_assoc, append-nil, arith}
+use Rattle.std.proofs.Common.{◌≡◌, ◌⊎◌, inl, inr, ⊎_elim, ℕ, ◌+◌, ◌*◌, ◌/◌, ◌≤◌, ◌<◌, ℤ, pos, ◌-ℤ◌, ◌≤ℤ◌, ◌<ℤ◌, cond, true, false, Option, Some, List, [], Contains, refl, sym, ap, subst, ◌∙◌, arith}
 use Rattle.std.specs.Int.{div_ceil}
 use Rattle.std.proofs.Math.Nat.{mul-le-mul_left, mul-div_cancel_left}
+use Rattle.std.proofs.lemmas.Bool.{cases_lt}
 use Rattle.std.proofs.lemmas.Grind.{div_ceil_times}
 use Rattle.std.proofs.lemmas.Int.{ints}
-use Rattle.std.proofs.lemmas.List.Elements.{All-append, All-nil, All-weaker}
+use Rattle.sim_game.specs.declared.Side.{Side}
 use Rattle.sim_game.specs.declared.Side.TheVariants.{One, Two}
-use Rattle.sim_game.specs.Model.{GameModel, IsGame, LeadsTo, Reachable}
+use Rattle.sim_game.specs.Model.{GameModel, IsGame, IsTurn, LeadsTo, Turn, Reachable}
 use Rattle.sim_game.specs.Resolution.{IsStageGap, IsResolution}
-use Rattle.sim_game.proofs.ReachLemmas.{reachable_induction}
+use Rattle.sim_game.proofs.ReachLemmas.{reachable_induction, reachable_turn, leads_none, leads_turn}
 use Rattle.sim_game.proofs.SideLemmas.{looser_trans}
 use Rattle.plan_book.specs.Books.{Grows}
+use Rattle.plan_book.specs.Entries.{IsLawfulEntry}
 use Rattle.plan_book.specs.Serial.{serial_bound}
-use Rattle.matrix_game.specs.Budget.{Budget, left_of}
-use Rattle.bounds_board.specs.Views.{BoardView, IsLater}
+use Rattle.matrix_game.specs.Budget.{Budget, left_of, after_one_turn}
+use Rattle.bounds_board.specs.Views.{BoardView, IsLater, IsFull}
 use Rattle.bounds_board.proofs.FullLemmas.{full_later, full_weaker}
-use Rattle.serial_ab.specs.Counts.{VisitsView, HasCounted}
-use Rattle.serial_ab.specs.Searches.{IsPureEntry}
+use Rattle.bounds_board.proofs.ViewLemmas.{later_refl}
+use Rattle.serial_ab.specs.Counts.{VisitsView, HasCounted, Counts, spent_on}
+use Rattle.serial_ab.specs.Searches.{IsSerialKept, IsPureEntry}
 use Rattle.serial_ab.specs.Transpositions.{AreRemembered}
 use Rattle.serial_ab.proofs.KeptLemmas.{grows_none, grows_after}
-use Rattle.serial_ab.proofs.TableLemmas.{remembered_none}
-use Rattle.oracle_search.specs.Finished.{FinishedView, IsWithin, IsBeyond, IsFinished, AreFinished, IsExtended, IsClose, IsLeftBelow, rank_gap, left_gap}
-use Rattle.oracle_search.specs.Searches.{IsBetter, HasTurned, HasKept, IsBoardFull, IsWorkedBelow, IsPureTight, IsPureWithin, IsAhead}
-use Rattle.oracle_search.specs.Workers.{WorkerView, WorkView, at_work}
-use Rattle.oracle_search.proofs.BetterLemmas.{better_refl, better_trans}
+use Rattle.serial_ab.proofs.TableLemmas.{remembered_later, remembered_none}
+use Rattle.restricted_game.specs.Children.{KeptRows, HasRow, AreChildRows}
+use Rattle.restricted_game.specs.Runs.{IsOneMoveEntry}
+use Rattle.restricted_game.proofs.ChildLemmas.{row_later}
+use Rattle.oracle_search.specs.declared.ends.SearchEnd.{SearchEnd}
+use Rattle.oracle_search.specs.declared.ends.Stop.{Stop}
+use Rattle.oracle_search.specs.declared.ends.Stop.TheVariants as stops
+use Rattle.oracle_search.specs.Finished.{AreFinished, AreAdded, IsWithin, IsBeyond, IsClose, IsLeftBelow, left_gap}
+use Rattle.oracle_search.specs.Searches.{IsBetter, HasTurned, HasKept, IsAtRow, IsAtChildren, IsBoardFull, IsWorkedBelow, IsWorked, IsStop, HasVisitsBelow, IsPureTight, IsPureWithin, IsAhead, BoundsByPure}
+use Rattle.oracle_search.specs.Workers.{WorkerView, WorkView, at_work, with_full, with_key, without_full, without_searches}
+use Rattle.oracle_search.proofs.BetterLemmas.{grows_weaker, better_trans, better_serial}
+use Rattle.oracle_search.proofs.KeyLemmas.{finished_none, finished_later, finished_more, added_none, added_wider, added_after, added_more}
 
-pub visited_none : (v : VisitsView) → HasCounted v v
+-- ---- counts
+visited_none : (v : VisitsView) → HasCounted v v
 visited_none v = record { limit = refl; rises = λ side. omega arith }
 
-pub visited_after : (u v w : VisitsView) → HasCounted u v → HasCounted v w → HasCounted u w
-visited_after u v w p q = record { limit = q.limit ∙ p.limit; rises = λ side. omega (arith, p.rises side, q.rises side) }
+visited_after : {u v w : VisitsView} → HasCounted u v → HasCounted v w → HasCounted u w
+visited_after p q = record { limit = q.limit ∙ p.limit; rises = λ side. omega (arith, p.rises side, q.rises side) }
 
-pub turned_none : (t : Budget) → HasTurned t t
+visited_counts : (side : Side) (most : ℕ) (x y : VisitsView) → Counts side most x y → HasCounted x y
+visited_counts side most x y c = record { limit = c.limit; rises = each side c } where
+  each : (side : Side) → Counts side most x y → (of : Side) → spent_on of x ≤ spent_on of y
+  each One c One = c.rises
+  each One c Two = let same = c.other in omega arith
+  each Two c One = let same = c.other in omega arith
+  each Two c Two = c.rises
+
+turned_none : (t : Budget) → HasTurned t t
 turned_none t = record { limit = refl; rises = omega arith; within = λ h. h; none = λ _. refl }
 
-pub turned_after : (t u v : Budget) → HasTurned t u → HasTurned u v → HasTurned t v
+turned_after : (t u v : Budget) → HasTurned t u → HasTurned u v → HasTurned t v
 turned_after t u v p q =
     let left : left_of t ≡ 0 → left_of u ≡ 0 = λ e. let same = p.none e in let limit = p.limit in omega arith in
     record { limit = q.limit ∙ p.limit; rises = omega (arith, p.rises, q.rises); within = λ h. q.within (p.within h); none = λ e. q.none (left e) ∙ p.none e }
+
+-- a turn was taken, or none was
+turned_step : (old new : Budget) → (left_of old ≡ 0 → new ≡ old) → (new ≡ old) ⊎ (new ≡ after_one_turn old) → HasTurned old new
+turned_step old new none one = ⊎_elim
+    (λ (a : new ≡ old). rw a (turned_none old))
+    (λ (b : new ≡ after_one_turn old).
+    let limit : new.limit ≡ old.limit = ap (λ (t : Budget). t.limit) b in
+    let spent : new.spent ≡ old.spent + 1 = ap (λ (t : Budget). t.spent) b in
+    let some : old.spent ≤ old.limit → old.spent + 1 ≤ old.limit = λ h. ⊎_elim
+    (λ (l : old.spent < old.limit). omega arith)
+    (λ (g : old.limit ≤ old.spent). let same = ap (λ (t : Budget). t.spent) (none (omega arith)) in absurd (omega arith))
+    (cases_lt old.spent old.limit) in
+    record { limit = limit; rises = omega arith; within = λ h. omega (arith, some h); none = λ e. ap (λ (t : Budget). t.spent) (none e) })
+    one
 
 -- where both parts together take no turn, neither does
 same_turns : (t u v : Budget) → HasTurned t u → HasTurned u v → v ≡ t → (u ≡ t) × (v ≡ u)
@@ -49,120 +82,47 @@ same_turns t u v p q e =
     let same : u ≡ t = λ i. record { limit = limit i; spent = spent i } in
     (same, e ∙ sym same)
 
+-- ---- one part after another
 module _ {S G N : Type 0} (m : GameModel S) where
-  -- ---- numbers only come closer
-  pub within_later : (v w : BoardView G N) (key : ℕ) (gap : ℤ) → IsLater v w → IsWithin v key gap → IsWithin w key gap
-  within_later v w key gap later near =
-      let low : v.seen One key ≤ℤ w.seen One key = later.seen One key in
-      let high : w.seen Two key ≤ℤ v.seen Two key = later.seen Two key in
-      omega (arith, ints)
-
-  pub finished_later : (total limit key : ℕ) (v w : BoardView G N) → IsLater v w → IsFinished m total v limit key → IsFinished m total w limit key
-  finished_later total limit key v w later f = record {
-    state = f.state;
-    reachable = f.reachable;
-    goes_on = f.goes_on;
-    below = f.below;
-    is_key = f.is_key;
-    row = f.row;
-    held = later.keys f.row key f.held;
-    close = λ stage is. within_later v w (m.key f.state) (pos (rank_gap m stage (m.rank f.state))) later (f.close stage is);
-  }
-
-  pub are_finished_later : (total : ℕ) (v w : BoardView G N) (keys : List ℕ) → IsLater v w → AreFinished m total v keys → AreFinished m total w keys
-  are_finished_later total v w keys later f = record {
-    each = All-weaker (IsFinished m total v 32) (IsFinished m total w 32) (λ key. finished_later total 32 key v w later) keys f.each;
-    apart = f.apart;
-  }
-
-  finished_wider : (total a b key : ℕ) (v : BoardView G N) → a ≤ b → IsFinished m total v a key → IsFinished m total v b key
-  finished_wider total a b key v wider f =
-      let below = f.below in record { state = f.state; reachable = f.reachable; goes_on = f.goes_on; below = omega arith; is_key = f.is_key; row = f.row; held = f.held; close = f.close }
-
-  pub pure_later : (s : S) (v w : BoardView G N) → IsLater v w → IsPureTight m s v → IsPureTight m s w
-  pure_later s v w later pure side = looser_trans side (serial_bound m side s) (v.seen side (m.key s)) (w.seen side (m.key s)) (pure side) (later.seen side (m.key s))
-
-  pub ahead_later : (s : S) (v w : BoardView G N) → IsLater v w → IsAhead m s v → IsAhead m s w
-  ahead_later s v w later ahead =
-      let low : v.seen One (m.key s) ≤ℤ w.seen One (m.key s) = later.seen One (m.key s) in
-      let high : w.seen Two (m.key s) ≤ℤ v.seen Two (m.key s) = later.seen Two (m.key s) in
-      ⊎_elim
-      (λ (a : serial_bound m One s <ℤ v.seen One (m.key s)). inl (omega (arith, ints)))
-      (λ (b : v.seen Two (m.key s) <ℤ serial_bound m Two s). inr (omega (arith, ints))) ahead
-
-  -- bounds as tight as pure plans make them are no further apart than these
-  pub pure_within : (s : S) (v : BoardView G N) (target : ℤ) → IsPureTight m s v → IsPureWithin m s target → IsWithin v (m.key s) target
-  pure_within s v target pure near =
-      let low : serial_bound m One s ≤ℤ v.seen One (m.key s) = pure One in
-      let high : v.seen Two (m.key s) ≤ℤ serial_bound m Two s = pure Two in
-      omega (arith, ints)
-
-  pub within_not_beyond : (v : BoardView G N) (key : ℕ) (gap : ℤ) → IsWithin v key gap → IsBeyond v key gap → ⊥
-  within_not_beyond v key gap near far = absurd (omega (arith, ints))
-
-  pub full_kept : (s : S) (v w : BoardView G N) → IsLater v w → IsBoardFull m s v → IsBoardFull m s w
-  full_kept s v w later was = full_later m v w (LeadsTo m s) later was
+  pub full_kept : (s : S) {v w : BoardView G N} → IsLater v w → IsBoardFull m s v → IsBoardFull m s w
+  full_kept s {v} {w} later was = full_later m v w (LeadsTo m s) later was
 
   -- a full board that the search of a state after it met
-  pub full_below : (s child : S) (v : BoardView G N) → ((t : S) → LeadsTo m child t → LeadsTo m s t) → IsBoardFull m child v → IsBoardFull m s v
-  full_below s child v leads was = full_weaker m v (LeadsTo m child) (LeadsTo m s) leads was
-
-  -- ---- what is kept
-  extended_none : (total limit : ℕ) (v : BoardView G N) (old new : FinishedView) → new.keys ≡ old.keys → (old.was_full ≡ true → new.was_full ≡ true) → IsExtended m total v limit old new
-  extended_none total limit v old new same full = record { more = []; joins = same ∙ sym (append-nil old.keys); each = All-nil (IsFinished m total v limit); full = full }
-
-  pub extended_after : (total a b c : ℕ) (v w : BoardView G N) (x y z : FinishedView) → IsLater v w → a ≤ c → b ≤ c → IsExtended m total v a x y
-      → IsExtended m total w b y z → IsExtended m total w c x z
-  extended_after total a b c v w x y z later wide wider p q = record {
-    more = p.more ++ q.more;
-    joins = q.joins ∙ ap (λ (l : List ℕ). l ++ q.more) p.joins ∙ append_assoc x.keys p.more q.more;
-    each = All-append (IsFinished m total w c) p.more q.more
-        (All-weaker (IsFinished m total v a) (IsFinished m total w c) (λ key f. finished_wider total a c key w wide (finished_later total a key v w later f)) p.more p.each)
-        (All-weaker (IsFinished m total w b) (IsFinished m total w c) (λ key f. finished_wider total b c key w wider f) q.more q.each);
-    full = λ e. q.full (p.full e);
-  }
+  pub full_below : (s child : S) {v : BoardView G N} → ((t : S) → LeadsTo m child t → LeadsTo m s t) → IsBoardFull m child v → IsBoardFull m s v
+  full_below s child {v} leads was = full_weaker m v (LeadsTo m child) (LeadsTo m s) leads was
 
   -- a worker that has done nothing
   pub kept_none : (v : BoardView G N) (w : WorkerView) → w.settled.keys ≡ [] → w.searches.stored ≡ [] → HasKept m (at_work v w)
-  kept_none v w no_keys no_searches = record {
-    finished = subst (AreFinished m v.total v) (sym no_keys) (record { each = All-nil (IsFinished m v.total v 32); apart = λ i j l h. absurd (omega arith) });
-    remembered = remembered_none no_searches;
-  }
+  kept_none v w no_keys no_searches = record { finished = subst (AreFinished m true v) (sym no_keys) (finished_none v); remembered = remembered_none no_searches }
 
+module _ {S G N : Type 0} {m : GameModel S} {s : S} {limit : ℕ} where
   -- a part that finishes no state
-  pub worked_by : (s : S) (limit : ℕ) (old new : WorkView G N) → IsBetter m old.board.total old.board new.board → HasTurned old.turns new.turns → HasCounted old.visits new.visits
+  worked_by : (old new : WorkView G N) → IsBetter m old.board.total old.board new.board → HasTurned old.turns new.turns → HasCounted old.visits new.visits → new.linear ≡ old.linear
       → new.settled.keys ≡ old.settled.keys → (old.settled.was_full ≡ true → new.settled.was_full ≡ true)
       → HasKept m old → AreRemembered m new.board new.searches → (new.settled.was_full ≡ true → old.settled.was_full ≡ true ⊎ IsBoardFull m s new.board)
       → (new.turns ≡ old.turns → Grows (IsPureEntry m old.board.total) old.board.entries new.board.entries) → IsWorkedBelow m s limit old new
-  worked_by s limit old new better turned visited same full kept remembered cause pure = record {
+  worked_by old new better turned visited linear same full kept remembered cause pure = record {
     board = better;
     turns = turned;
     visits = visited;
-    settled = extended_none new.board.total limit new.board old.settled new.settled same full;
-    kept = record {
-      finished = subst (λ (total : ℕ). AreFinished m total new.board new.settled.keys) (sym better.later.total)
-          (subst (λ (keys : List ℕ). AreFinished m old.board.total new.board keys) (sym same) (are_finished_later old.board.total old.board new.board old.settled.keys better.later kept.finished));
-      remembered = remembered;
-    };
+    linear = linear;
+    settled = record { added = subst (AreAdded m true new.board limit old.settled.keys) (sym same) (added_none new.board limit old.settled.keys); full = full };
+    kept = record { finished = subst (AreFinished m true new.board) (sym same) (finished_later better.later kept.finished); remembered = remembered };
     cause = cause;
     pure_alone = pure;
   }
 
-  pub worked_none : (s : S) (limit : ℕ) (v : WorkView G N) → HasKept m v → IsWorkedBelow m s limit v v
-  worked_none s limit v kept = worked_by s limit v v (better_refl m v.board.total v.board) (turned_none v.turns) (visited_none v.visits) refl (λ e. e) kept kept.remembered (λ e. inl e)
-      (λ e. grows_none (IsPureEntry m v.board.total) v.board.entries v.board.entries refl)
-
-  pub worked_after : (s : S) (a b c : ℕ) (u v w : WorkView G N) → a ≤ c → b ≤ c → IsWorkedBelow m s a u v → IsWorkedBelow m s b v w → IsWorkedBelow m s c u w
-  worked_after s a b c u v w wide wider p q = record {
+  pub worked_after : {u v w : WorkView G N} → IsWorkedBelow m s limit u v → IsWorkedBelow m s limit v w → IsWorkedBelow m s limit u w
+  worked_after {u} {v} {w} p q = record {
     board = better_trans m u.board.total u.board v.board w.board p.board (subst (λ (total : ℕ). IsBetter m total v.board w.board) p.board.later.total q.board);
     turns = turned_after u.turns v.turns w.turns p.turns q.turns;
-    visits = visited_after u.visits v.visits w.visits p.visits q.visits;
-    settled = extended_after w.board.total a b c v.board w.board u.settled v.settled w.settled q.board.later wide wider
-        (subst (λ (total : ℕ). IsExtended m total v.board a u.settled v.settled) (sym q.board.later.total) p.settled) q.settled;
+    visits = visited_after p.visits q.visits;
+    linear = q.linear ∙ p.linear;
+    settled = record { added = added_after q.board.later p.settled.added q.settled.added; full = λ e. q.settled.full (p.settled.full e) };
     kept = q.kept;
     cause = λ e. ⊎_elim
         (λ (before : v.settled.was_full ≡ true). ⊎_elim (λ (first : u.settled.was_full ≡ true). inl first)
-        (λ (was : IsBoardFull m s v.board). inr (full_kept s v.board w.board q.board.later was)) (p.cause before))
+        (λ (was : IsBoardFull m s v.board). inr (full_kept m s q.board.later was)) (p.cause before))
         (λ (was : IsBoardFull m s w.board). inr was) (q.cause e);
     pure_alone = λ e.
         let both = same_turns u.turns v.turns w.turns p.turns q.turns e in
@@ -170,17 +130,206 @@ module _ {S G N : Type 0} (m : GameModel S) where
         (subst (λ (total : ℕ). Grows (IsPureEntry m total) v.board.entries w.board.entries) p.board.later.total (q.pure_alone both.1));
   }
 
-  -- what the search of a state after it keeps
-  pub worked_under : (s child : S) (limit : ℕ) (v w : WorkView G N) → ((t : S) → LeadsTo m child t → LeadsTo m s t) → IsWorkedBelow m child limit v w → IsWorkedBelow m s limit v w
-  worked_under s child limit v w leads p = record {
+  -- a part without turns and visits
+  worked_quietly : (v b : BoardView G N) (w new : WorkerView) → HasKept m (at_work v w) → IsLater v b → new.turns ≡ w.turns → new.visits ≡ w.visits → new.linear ≡ w.linear
+      → new.settled.keys ≡ w.settled.keys → AreRemembered m b new.searches → (w.settled.was_full ≡ true → new.settled.was_full ≡ true)
+      → (new.settled.was_full ≡ true → w.settled.was_full ≡ true ⊎ IsBoardFull m s b) → Grows (IsPureEntry m v.total) v.entries b.entries → IsWorkedBelow m s limit (at_work v w) (at_work b new)
+  worked_quietly v b w new kept later turns visits linear keys remembered full cause posted = worked_by (at_work v w) (at_work b new)
+      (record { later = later; posted = grows_weaker (IsPureEntry m v.total) (IsLawfulEntry m v.total) v.entries b.entries (λ e p. p.lawful) posted })
+      (rw turns (turned_none w.turns)) (rw visits (visited_none w.visits)) linear keys full kept remembered cause (λ _. posted)
+
+  worked_still : (v b : BoardView G N) (w : WorkerView) → HasKept m (at_work v w) → IsLater v b → Grows (IsPureEntry m v.total) v.entries b.entries → IsWorkedBelow m s limit (at_work v w) (at_work b w)
+  worked_still v b w kept later posted =
+      worked_quietly v b w w kept later refl refl refl refl (remembered_later later kept.remembered) (λ e. e) (λ e. inl e) posted
+
+  pub worked_none : {v : WorkView G N} → HasKept m v → IsWorkedBelow m s limit v v
+  worked_none {v} kept = worked_still v.board v.board v.worker kept (later_refl v.board) (grows_none (IsPureEntry m v.board.total) v.board.entries v.board.entries refl)
+
+  -- bounds that were read, after another part
+  pub worked_read : {u : WorkView G N} {v b : BoardView G N} {w : WorkerView} → IsWorkedBelow m s limit u (at_work v w) → IsLater v b → b.entries ≡ v.entries → IsWorkedBelow m s limit u (at_work b w)
+  worked_read {v = v} {b = b} {w = w} p later same = worked_after p (worked_still v b w p.kept later (grows_none (IsPureEntry m v.total) v.entries b.entries same))
+
+  -- posts of entries of one move
+  pub worked_posted : {u : WorkView G N} {v b : BoardView G N} {w : WorkerView} → IsWorkedBelow m s limit u (at_work v w) → IsLater v b
+      → Grows (IsOneMoveEntry m v.total) v.entries b.entries → IsWorkedBelow m s limit u (at_work b w)
+  worked_posted {v = v} {b = b} {w = w} p later posted = worked_after p (worked_still v b w p.kept later
+      (grows_weaker (IsOneMoveEntry m v.total) (IsPureEntry m v.total) v.entries b.entries (λ e x. record { lawful = x.lawful; place = x.place; pure = x.one }) posted))
+
+  -- a claim that was full
+  pub worked_full : {u : WorkView G N} {v b : BoardView G N} {w new : WorkerView} → IsWorkedBelow m s limit u (at_work v w) → IsLater v b → b.entries ≡ v.entries
+      → new ≡ with_full w → IsBoardFull m s b → IsWorkedBelow m s limit u (at_work b new)
+  worked_full {u} {v} {b} {w} p later same is was = subst (λ (x : WorkerView). IsWorkedBelow m s limit u (at_work b x)) (sym is) (worked_after p
+      (worked_quietly v b w (with_full w) p.kept later refl refl refl refl (remembered_later later p.kept.remembered) (λ _. refl) (λ _. inr was)
+      (grows_none (IsPureEntry m v.total) v.entries b.entries same)))
+
+  -- what the worker keeps of a sweep, and of serial searches, was changed
+  pub worked_swept : {u : WorkView G N} {v : BoardView G N} {w new : WorkerView} (keys : List ℕ) → IsWorkedBelow m s limit u (at_work v w) → new ≡ record w { swept = keys }
+      → IsWorkedBelow m s limit u (at_work v new)
+  worked_swept {u} {v} {w} keys p is = subst (λ (x : WorkerView). IsWorkedBelow m s limit u (at_work v x)) (sym is) (worked_after p
+      (worked_quietly v v w (record w { swept = keys }) p.kept (later_refl v) refl refl refl refl p.kept.remembered (λ e. e) (λ e. inl e)
+      (grows_none (IsPureEntry m v.total) v.entries v.entries refl)))
+
+  pub worked_forgot : {u : WorkView G N} {v : BoardView G N} {w new : WorkerView} → IsWorkedBelow m s limit u (at_work v w) → new ≡ without_searches w
+      → IsWorkedBelow m s limit u (at_work v new)
+  worked_forgot {u} {v} {w} p is = subst (λ (x : WorkerView). IsWorkedBelow m s limit u (at_work v x)) (sym is) (worked_after p
+      (worked_quietly v v w (without_searches w) p.kept (later_refl v) refl refl refl refl (remembered_none refl) (λ e. e) (λ e. inl e)
+      (grows_none (IsPureEntry m v.total) v.entries v.entries refl)))
+
+  -- a turn
+  pub worked_turn : {v b : BoardView G N} {w new : WorkerView} → HasKept m (at_work v w) → IsLater v b → Grows (IsLawfulEntry m v.total) v.entries b.entries
+      → (left_of w.turns ≡ 0 → new.turns ≡ w.turns) → (new.turns ≡ w.turns) ⊎ (new.turns ≡ after_one_turn w.turns)
+      → (new.turns ≡ w.turns → b.entries ≡ v.entries) → new ≡ record w { turns = new.turns } → IsWorkedBelow m s limit (at_work v w) (at_work b new)
+  worked_turn {v} {b} {w} {new} kept later posted none one unposted is = subst (λ (x : WorkerView). IsWorkedBelow m s limit (at_work v w) (at_work b x)) (sym is)
+      (worked_by (at_work v w) (at_work b (record w { turns = new.turns })) (record { later = later; posted = posted })
+      (turned_step w.turns new.turns none one) (visited_none w.visits) refl refl (λ e. e) kept (remembered_later later kept.remembered) (λ e. inl e)
+      (λ e. grows_none (IsPureEntry m v.total) v.entries b.entries (unposted e)))
+
+  -- a serial search
+  pub worked_serial : {v b : BoardView G N} {w new : WorkerView} (side : Side) (most : ℕ) → HasKept m (at_work v w) → IsSerialKept m side most v b w.visits new.visits
+      → AreRemembered m b new.searches → new ≡ record w { visits = new.visits; searches = new.searches } → IsWorkedBelow m s limit (at_work v w) (at_work b new)
+  worked_serial {v} {b} {w} {new} side most kept counted remembered is = subst (λ (x : WorkerView). IsWorkedBelow m s limit (at_work v w) (at_work b x)) (sym is)
+      (worked_by (at_work v w) (at_work b (record w { visits = new.visits; searches = new.searches })) (better_serial m side most v b w.visits new.visits counted) (turned_none w.turns)
+      (visited_counts side most w.visits new.visits counted.visits) refl refl (λ e. e) kept remembered (λ e. inl e) (λ e. counted.posted))
+
+-- ---- another limit, and another state
+module _ {S G N : Type 0} {m : GameModel S} {u v : WorkView G N} where
+  pub worked_wider : {s : S} {a b : ℕ} → a ≤ b → IsWorkedBelow m s a u v → IsWorkedBelow m s b u v
+  worked_wider wide p = record {
     board = p.board;
     turns = p.turns;
     visits = p.visits;
-    settled = p.settled;
+    linear = p.linear;
+    settled = record { added = added_wider wide p.settled.added; full = p.settled.full };
     kept = p.kept;
-    cause = λ e. ⊎_elim (λ (before : v.settled.was_full ≡ true). inl before) (λ (was : IsBoardFull m child w.board). inr (full_below s child w.board leads was)) (p.cause e);
+    cause = p.cause;
     pure_alone = p.pure_alone;
   }
+
+  -- what the search of a state after it keeps
+  pub worked_under : {child : S} {limit : ℕ} (s : S) → ((t : S) → LeadsTo m child t → LeadsTo m s t) → IsWorkedBelow m child limit u v → IsWorkedBelow m s limit u v
+  worked_under {child} s leads p = record {
+    board = p.board;
+    turns = p.turns;
+    visits = p.visits;
+    linear = p.linear;
+    settled = p.settled;
+    kept = p.kept;
+    cause = λ e. ⊎_elim (λ (before : u.settled.was_full ≡ true). inl before) (λ (was : IsBoardFull m child v.board). inr (full_below m s child leads was)) (p.cause e);
+    pure_alone = p.pure_alone;
+  }
+
+-- a search that finished its state, whose key was added
+pub worked_added : {S G N : Type 0} {m : GameModel S} (game : IsGame m) (s : S) (r : Reachable m s) {u : WorkView G N} {v : BoardView G N} {w new : WorkerView} (row : ℕ) → 1 ≤ m.rank s
+    → v.key_at row ≡ Some (m.key s) → IsClose m v s → (Contains w.settled.keys (m.key s) → ⊥) → IsWorked m s u (at_work v w) → new ≡ with_key w (m.key s)
+    → IsWorkedBelow m s (m.rank s + 1) u (at_work v new)
+worked_added {m = m} game s r {u} {v} {w} row goes_on held close not p is = subst (λ (x : WorkerView). IsWorkedBelow m s (m.rank s + 1) u (at_work v x)) (sym is) (record {
+  board = p.board;
+  turns = p.turns;
+  visits = p.visits;
+  linear = p.linear;
+  settled = record {
+    added = added_after (later_refl v) (added_wider (omega arith) p.settled.added) (added_more m game s r goes_on row held (λ _. close) w.settled.keys);
+    full = p.settled.full;
+  };
+  kept = record { finished = finished_more m game s r goes_on row held (λ _. close) w.settled.keys p.kept.finished not; remembered = p.kept.remembered };
+  cause = p.cause;
+  pure_alone = p.pure_alone;
+})
+
+-- ---- where a part of a search begins
+module _ {S G N : Type 0} {m : GameModel S} where
+  pub kept_begun : {v : BoardView G N} {w new : WorkerView} → new ≡ without_full w → HasKept m (at_work v w) → HasKept m (at_work v new)
+  kept_begun {v} is kept = subst (λ (x : WorkerView). HasKept m (at_work v x)) (sym is) (record { finished = kept.finished; remembered = kept.remembered })
+
+  pub worked_begun : {s : S} {limit : ℕ} {v : BoardView G N} {new : WorkerView} {x : WorkView G N} (w : WorkerView) → new ≡ without_full w → IsWorkedBelow m s limit (at_work v new) x
+      → IsWorkedBelow m s limit (at_work v (without_full w)) x
+  worked_begun {s} {limit} {v = v} {x = x} w is p = subst (λ (y : WorkerView). IsWorkedBelow m s limit (at_work v y) x) is p
+
+  pub at_row_after : {g : G} {s : S} {limit row : ℕ} {u v : WorkView G N} → IsAtRow m g s (Some row) u → IsWorkedBelow m s limit u v → IsAtRow m g s (Some row) v
+  at_row_after {s = s} {row = row} {u = u} {v = v} here worked = record {
+    game = worked.board.later.game ∙ here.game;
+    reachable = here.reachable;
+    has_row = row_later m u.board v.board s row worked.board.later here.has_row;
+    kept = worked.kept;
+  }
+
+  pub at_children_from : {g : G} {s : S} {limit row : ℕ} {children : KeptRows} {u v : WorkView G N} → IsAtRow m g s (Some row) u → IsWorkedBelow m s limit u v → AreChildRows m v.board s children
+      → IsAtChildren m g s children v
+  at_children_from here worked children =
+      record { game = worked.board.later.game ∙ here.game; reachable = here.reachable; goes_on = here.has_row.goes_on; children = children; kept = worked.kept }
+
+  pub at_children_after : {g : G} {s : S} {limit : ℕ} {old new : KeptRows} {u v : WorkView G N} → IsAtChildren m g s old u → IsWorkedBelow m s limit u v → AreChildRows m v.board s new
+      → IsAtChildren m g s new v
+  at_children_after here worked children =
+      record { game = worked.board.later.game ∙ here.game; reachable = here.reachable; goes_on = here.goes_on; children = children; kept = worked.kept }
+
+-- ---- states after moves
+-- a state after a move of each side and a draw
+pub record IsAfter {S : Type 0} (m : GameModel S) (s child : S) : Type 0 where
+  pub reachable : Reachable m child
+  pub lower : m.rank child < m.rank s
+  pub leads : (t : S) → LeadsTo m child t → LeadsTo m s t
+
+pub drawn_after : {S : Type 0} (m : GameModel S) → IsGame m → (s : S) → Reachable m s → (one two draw : ℕ) → one < m.moves One s → two < m.moves Two s → draw < m.draws s one two
+    → IsAfter m s (m.drawn s one two draw)
+drawn_after m game s r one two draw one_below two_below draw_below =
+    let at : Turn = record { one = one; two = two; draw = draw } in
+    let turn : IsTurn m s at = record { one_below = one_below; two_below = two_below; draw_below = draw_below } in
+    record { reachable = reachable_turn m s at r turn; lower = game.rank_falls s at r turn; leads = λ t leads. leads_turn m s at t turn leads }
+
+module _ {S G N : Type 0} {m : GameModel S} {s child : S} (after : IsAfter m s child) where
+  pub at_child : {g : G} {limit : ℕ} {children : KeptRows} {row : Option ℕ} {u v : WorkView G N} → IsAtChildren m g s children u → IsWorkedBelow m s limit u v → HasRow m v.board child row
+      → IsAtRow m g child row v
+  at_child here worked row = record { game = worked.board.later.game ∙ here.game; reachable = after.reachable; has_row = row; kept = worked.kept }
+
+  pub worked_child : {u v : WorkView G N} → IsWorkedBelow m child (m.rank child + 1) u v → IsWorked m s u v
+  worked_child worked = let lower = after.lower in worked_wider (omega arith) (worked_under s after.leads worked)
+
+  pub full_child : {v : BoardView G N} → IsFull m v (m.key child) → IsBoardFull m s v
+  full_child full = record { state = child; is_asked = after.leads child (leads_none m child); full = full }
+
+  pub stop_under : (v : WorkView G N) (stop : Stop) → IsStop m child v stop → IsStop m s v stop
+  stop_under v stops.Spent is = is
+  stop_under v stops.Full is = (is.0, full_below m s child after.leads is.1)
+
+-- ---- how far bounds are apart
+module _ {S G N : Type 0} (m : GameModel S) (s : S) where
+  pub pure_later : {v w : BoardView G N} → IsLater v w → IsPureTight m s v → IsPureTight m s w
+  pure_later {v} {w} later pure side = looser_trans side (serial_bound m side s) (v.seen side (m.key s)) (w.seen side (m.key s)) (pure side) (later.seen side (m.key s))
+
+  pub ahead_later : {v w : BoardView G N} → IsLater v w → IsAhead m s v → IsAhead m s w
+  ahead_later {v} {w} later ahead =
+      let low : v.seen One (m.key s) ≤ℤ w.seen One (m.key s) = later.seen One (m.key s) in
+      let high : w.seen Two (m.key s) ≤ℤ v.seen Two (m.key s) = later.seen Two (m.key s) in
+      ⊎_elim
+      (λ (a : serial_bound m One s <ℤ v.seen One (m.key s)). inl (omega (arith, ints)))
+      (λ (b : v.seen Two (m.key s) <ℤ serial_bound m Two s). inr (omega (arith, ints))) ahead
+
+  -- bounds as tight as pure plans make them are within each target that pure plans reach
+  pub pure_within : (v : BoardView G N) (target : ℤ) → IsPureTight m s v → IsPureWithin m s target → IsWithin v (m.key s) target
+  pure_within v target pure near =
+      let low : serial_bound m One s ≤ℤ v.seen One (m.key s) = pure One in
+      let high : v.seen Two (m.key s) ≤ℤ serial_bound m Two s = pure Two in
+      omega (arith, ints)
+
+pub within_not_beyond : {G N : Type 0} (v : BoardView G N) (key : ℕ) (gap : ℤ) → IsWithin v key gap → IsBeyond v key gap → ⊥
+within_not_beyond v key gap near far = absurd (omega (arith, ints))
+
+-- ---- pure plans
+module _ {S G N : Type 0} {m : GameModel S} {s : S} {target : ℤ} {u v : WorkView G N} {end : SearchEnd} where
+  -- where bounds as tight as pure plans make them are beyond the target
+  pub pure_beyond : (w : BoardView G N) → IsLater w v.board → IsBeyond w (m.key s) target → (HasVisitsBelow m s u.visits → IsPureTight m s w) → BoundsByPure m s target u v end
+  pure_beyond w later far tight = record {
+    tight = λ visits not goes_on. pure_later m s later (tight visits);
+    at_once = λ visits not near. absurd (within_not_beyond w (m.key s) target (pure_within m s w target (tight visits) near) far);
+  }
+
+  pub pure_full : v.settled.was_full ≡ true → BoundsByPure m s target u v end
+  pure_full full = record {
+    tight = λ visits not goes_on. let wrong : false ≡ true = sym not ∙ full in absurd (cc);
+    at_once = λ visits not near. let wrong : false ≡ true = sym not ∙ full in absurd (cc);
+  }
+
 
 -- ---- a state that is left to another worker
 -- no reachable state has a greater rank than the root
@@ -199,7 +348,7 @@ left_below m total stage s gap is near other there =
 
 -- bounds within a gap at which a state is left are as close as its rank allows
 pub close_below : {S G N : Type 0} (m : GameModel S) (total : ℕ) (v : BoardView G N) (s : S) (gap : ℤ) → v.total ≡ total → IsLeftBelow m total s gap
-    → IsWithin v (m.key s) gap → IsClose m v.total v s
+    → IsWithin v (m.key s) gap → IsClose m v s
 close_below m total v s gap same left near stage is =
     let most = left stage (subst (λ (n : ℕ). IsStageGap m n stage) same is) in
     let each = stage + 1 + cond m.chance_free 0 1 in
@@ -208,5 +357,5 @@ close_below m total v s gap same left near stage is =
     omega (arith, ints)
 
 pub close_left : {S G N : Type 0} (m : GameModel S) (total stage : ℕ) (v : BoardView G N) (s : S) (gap : ℤ) → v.total ≡ total → IsStageGap m total stage
-    → gap ≡ v.seen Two (m.key s) -ℤ v.seen One (m.key s) → gap ≤ℤ pos (left_gap m stage (m.rank s)) → IsClose m v.total v s
+    → gap ≡ v.seen Two (m.key s) -ℤ v.seen One (m.key s) → gap ≤ℤ pos (left_gap m stage (m.rank s)) → IsClose m v s
 close_left m total stage v s gap same is is_gap near = close_below m total v s gap same (left_below m total stage s gap is near) (omega (arith, ints))

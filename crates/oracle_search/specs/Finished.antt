@@ -32,11 +32,11 @@ abbrev pub IsLeftBelow : {S : Type 0} → GameModel S → ℕ → S → ℤ → 
 IsLeftBelow m total s gap = (stage : ℕ) → IsStageGap m total stage → gap ≤ℤ pos (left_gap m stage (m.rank s))
 
 -- the bounds seen at the state are as close as its rank allows
-abbrev pub IsClose : {S G N : Type 0} → GameModel S → ℕ → BoardView G N → S → Type 0
-IsClose m total v s = (stage : ℕ) → IsStageGap m total stage → IsWithin v (m.key s) (pos (rank_gap m stage (m.rank s)))
+abbrev pub IsClose : {S G N : Type 0} → GameModel S → BoardView G N → S → Type 0
+IsClose m v s = (stage : ℕ) → IsStageGap m v.total stage → IsWithin v (m.key s) (pos (rank_gap m stage (m.rank s)))
 
--- the key is that of a reachable state that is no end, of a rank below the limit, which has a row, and whose bounds are as close as its rank allows
-pub record IsFinished {S G N : Type 0} (m : GameModel S) (total : ℕ) (v : BoardView G N) (limit key : ℕ) : Type 0 where
+-- the key is that of a reachable state that is no end, of a rank below the limit, which has a row, and whose bounds, where so asked, are as close as its rank allows
+pub record IsFinished {S G N : Type 0} (m : GameModel S) (is_close : Bool) (v : BoardView G N) (limit key : ℕ) : Type 0 where
   pub state : S
   pub reachable : Reachable m state
   pub goes_on : 1 ≤ m.rank state
@@ -44,19 +44,23 @@ pub record IsFinished {S G N : Type 0} (m : GameModel S) (total : ℕ) (v : Boar
   pub is_key : m.key state ≡ key
   pub row : ℕ
   pub held : v.key_at row ≡ Some key
-  pub close : IsClose m total v state
+  pub close : is_close ≡ true → IsClose m v state
 
 -- no key stands twice
 abbrev pub AreApart : List ℕ → Type 0
 AreApart keys = (i j : ℕ) → i < j → j < length keys → slice_index keys i ≢ slice_index keys j
 
-pub record AreFinished {S G N : Type 0} (m : GameModel S) (total : ℕ) (v : BoardView G N) (keys : List ℕ) : Type 0 where
-  pub each : All (IsFinished m total v 32) keys
+pub record AreFinished {S G N : Type 0} (m : GameModel S) (is_close : Bool) (v : BoardView G N) (keys : List ℕ) : Type 0 where
+  pub each : All (IsFinished m is_close v 32) keys
   pub apart : AreApart keys
 
--- keys were added at the end, each of a finished state of a rank below the limit, and a full board stays in mind
-pub record IsExtended {S G N : Type 0} (m : GameModel S) (total : ℕ) (v : BoardView G N) (limit : ℕ) (old new : FinishedView) : Type 0 where
+-- keys were added at the end, each of a finished state of a rank below the limit
+pub record AreAdded {S G N : Type 0} (m : GameModel S) (is_close : Bool) (v : BoardView G N) (limit : ℕ) (old new : List ℕ) : Type 0 where
   pub more : List ℕ
-  pub joins : new.keys ≡ old.keys ++ more
-  pub each : All (IsFinished m total v limit) more
+  pub joins : new ≡ old ++ more
+  pub each : All (IsFinished m is_close v limit) more
+
+-- keys of states that are as close as their ranks allow were added, and a full board stays in mind
+pub record IsExtended {S G N : Type 0} (m : GameModel S) (v : BoardView G N) (limit : ℕ) (old new : FinishedView) : Type 0 where
+  pub added : AreAdded m true v limit old.keys new.keys
   pub full : old.was_full ≡ true → new.was_full ≡ true

@@ -1,4 +1,4 @@
 pub mod Finished
-pub mod Passes
 pub mod Searches
+pub mod Sweeps
 pub mod Workers

@@ -12,7 +12,7 @@ use Rattle.bounds_board.specs.Views.{BoardView, IsLater, WasFull}
 use Rattle.serial_ab.specs.Counts.{VisitsView, HasCounted, left_on}
 use Rattle.serial_ab.specs.Searches.{IsPureEntry}
 use Rattle.serial_ab.specs.Transpositions.{AreRemembered}
-use Rattle.restricted_game.specs.Children.{IsRowOf}
+use Rattle.restricted_game.specs.Children.{KeptRows, HasRow, AreChildRows}
 use Rattle.restricted_game.specs.Held.{HeldMoves, count_held}
 use Rattle.serial_ab.specs.declared.windowed.SerialEnd.{SerialEnd}
 use Rattle.serial_ab.specs.declared.windowed.SerialEnd.TheVariants.{Exact, AtLeast, AtMost, Cut}
@@ -20,7 +20,7 @@ use Rattle.oracle_search.specs.declared.ends.SearchEnd.{SearchEnd}
 use Rattle.oracle_search.specs.declared.ends.SearchEnd.TheVariants.{Reached, Settled, Spent, Full}
 use Rattle.oracle_search.specs.declared.ends.Stop.{Stop}
 use Rattle.oracle_search.specs.declared.ends.Stop.TheVariants as stops
-use Rattle.oracle_search.specs.Workers.{WorkView}
+use Rattle.oracle_search.specs.Workers.{WorkerView, WorkView}
 use Rattle.oracle_search.specs.Finished.{IsWithin, IsBeyond, IsClose, AreFinished, IsExtended}
 
 -- the board knows no less, and only lawful entries were posted
@@ -45,14 +45,22 @@ IsBoardFull m s v = WasFull m v (LeadsTo m s)
 
 -- each settled key is that of a finished state, and none stands twice; each search that is remembered is one over this board
 pub record HasKept {S G N : Type 0} (m : GameModel S) (v : WorkView G N) : Type 0 where
-  pub finished : AreFinished m v.board.total v.board v.settled.keys
+  pub finished : AreFinished m true v.board v.settled.keys
   pub remembered : AreRemembered m v.board v.searches
 
--- a reachable state of the board's game, its row, and what is kept
-pub record IsAtRow {S G N : Type 0} (m : GameModel S) (g : G) (s : S) (row : ℕ) (v : WorkView G N) : Type 0 where
+-- a reachable state of the board's game, its row, unless it is an end, and what is kept
+pub record IsAtRow {S G N : Type 0} (m : GameModel S) (g : G) (s : S) (row : Option ℕ) (v : WorkView G N) : Type 0 where
   pub game : v.board.game ≡ g
   pub reachable : Reachable m s
-  pub has_row : IsRowOf m v.board s row
+  pub has_row : HasRow m v.board s row
+  pub kept : HasKept m v
+
+-- a reachable state of the board's game that is no end, the known rows of the states after its moves, and what is kept
+pub record IsAtChildren {S G N : Type 0} (m : GameModel S) (g : G) (s : S) (places : KeptRows) (v : WorkView G N) : Type 0 where
+  pub game : v.board.game ≡ g
+  pub reachable : Reachable m s
+  pub goes_on : 1 ≤ m.rank s
+  pub children : AreChildRows m v.board s places
   pub kept : HasKept m v
 
 -- what each part of the search of a state keeps; the states that it finishes have ranks below the limit
@@ -60,7 +68,8 @@ pub record IsWorkedBelow {S G N : Type 0} (m : GameModel S) (s : S) (limit : ℕ
   pub board : IsBetter m old.board.total old.board new.board
   pub turns : HasTurned old.turns new.turns
   pub visits : HasCounted old.visits new.visits
-  pub settled : IsExtended m new.board.total new.board limit old.settled new.settled
+  pub linear : new.linear ≡ old.linear
+  pub settled : IsExtended m new.board limit old.settled new.settled
   pub kept : HasKept m new
   pub cause : new.settled.was_full ≡ true → old.settled.was_full ≡ true ⊎ IsBoardFull m s new.board
   -- where it takes no turn, it posts pure plans alone
@@ -72,17 +81,17 @@ IsWorked m s old new = IsWorkedBelow m s (m.rank s) old new
 -- how a search of a state with a target may end; an end of the game has no gap
 abbrev pub Ends : {S G N : Type 0} → GameModel S → S → ℤ → WorkView G N → SearchEnd → Type 0
 Ends m s target v Reached = 1 ≤ m.rank s → IsWithin v.board (m.key s) target
-Ends m s target v Settled = (1 ≤ m.rank s) × IsBeyond v.board (m.key s) target × IsClose m v.board.total v.board s
+Ends m s target v Settled = (1 ≤ m.rank s) × IsBeyond v.board (m.key s) target × IsClose m v.board s
 Ends m s target v Spent = (1 ≤ m.rank s) × IsBeyond v.board (m.key s) target × (left_of v.turns ≡ 0)
 Ends m s target v Full = (v.settled.was_full ≡ true) × IsBoardFull m s v.board
     × ((row : ℕ) → row < v.board.rows → v.board.key_at row ≡ Some (m.key s) → IsBeyond v.board (m.key s) target)
 
 -- at most 63 turns for each of so many states, besides those that were finished
-abbrev pub TakesTurns : {G N : Type 0} → ℕ → WorkView G N → WorkView G N → Type 0
+abbrev pub TakesTurns : ℕ → WorkerView → WorkerView → Type 0
 TakesTurns states old new = new.turns.spent + 63 * length old.settled.keys ≤ old.turns.spent + 63 * (length new.settled.keys + states)
 
 -- as long as no claim was full: so many turns, or no turn is left and there were no more than for the most states
-pub record TakesAtMost {G N : Type 0} (states most : ℕ) (old new : WorkView G N) : Type 0 where
+pub record TakesAtMost (states most : ℕ) (old new : WorkerView) : Type 0 where
   pub unless_full : new.settled.was_full ≡ false → TakesTurns states old new ⊎ ((left_of new.turns ≡ 0) × TakesTurns most old new)
 
 -- how many states a search that ended so may have taken turns at, itself included, that are not finished
@@ -94,8 +103,9 @@ open_states rank Full = rank
 
 -- the turns of a search of the state that ended so
 abbrev pub HasTaken : {S G N : Type 0} → GameModel S → S → SearchEnd → WorkView G N → WorkView G N → Type 0
-HasTaken m s end old new = TakesAtMost (open_states (m.rank s) end) (m.rank s) old new
+HasTaken m s end old new = TakesAtMost (open_states (m.rank s) end) (m.rank s) old.worker new.worker
 
+-- how a restricted game that grows ended
 pub record HasEnded {S G N : Type 0} (m : GameModel S) (s : S) (target : ℤ) (old new : WorkView G N) (end : SearchEnd) : Type 0 where
   pub ends : Ends m s target new end
   pub turns : HasTaken m s end old new
@@ -155,16 +165,16 @@ stop_of Full = Some stops.Full
 
 -- an end, or its bounds are as close as its rank allows
 abbrev pub IsDone : {S G N : Type 0} → GameModel S → BoardView G N → S → Type 0
-IsDone m v s = 1 ≤ m.rank s → IsClose m v.total v s
+IsDone m v s = 1 ≤ m.rank s → IsClose m v s
 
 -- each state after a move of One and a move of Two is done
 abbrev pub AreDone : {S G N : Type 0} → GameModel S → BoardView G N → S → ℕ → ℕ → Type 0
 AreDone m v s one two = (draw : ℕ) → draw < m.draws s one two → IsDone m v (m.drawn s one two draw)
 
 -- how the searches of states of at most this rank end: all is known, or one of them stopped
-abbrev pub HasSearched : {S G N : Type 0} → GameModel S → S → ℕ → Type 0 → WorkView G N → WorkView G N → Option Stop → Type 0
-HasSearched m s rank Known old new None = Known × TakesAtMost 0 rank old new
-HasSearched m s rank Known old new (Some stop) = IsStop m s new stop × TakesAtMost rank rank old new
+abbrev pub HasSearched : {S G N : Type 0} → GameModel S → S → ℕ → Type 0 → WorkerView → WorkView G N → Option Stop → Type 0
+HasSearched m s rank Known old new None = Known × TakesAtMost 0 rank old new.worker
+HasSearched m s rank Known old new (Some stop) = IsStop m s new stop × TakesAtMost rank rank old new.worker
 
 -- how a search ends that stopped: it is reached all the same where the bounds seen are within the target
 abbrev pub IsStoppedAs : {G N : Type 0} → BoardView G N → ℕ → ℤ → Stop → SearchEnd → Type 0
@@ -177,7 +187,7 @@ IsStoppedAs v key target stop Full = IsBeyond v key target × (stop ≡ stops.Fu
 abbrev pub IsEarlyEnd : {S G N : Type 0} → GameModel S → BoardView G N → S → ℤ → Option SearchEnd → Type 0
 IsEarlyEnd m v s target None = IsBeyond v (m.key s) target
 IsEarlyEnd m v s target (Some Reached) = IsWithin v (m.key s) target
-IsEarlyEnd m v s target (Some Settled) = IsBeyond v (m.key s) target × IsClose m v.total v s
+IsEarlyEnd m v s target (Some Settled) = IsBeyond v (m.key s) target × IsClose m v s
 IsEarlyEnd m v s target (Some Spent) = ⊥
 IsEarlyEnd m v s target (Some Full) = ⊥
 

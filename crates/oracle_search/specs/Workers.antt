@@ -19,10 +19,10 @@ pub record WorkerView : Type 0 where
   pub settled : FinishedView
   -- the table of its serial searches
   pub searches : TableView
-  -- whether it solves stages by linear programs, and makes passes
+  -- whether it solves stages by linear programs, and makes sweeps
   pub linear : Bool
-  -- the states that the pass under way has finished
-  pub passed : List ℕ
+  -- the states that the sweep under way has finished
+  pub swept : List ℕ
 
 -- with no full board in mind, as each search begins
 abbrev pub without_full : WorkerView → WorkerView
@@ -36,21 +36,22 @@ with_full w = record w { settled = record w.settled { was_full = true } }
 abbrev pub with_key : WorkerView → ℕ → WorkerView
 with_key w key = record w { settled = record w.settled { keys = w.settled.keys ++ key ∷ [] } }
 
--- with one more state that the pass has finished
-abbrev pub with_passed : WorkerView → ℕ → WorkerView
-with_passed w key = record w { passed = w.passed ++ key ∷ [] }
+-- with one more state that the sweep has finished
+abbrev pub with_swept : WorkerView → ℕ → WorkerView
+with_swept w key = record w { swept = w.swept ++ key ∷ [] }
+
+-- with no search in its table
+abbrev pub without_searches : WorkerView → WorkerView
+without_searches w = record w { searches = record w.searches { stored = [] } }
 
 -- a worker and the board that it works on
 pub record WorkView (G N : Type 0) : Type 0 where
   pub board : BoardView G N
-  pub turns : Budget
-  pub visits : VisitsView
-  pub settled : FinishedView
-  -- the table of its serial searches
-  pub searches : TableView
+  pub worker : WorkerView
+  pub open worker use *
 
 abbrev pub at_work : {G N : Type 0} → BoardView G N → WorkerView → WorkView G N
-at_work board worker = record { board = board; turns = worker.turns; visits = worker.visits; settled = worker.settled; searches = worker.searches }
+at_work board worker = record { board = board; worker = worker }
 
 abbrev pub at_start : {G N : Type 0} → BoardView G N → WorkerView → WorkView G N
 at_start board worker = at_work board (without_full worker)

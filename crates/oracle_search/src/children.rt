@@ -1,12 +1,12 @@
 //! The searches of the states after held moves.
 
-ghost use Rattle.std.specs.Prelude.{◌≡◌, ◌+◌, ◌-◌, ◌<◌, ◌≤◌, ℕ, Contains, IfOk};
+ghost use Rattle.std.specs.Prelude.{◌≡◌, ◌+◌, ◌-◌, ◌<◌, ℕ, false, Contains, IfOk};
 ghost use Rattle.sim_game.specs.declared.Side.{Side};
-ghost use Rattle.sim_game.specs.Model.{Reachable};
-ghost use Rattle.restricted_game.specs.Children.{AreChildRows, HasRow};
+ghost use Rattle.restricted_game.specs.Children.{AreChildRows};
 ghost use Rattle.restricted_game.specs.Held.{IsHolding};
 ghost use Rattle.oracle_search.specs.Workers.{at_work};
-ghost use Rattle.oracle_search.specs.Searches.{HasKept, IsWorked, IsWorkedBelow, HasSearched, IsDone, AreDone};
+ghost use Rattle.oracle_search.specs.Searches.{IsAtRow, IsAtChildren, IsWorked, IsWorkedBelow};
+ghost use Rattle.oracle_search.specs.Searches.{HasSearched, IsDone, AreDone};
 
 use crate::ends::Stop;
 use crate::gap::gap_at;
@@ -28,13 +28,11 @@ pub(crate) fn search_children<G: Game, B: Bounds<G>, T: Gate>(
     worker: &mut Worker,
     board: &mut B,
 ) -> Result<Option<Stop>, NoMemory>
-    requires game { (B.view board.old).game ≡ setup.now.game }
-    requires reachable { Reachable (G.model setup.now.game) s }
-    requires goes_on { 1 ≤ (G.model setup.now.game).rank s }
+    requires here { IsAtChildren (G.model setup.now.game) setup.now.game s children.old
+        (at_work (B.view board.old) worker.old) }
     requires rows { held.now.most_rows ≡ (G.model setup.now.game).moves Side.One s }
     requires cols { held.now.most_cols ≡ (G.model setup.now.game).moves Side.Two s }
-    requires children { AreChildRows (G.model setup.now.game) (B.view board.old) s children.old }
-    requires kept { HasKept (G.model setup.now.game) (at_work (B.view board.old) worker.old) }
+    requires regret { worker.old.linear ≡ false }
     ensures holding { IsHolding held.now }
     ensures children { AreChildRows (G.model setup.now.game) (B.view board.new) s children.new }
     ensures worked { IsWorked (G.model setup.now.game) s
@@ -42,7 +40,7 @@ pub(crate) fn search_children<G: Game, B: Bounds<G>, T: Gate>(
     ensures searched { IfOk result (HasSearched (G.model setup.now.game) s ((G.model setup.now.game).rank s - 1)
         ((one two : ℕ) → Contains held.now.rows one → Contains held.now.cols two
         → AreDone (G.model setup.now.game) (B.view board.new) s one two)
-        (at_work (B.view board.old) worker.old) (at_work (B.view board.new) worker.new)) }
+        worker.old (at_work (B.view board.new) worker.new)) }
 {
     let rows = held.rows();
     let cols = held.cols();
@@ -69,19 +67,17 @@ fn search_draws<G: Game, B: Bounds<G>, T: Gate>(
     worker: &mut Worker,
     board: &mut B,
 ) -> Result<Option<Stop>, NoMemory>
-    requires game { (B.view board.old).game ≡ setup.now.game }
-    requires reachable { Reachable (G.model setup.now.game) s }
-    requires goes_on { 1 ≤ (G.model setup.now.game).rank s }
+    requires here { IsAtChildren (G.model setup.now.game) setup.now.game s children.old
+        (at_work (B.view board.old) worker.old) }
     requires one { moves.0 < (G.model setup.now.game).moves Side.One s }
     requires two { moves.1 < (G.model setup.now.game).moves Side.Two s }
-    requires children { AreChildRows (G.model setup.now.game) (B.view board.old) s children.old }
-    requires kept { HasKept (G.model setup.now.game) (at_work (B.view board.old) worker.old) }
+    requires regret { worker.old.linear ≡ false }
     ensures children { AreChildRows (G.model setup.now.game) (B.view board.new) s children.new }
     ensures worked { IsWorked (G.model setup.now.game) s
         (at_work (B.view board.old) worker.old) (at_work (B.view board.new) worker.new) }
     ensures searched { IfOk result (HasSearched (G.model setup.now.game) s ((G.model setup.now.game).rank s - 1)
         (AreDone (G.model setup.now.game) (B.view board.new) s moves.0 moves.1)
-        (at_work (B.view board.old) worker.old) (at_work (B.view board.new) worker.new)) }
+        worker.old (at_work (B.view board.new) worker.new)) }
 {
     let g = setup.game;
     for draw in 0..g.draws(s, moves.0, moves.1) {
@@ -92,13 +88,8 @@ fn search_draws<G: Game, B: Bounds<G>, T: Gate>(
                 return Ok(Some(Stop::Full));
             }
         };
-        match search_child(
-            setup,
-            g.drawn(s, moves.0, moves.1, draw),
-            row,
-            worker,
-            board,
-        ) {
+        let child = g.drawn(s, moves.0, moves.1, draw);
+        match search_child(setup, child, row, worker, board) {
             Ok(None) => {}
             Ok(Some(stop)) => return Ok(Some(stop)),
             Err(_) => return Err(NoMemory),
@@ -116,15 +107,13 @@ fn search_child<G: Game, B: Bounds<G>, T: Gate>(
     worker: &mut Worker,
     board: &mut B,
 ) -> Result<Option<Stop>, NoMemory>
-    requires game { (B.view board.old).game ≡ setup.now.game }
-    requires reachable { Reachable (G.model setup.now.game) s }
-    requires row { HasRow (G.model setup.now.game) (B.view board.old) s row }
-    requires kept { HasKept (G.model setup.now.game) (at_work (B.view board.old) worker.old) }
+    requires here { IsAtRow (G.model setup.now.game) setup.now.game s row (at_work (B.view board.old) worker.old) }
+    requires regret { worker.old.linear ≡ false }
     ensures worked { IsWorkedBelow (G.model setup.now.game) s ((G.model setup.now.game).rank s + 1)
         (at_work (B.view board.old) worker.old) (at_work (B.view board.new) worker.new) }
     ensures searched { IfOk result (HasSearched (G.model setup.now.game) s ((G.model setup.now.game).rank s)
         (IsDone (G.model setup.now.game) (B.view board.new) s)
-        (at_work (B.view board.old) worker.old) (at_work (B.view board.new) worker.new)) }
+        worker.old (at_work (B.view board.new) worker.new)) }
 {
     let row = match row {
         Some(row) => row,

@@ -1,6 +1,6 @@
 //! Restricted games that grow by best replies.
 
-ghost use Rattle.std.specs.Prelude.{◌≡◌, ◌≤ℤ◌, ◌+◌, ◌≤◌, pos, Some, Err, IfOk};
+ghost use Rattle.std.specs.Prelude.{◌≡◌, ◌≤ℤ◌, ◌+◌, ◌≤◌, pos, false, Some, Err, IfOk};
 ghost use Rattle.sim_game.specs.declared.Side.{Side};
 ghost use Rattle.sim_game.specs.Model.{Reachable};
 ghost use Rattle.matrix_game.specs.Budget.{left_of};
@@ -10,8 +10,8 @@ ghost use Rattle.restricted_game.specs.Held.{HasGrown, HoldsAll, IsGrown, held_a
 ghost use Rattle.restricted_game.specs.Gaps.{HasStepGap};
 ghost use Rattle.restricted_game.specs.Stages.{HasStepGapOver, WereStageNumbers};
 ghost use Rattle.oracle_search.specs.Workers.{at_work};
-ghost use Rattle.oracle_search.specs.Searches.{HasKept, IsAtRow, IsWorked, HasEnded, HasTurn, IsBoardFull, IsFirstHeld};
-ghost use Rattle.oracle_search.specs.Passes.{IsFullHeld};
+ghost use Rattle.oracle_search.specs.Searches.{IsAtRow, IsWorked, HasEnded, HasTurn, IsBoardFull, IsFirstHeld};
+ghost use Rattle.oracle_search.specs.Sweeps.{IsFullHeld};
 
 use crate::children::search_children;
 use crate::ends::{SearchEnd, Stop};
@@ -76,12 +76,10 @@ pub(crate) fn grow<G: Game, B: Bounds<G>, T: Gate>(
     worker: &mut Worker,
     board: &mut B,
 ) -> Result<SearchEnd, NoMemory>
-    requires game { (B.view board.old).game ≡ setup.now.game }
-    requires reachable { Reachable (G.model setup.now.game) s }
-    requires goes_on { 1 ≤ (G.model setup.now.game).rank s }
-    requires row { (B.view board.old).key_at row ≡ Some ((G.model setup.now.game).key s) }
+    requires here { IsAtRow (G.model setup.now.game) setup.now.game s (Some row)
+        (at_work (B.view board.old) worker.old) }
     requires target { pos 0 ≤ℤ target }
-    requires kept { HasKept (G.model setup.now.game) (at_work (B.view board.old) worker.old) }
+    requires regret { worker.old.linear ≡ false }
     ensures worked { IsWorked (G.model setup.now.game) s
         (at_work (B.view board.old) worker.old) (at_work (B.view board.new) worker.new) }
     ensures ended { IfOk result (HasEnded (G.model setup.now.game) s target
@@ -129,14 +127,11 @@ pub(crate) fn take_turn<G: Game, B: Bounds<G>, T: Gate>(
     worker: &mut Worker,
     board: &mut B,
 ) -> Result<StepEnd, StepFault>
-    requires game { (B.view board.old).game ≡ setup.now.game }
-    requires reachable { Reachable (G.model setup.now.game) s }
-    requires goes_on { 1 ≤ (G.model setup.now.game).rank s }
-    requires row { (B.view board.old).key_at row ≡ Some ((G.model setup.now.game).key s) }
+    requires here { IsAtRow (G.model setup.now.game) setup.now.game s (Some row)
+        (at_work (B.view board.old) worker.old) }
     requires rows { growth.old.held.most_rows ≡ (G.model setup.now.game).moves Side.One s }
     requires cols { growth.old.held.most_cols ≡ (G.model setup.now.game).moves Side.Two s }
     requires children { AreChildRows (G.model setup.now.game) (B.view board.old) s growth.old.children }
-    requires kept { HasKept (G.model setup.now.game) (at_work (B.view board.old) worker.old) }
     ensures children { AreChildRows (G.model setup.now.game) (B.view board.new) s growth.new.children }
     ensures worked { IsWorked (G.model setup.now.game) s
         (at_work (B.view board.old) worker.old) (at_work (B.view board.new) worker.new) }
@@ -162,7 +157,7 @@ pub(crate) fn take_turn<G: Game, B: Bounds<G>, T: Gate>(
     )
 }
 
-/// The same over numbers that were read.
+/// A step over numbers that were read, told to the gate before. A turn is left.
 pub(crate) fn take_turn_over<G: Game, B: Bounds<G>, T: Gate>(
     setup: &Setup<'_, G, T>,
     node: Node<G::State>,
@@ -170,12 +165,13 @@ pub(crate) fn take_turn_over<G: Game, B: Bounds<G>, T: Gate>(
     held: &mut Restricted,
     worker: &mut Worker,
     board: &mut B,
-) -> Result<StepEnd, StepFault>
-    requires here { IsAtRow (G.model setup.now.game) setup.now.game node.state node.row
+) -> Result<StepEnd, NoMemory>
+    requires here { IsAtRow (G.model setup.now.game) setup.now.game node.state (Some node.row)
         (at_work (B.view board.old) worker.old) }
     requires rows { held.old.most_rows ≡ (G.model setup.now.game).moves Side.One node.state }
     requires cols { held.old.most_cols ≡ (G.model setup.now.game).moves Side.Two node.state }
     requires read { WereStageNumbers (G.model setup.now.game) (B.view board.old) node.state held.old numbers.now }
+    requires left { 1 ≤ left_of worker.old.turns }
     ensures worked { IsWorked (G.model setup.now.game) node.state
         (at_work (B.view board.old) worker.old) (at_work (B.view board.new) worker.new) }
     ensures same { worker.new ≡ record worker.old { turns = worker.new.turns } }
@@ -183,23 +179,14 @@ pub(crate) fn take_turn_over<G: Game, B: Bounds<G>, T: Gate>(
         (B.view board.old) (B.view board.new) node.state held.old numbers.now) }
     ensures all { HoldsAll held.old → IfOk result (λ end. IsGrown end → ⊥) }
     ensures turn { IfOk result (λ _. HasTurn worker.old.turns worker.new.turns) }
-    ensures spent { result ≡ Err StepFault.Spent
-        → (left_of worker.old.turns ≡ 0) × (worker.new.turns ≡ worker.old.turns) }
-    ensures never_full { result ≡ Err StepFault.Full → ⊥ }
 {
-    if worker.turns.left() == 0 {
-        return Err(StepFault::Spent);
-    }
     setup.gate.at_turn(setup.worker, worker.turns().spent());
-    match held.step_over(
+    held.step_over(
         setup.game,
         node,
         numbers,
         board,
         &mut worker.turns,
         &mut worker.stages,
-    ) {
-        Ok(end) => Ok(end),
-        Err(_) => Err(StepFault::NoMemory),
-    }
+    )
 }

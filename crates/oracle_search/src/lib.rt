@@ -7,9 +7,9 @@ mod finished;
 mod gap;
 mod gate;
 mod growth;
-mod passes;
 mod serial_bounds;
 mod state;
+mod sweeping;
 mod sweeps;
 mod worker;
 

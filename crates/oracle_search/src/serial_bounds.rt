@@ -1,6 +1,6 @@
 //! The bounds of a state by pure plans.
 
-ghost use Rattle.std.specs.Prelude.{◌≡◌, ◌⊎◌, ◌≤◌, ◌<ℤ◌, Err, IsTrue, IfSome, IfOk};
+ghost use Rattle.std.specs.Prelude.{◌≡◌, ◌⊎◌, ◌≤◌, ◌<ℤ◌, Some, Err, IsTrue, IfSome, IfOk};
 ghost use Rattle.sim_game.specs.Sides.{other_side, IsNoTighter, opening_bound};
 ghost use Rattle.sim_game.specs.declared.Side.{Side};
 ghost use Rattle.plan_book.specs.Serial.{serial_bound, tree_size};
@@ -25,7 +25,8 @@ fn bound_side<G: Game, B: Bounds<G>, T: Gate>(
     worker: &mut Worker,
     board: &mut B,
 ) -> Result<Option<i64>, BoardFault>
-    requires here { IsAtRow (G.model setup.now.game) setup.now.game s row (at_work (B.view board.old) worker.old) }
+    requires here { IsAtRow (G.model setup.now.game) setup.now.game s (Some row)
+        (at_work (B.view board.old) worker.old) }
     requires wide { opening_bound (G.model setup.now.game) Side.One <ℤ opening_bound (G.model setup.now.game) Side.Two }
     ensures worked { IsWorked (G.model setup.now.game) s
         (at_work (B.view board.old) worker.old) (at_work (B.view board.new) worker.new) }
@@ -77,7 +78,8 @@ pub(crate) fn bound_state<G: Game, B: Bounds<G>, T: Gate>(
     worker: &mut Worker,
     board: &mut B,
 ) -> Result<bool, BoardFault>
-    requires here { IsAtRow (G.model setup.now.game) setup.now.game s row (at_work (B.view board.old) worker.old) }
+    requires here { IsAtRow (G.model setup.now.game) setup.now.game s (Some row)
+        (at_work (B.view board.old) worker.old) }
     requires wide { opening_bound (G.model setup.now.game) Side.One <ℤ opening_bound (G.model setup.now.game) Side.Two }
     ensures worked { IsWorked (G.model setup.now.game) s
         (at_work (B.view board.old) worker.old) (at_work (B.view board.new) worker.new) }

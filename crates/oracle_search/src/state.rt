@@ -2,17 +2,17 @@
 
 ghost use Rattle.std.specs.Prelude.{◌≡◌, ◌≢◌, ℕ, ◌+◌, ◌≤◌, ◌≤ℤ◌, true, false, pos, Some, IfOk};
 ghost use Rattle.sim_game.specs.Model.{Reachable};
-ghost use Rattle.oracle_search.specs.Passes.{TakesPasses};
+ghost use Rattle.oracle_search.specs.Sweeps.{TakesSweeps, HasBounded};
 ghost use Rattle.oracle_search.specs.Workers.{at_start, at_work};
-ghost use Rattle.oracle_search.specs.Searches.{HasKept, IsAtRow, IsWorked, Ends, HasTaken, HasEnded};
+ghost use Rattle.oracle_search.specs.Searches.{HasKept, IsAtRow, IsWorked, Ends, HasTaken};
 ghost use Rattle.oracle_search.specs.Searches.{BoundsByPure, IsLeavable};
 
 use crate::ends::{SearchEnd, Stop};
 use crate::gap::{ended_early, gap_at, stopped};
 use crate::gate::Gate;
 use crate::growth::grow;
-use crate::passes::search_linear;
 use crate::serial_bounds::bound_state;
+use crate::sweeping::make_sweeps;
 use crate::worker::{Setup, Worker};
 use bounds_board::{BoardFault, Bounds, Row};
 use sim_game::{Game, NoMemory};
@@ -24,7 +24,7 @@ use sim_game::{Game, NoMemory};
 /// side that grows by best replies, with its children searched before each turn. A state below this one at which the
 /// board shows more than its pure plans and a small gap is left to the worker that has brought it there.
 ///
-/// With linear stages, whose gaps are narrow from the first turn on, the search goes by passes over all states, with
+/// With linear stages, whose gaps are narrow from the first turn on, the search goes by sweeps over all states, with
 /// all moves held: one that brings the gap to a sixteenth of the range of payoffs, one for the target, and one that
 /// brings each state as close as its stages reach; with other workers on the board it leaves a state below this one
 /// whose gap is small. A turn is taken only where pure plans over the children do not suffice.
@@ -45,9 +45,9 @@ pub fn search<G: Game, B: Bounds<G>, T: Gate>(
     ensures turns { worker.old.linear ≡ false → IfOk result (λ end. HasTaken (G.model setup.now.game) s end
         (at_start (B.view board.old) worker.old) (at_work (B.view board.new) worker.new)) }
 
-    // With linear stages: at most three passes of a turn for each state that has a row.
+    // With linear stages: at most three sweeps of a turn for each state that has a row.
     ensures owed { worker.old.linear ≡ true → worker.new.settled.was_full ≡ false
-        → IfOk result (λ _. TakesPasses (G.model setup.now.game) 3 (B.view board.new) ((G.model setup.now.game).rank s)
+        → IfOk result (λ _. TakesSweeps (G.model setup.now.game) 3 (B.view board.new) ((G.model setup.now.game).rank s)
         worker.old.turns.spent worker.new.turns.spent) }
     ensures pure { IfOk result (BoundsByPure (G.model setup.now.game) s target
         (at_start (B.view board.old) worker.old) (at_work (B.view board.new) worker.new)) }
@@ -59,47 +59,11 @@ pub fn search<G: Game, B: Bounds<G>, T: Gate>(
         → (row : ℕ) × ((B.view board.new).key_at row ≡ Some ((G.model setup.now.game).key s))) }
 {
     worker.begin();
-    search_state(setup, s, target, worker, board)
-}
-
-/// Bounds a state; a full board that the worker has in mind stays there.
-fn search_state<G: Game, B: Bounds<G>, T: Gate>(
-    setup: &Setup<'_, G, T>,
-    s: G::State,
-    target: i64,
-    worker: &mut Worker,
-    board: &mut B,
-) -> Result<SearchEnd, NoMemory>
-    requires game { (B.view board.old).game ≡ setup.now.game }
-    requires reachable { Reachable (G.model setup.now.game) s }
-    requires target { pos 0 ≤ℤ target }
-    requires kept { HasKept (G.model setup.now.game) (at_work (B.view board.old) worker.old) }
-    ensures worked { IsWorked (G.model setup.now.game) s
-        (at_work (B.view board.old) worker.old) (at_work (B.view board.new) worker.new) }
-    ensures ends { IfOk result (Ends (G.model setup.now.game) s target (at_work (B.view board.new) worker.new)) }
-    ensures turns { worker.old.linear ≡ false → IfOk result (λ end. HasTaken (G.model setup.now.game) s end
-        (at_work (B.view board.old) worker.old) (at_work (B.view board.new) worker.new)) }
-    ensures owed { worker.old.linear ≡ true → worker.new.settled.was_full ≡ false
-        → IfOk result (λ _. TakesPasses (G.model setup.now.game) 3 (B.view board.new) ((G.model setup.now.game).rank s)
-        worker.old.turns.spent worker.new.turns.spent) }
-    ensures pure { IfOk result (BoundsByPure (G.model setup.now.game) s target
-        (at_work (B.view board.old) worker.old) (at_work (B.view board.new) worker.new)) }
-    ensures settled { IfOk result (λ end. end ≡ SearchEnd.Settled
-        → worker.old.turns.spent + 1 ≤ worker.new.turns.spent) }
-    ensures rowed { 1 ≤ (G.model setup.now.game).rank s → IfOk result (λ end. end ≢ SearchEnd.Full
-        → (row : ℕ) × ((B.view board.new).key_at row ≡ Some ((G.model setup.now.game).key s))) }
-{
     if setup.game.rank(s) == 0 {
         return Ok(SearchEnd::Reached);
     }
     match board.claim(setup.game.key(s)) {
-        Ok(row) => {
-            if worker.is_linear() {
-                search_linear(setup, s, row, target, worker, board)
-            } else {
-                search_row(setup, s, row, target, false, worker, board)
-            }
-        }
+        Ok(row) => search_row(setup, s, row, target, false, worker, board),
         Err(_) => {
             worker.note_full();
             Ok(SearchEnd::Full)
@@ -107,7 +71,8 @@ fn search_state<G: Game, B: Bounds<G>, T: Gate>(
     }
 }
 
-/// Bounds a state that is no end, by its row. It may be left to another worker where that is allowed.
+/// Bounds a state that is no end, by its row: by pure plans first, then by sweeps with linear stages, else by a game that
+/// grows. It may be left to another worker where that is allowed.
 #[cycle(search)]
 pub(crate) fn search_row<G: Game, B: Bounds<G>, T: Gate>(
     setup: &Setup<'_, G, T>,
@@ -118,11 +83,12 @@ pub(crate) fn search_row<G: Game, B: Bounds<G>, T: Gate>(
     worker: &mut Worker,
     board: &mut B,
 ) -> Result<SearchEnd, NoMemory>
-    requires here { IsAtRow (G.model setup.now.game) setup.now.game s row (at_work (B.view board.old) worker.old) }
+    requires here { IsAtRow (G.model setup.now.game) setup.now.game s (Some row)
+        (at_work (B.view board.old) worker.old) }
     requires target { pos 0 ≤ℤ target }
     ensures worked { IsWorked (G.model setup.now.game) s
         (at_work (B.view board.old) worker.old) (at_work (B.view board.new) worker.new) }
-    ensures ended { IfOk result (HasEnded (G.model setup.now.game) s target
+    ensures ended { IfOk result (HasBounded (G.model setup.now.game) s target
         (at_work (B.view board.old) worker.old) (at_work (B.view board.new) worker.new)) }
     ensures pure { IfOk result (BoundsByPure (G.model setup.now.game) s target
         (at_work (B.view board.old) worker.old) (at_work (B.view board.new) worker.new)) }
@@ -139,7 +105,13 @@ pub(crate) fn search_row<G: Game, B: Bounds<G>, T: Gate>(
             let is_left = worker.may_leave(may_leave, is_ahead);
             match ended_early(setup, s, row, target, is_left, board) {
                 Some(end) => Ok(end),
-                None => grow(setup, s, row, target, worker, board),
+                None => {
+                    if worker.is_linear() {
+                        make_sweeps(setup, s, row, target, worker, board)
+                    } else {
+                        grow(setup, s, row, target, worker, board)
+                    }
+                }
             }
         }
         Err(BoardFault::Full) => {

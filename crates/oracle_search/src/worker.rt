@@ -4,7 +4,8 @@ ghost use Rattle.std.specs.Prelude.{◌≡◌, ◌≤◌, [], min, false, IsTrue
 ghost use Rattle.std.specs.List.{Contains};
 ghost use Rattle.matrix_game.specs.Budget.{left_of};
 ghost use Rattle.matrix_game.specs.Solvers.{solver_of};
-ghost use Rattle.oracle_search.specs.Workers.{is_linear, with_passed, with_key, with_full, without_full};
+ghost use Rattle.oracle_search.specs.Workers.{is_linear, with_swept, with_key, with_full};
+ghost use Rattle.oracle_search.specs.Workers.{without_full, without_searches};
 
 use crate::finished::Settled;
 use crate::gate::Gate;
@@ -41,14 +42,17 @@ pub struct Worker {
     pub(crate) serial: SerialWorker,
     pub(crate) stages: StageSolver,
     settled: Settled,
-    // The keys of the states that the pass under way has finished.
-    passed: Settled,
-    // Those of the states at which passes of this search made serial searches, and how many of them these closed.
+    // The keys of the states that the sweep under way has finished.
+    swept: Settled,
+    // Those of the states at which sweeps of this search made serial searches, and how many of them these closed.
     bounded: IndexSet<u64>,
     closed: u64,
+    // How many searches the table may hold.
+    searches: usize,
 }
 
 impl Model for Worker {
+    ghost use Rattle.std.specs.Prelude.{◌≡◌, min};
     ghost use Rattle.oracle_search.specs.Workers.{WorkerView, is_linear};
 
     ghost Value = { WorkerView };
@@ -59,8 +63,10 @@ impl Model for Worker {
       settled = w.settled;
       searches = w.serial.table;
       linear = is_linear w.stages;
-      passed = w.passed.keys;
+      swept = w.swept.keys;
     } };
+
+    ghost invariant = { λ w. w.serial.table.limit ≡ min w.searches 262144 };
 }
 
 impl Worker {
@@ -72,18 +78,20 @@ impl Worker {
           settled = record { keys = []; was_full = false };
           searches = record { limit = min limits.searches 262144; stored = [] };
           linear = is_linear (solver_of limits.stages);
-          passed = [];
+          swept = [];
         } }
     {
-        let table = TranspositionTable::new(alloc, limits.searches as usize);
+        let searches = limits.searches as usize;
+        let table = TranspositionTable::new(alloc, searches);
         Worker {
             turns,
             serial: SerialWorker::new(alloc, visits, table),
             stages: StageSolver::new(limits.stages),
             settled: Settled::new(alloc),
-            passed: Settled::new(alloc),
+            swept: Settled::new(alloc),
             bounded: IndexSet::new(alloc),
             closed: 0,
+            searches,
         }
     }
 
@@ -141,7 +149,7 @@ impl Worker {
         matches!(self.stages, StageSolver::Linear(_))
     }
 
-    /// Whether serial searches may be worth it at a state of a pass: it has had none, and of those made so far enough
+    /// Whether serial searches may be worth it at a state of a sweep: it has had none, and of those made so far enough
     /// have closed their states.
     pub(crate) fn wants_bounds(&self, rank: u32, key: u64) -> bool {
         rank >= 2
@@ -162,26 +170,33 @@ impl Worker {
         }
     }
 
-    /// Begins a pass: it has finished no state.
-    pub(crate) fn begin_pass(&mut self)
-        ensures { self.new ≡ record self.old { passed = [] } }
+    /// Forgets all serial searches, and gives their memory back.
+    pub(crate) fn forget_searches(&mut self, alloc: Global)
+        ensures { self.new ≡ without_searches self.old }
     {
-        self.passed.clear();
+        self.serial.table = TranspositionTable::new(alloc, self.searches);
     }
 
-    pub(crate) fn has_passed(&self, key: u64) -> bool
-        ensures { MatchBool result (Contains self.now.passed key) (Contains self.now.passed key → ⊥) }
+    /// Begins a sweep: it has finished no state.
+    pub(crate) fn begin_sweep(&mut self)
+        ensures { self.new ≡ record self.old { swept = [] } }
     {
-        self.passed.has(key)
+        self.swept.clear();
     }
 
-    /// Adds the key of a state that the pass has finished and that is not there yet.
-    pub(crate) fn pass(&mut self, key: u64) -> Result<(), NoMemory>
-        requires { Contains self.old.passed key → ⊥ }
-        ensures ok { OnOk result (self.new ≡ with_passed self.old key) }
+    pub(crate) fn has_swept(&self, key: u64) -> bool
+        ensures { MatchBool result (Contains self.now.swept key) (Contains self.now.swept key → ⊥) }
+    {
+        self.swept.has(key)
+    }
+
+    /// Adds the key of a state that the sweep has finished and that is not there yet.
+    pub(crate) fn add_swept(&mut self, key: u64) -> Result<(), NoMemory>
+        requires { Contains self.old.swept key → ⊥ }
+        ensures ok { OnOk result (self.new ≡ with_swept self.old key) }
         ensures err { OnErr result (self.new ≡ self.old) }
     {
-        self.passed.add(key)
+        self.swept.add(key)
     }
 
     /// Keeps in mind that a claim found the board full.
@@ -202,7 +217,7 @@ impl Worker {
 
     /// Whether a state may be left to another worker: it is below the state that was asked for, another worker has
     /// searched it, and no search of this worker has stopped half-way, since a turn is left and no board was full.
-    /// With linear stages the passes say what is left, at far narrower gaps.
+    /// With linear stages the sweeps say what is left, at far narrower gaps.
     pub(crate) fn may_leave(&self, is_below: bool, is_ahead: bool) -> bool
         ensures { IsTrue result → (IsTrue is_below) × (IsTrue is_ahead)
             × (1 ≤ left_of self.now.turns) × (self.now.settled.was_full ≡ false) }

@@ -1,40 +1,19 @@
-use Rattle.std.proofs.Common.{rules, ◌≡◌, Err, IfSome, IfOk, w64, SFits, refl, sym, ap, subst, ◌∙◌}
+use Rattle.std.proofs.Common.{rules, ◌≡◌, Err, IfSome, IfOk, w64, SFits, sym, ap, subst, ◌∙◌}
 use Rattle.std.proofs.lemmas.Int.{to_z-of_z}
 use Rattle.sim_game.specs.declared.Side.TheVariants.{One, Two}
 use Rattle.sim_game.specs.Sides.{opening_bound}
 use Rattle.plan_book.specs.Serial.{serial_bound}
 use Rattle.serial_ab.specs.Ends.{IsValue}
-use Rattle.oracle_search.specs.Workers.{WorkerView, is_linear, at_work}
-use Rattle.oracle_search.specs.Searches.{HasKept, IsWorked}
+use Rattle.oracle_search.specs.Workers.{WorkerView}
 use Rattle.oracle_search.proofs.BetterLemmas.{found_number}
-use Rattle.oracle_search.proofs.GrowLemmas.{worked_serial}
+use Rattle.oracle_search.proofs.WorkLemmas.{worked_serial}
 use Rattle.oracle_search.proofs.serial_bounds.bound_side.Goals as goal
 use Rattle.oracle_search.proofs.serial_bounds.bound_side.Goals.{in-Ok, in-Err-Full, in-Err-NoMemory}
 
 pub returns-clause-worked : goal.returns-clause-worked
 returns-clause-worked g c =
-    let m = g.G.Game.model c.args.setup.now.game in
-    let v = g.B.Bounds.view c.args.board.now in
-    let b = g.B.Bounds.view c.serial_with.new.board in
-    let from : WorkerView = record {
-      turns = c.worker.inside.turns;
-      visits = c.worker.inside.serial.visits;
-      settled = c.worker.inside.settled;
-      searches = c.worker.inside.serial.table;
-      linear = is_linear c.worker.inside.stages;
-      passed = c.worker.inside.passed.keys;
-    } in
-    let to : WorkerView = record {
-      turns = c.worker.inside.turns;
-      visits = c.serial_with.new.worker.visits;
-      settled = c.worker.inside.settled;
-      searches = c.serial_with.new.worker.table;
-      linear = is_linear c.worker.inside.stages;
-      passed = c.worker.inside.passed.keys;
-    } in
-    let kept : HasKept m (at_work v from) = subst (λ w. HasKept m (at_work v w)) (sym c.worker.view_is) c.requires.here.kept in
-    subst (λ (w : WorkerView). IsWorked m c.args.s (at_work v w) (at_work b to)) c.worker.view_is
-    (worked_serial m c.args.s (m.rank c.args.s) v from kept b to c.args.side _ c.serial_with.ensures.ends.kept c.serial_with.ensures.remembered refl)
+    worked_serial c.args.side _ c.requires.here.kept (rw (ap (λ (w : WorkerView). w.visits) c.worker.view_is) at c.serial_with.ensures.ends.kept) c.serial_with.ensures.remembered
+    (λ i. record (c.worker.view_is i) { visits = c.serial_with.new.worker.visits; searches = c.serial_with.new.worker.table })
 
 pub returns-clause-full : goal.returns-clause-full
 returns-clause-full g c is = elim c.match-serial_with.branch [

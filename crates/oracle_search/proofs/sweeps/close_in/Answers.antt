@@ -1,165 +1,142 @@
-use Rattle.std.proofs.Common.{rules, ◌≡◌, ◌≤◌, Some, ap, ◌∙◌, arith, Err}
-use Rattle.sim_game.specs.declared.Side.TheVariants.{One, Two}
-use Rattle.sim_game.specs.Model.{LeadsTo, Reachable}
+use Rattle.std.proofs.Common.{rules, ◌≡◌, true, Err, refl, ap, ◌∙◌}
+use Rattle.sim_game.specs.Model.{LeadsTo}
 use Rattle.bounds_board.proofs.FullLemmas.{full_weaker}
 use Rattle.bounds_board.proofs.ViewLemmas.{later_trans}
-use Rattle.restricted_game.proofs.ChildLemmas.{row_later}
+use Rattle.restricted_game.specs.Stages.{WereStageNumbers, AreStageNumbers}
 use Rattle.restricted_game.proofs.OverLemmas.{numbers_later}
 use Rattle.restricted_game.proofs.ReadLemmas.{read_child_leads}
-use Rattle.restricted_game.specs.Stages.{WereStageNumbers}
-use Rattle.oracle_search.specs.Workers.{at_work}
-use Rattle.oracle_search.specs.Searches.{IsAtRow}
-use Rattle.oracle_search.proofs.WorkLemmas.{worked_after}
-use Rattle.oracle_search.proofs.GrowLemmas.{worked_over, worked_quiet}
-use Rattle.oracle_search.proofs.PassLemmas.{close_full, all_rows, all_cols}
+use Rattle.oracle_search.specs.Finished.{IsClose}
+use Rattle.oracle_search.specs.Workers.{WorkerView, at_work}
+use Rattle.oracle_search.specs.Searches.{IsWorked, IsBoardFull}
+use Rattle.oracle_search.proofs.GrowLemmas.{stop_full}
+use Rattle.oracle_search.proofs.SweepLemmas.{swept_by, swept_none, swept_full, swept_added, swept_read, one_full, one_added, close_full}
+use Rattle.oracle_search.proofs.WorkLemmas.{worked_none, worked_after, worked_read, worked_posted, at_row_after}
+use Rattle.oracle_search.proofs.sweeps.close_in.Given.{Over}
 use Rattle.oracle_search.proofs.sweeps.close_in.Goals as goal
+use Rattle.oracle_search.proofs.sweeps.close_in.Goals.{After-post_alone, After-is_within, After-take_turn_over, In-Ok-take_turn_over, In-Err-Full}
 
-pub read-requires : goal.read-requires
-read-requires g c =
-    let m = g.G.Game.model c.args.setup.now.game in
-    let goes_on : 1 ≤ m.rank c.args.s = c.requires.here.has_row.goes_on in
-    let reachable : Reachable m c.args.s = c.requires.here.reachable in
-    search rules
+-- what was read, and posted alone
+posted : (g : Over) (c : After-post_alone g) → IsWorked (g.G.Game.model c.args.setup.now.game) c.args.s (at_work (g.B.Bounds.view c.args.board.now) c.args.worker.now)
+    (at_work (g.B.Bounds.view c.post_alone.new.board) c.args.worker.now)
+posted g c = worked_posted (worked_read (worked_none c.requires.here.kept) c.read.ensures.later c.read.ensures.entries) c.post_alone.ensures.later c.post_alone.ensures.posted
 
-pub post_alone-requires : goal.post_alone-requires
-post_alone-requires g c =
-    let m = g.G.Game.model c.args.setup.now.game in
-    let old = g.B.Bounds.view c.args.board.now in
-    let read = g.B.Bounds.view c.read.new.board in
-    let game : read.game ≡ c.args.setup.now.game = c.read.ensures.later.game ∙ c.requires.here.game in
-    let goes_on : 1 ≤ m.rank c.args.s = c.requires.here.has_row.goes_on in
-    let reachable : Reachable m c.args.s = c.requires.here.reachable in
-    let row : read.key_at c.args.row ≡ Some (m.key c.args.s) = c.read.ensures.later.keys c.args.row (m.key c.args.s) c.requires.here.has_row.holds in
-    let rows : c.args.growth.now.held.most_rows ≡ m.moves One c.args.s = c.requires.held.most_rows in
-    let cols : c.args.growth.now.held.most_cols ≡ m.moves Two c.args.s = c.requires.held.most_cols in
-    let were : WereStageNumbers m read c.args.s c.args.growth.now.held c.in-Ok.numbers = record { since = old; are = c.in-Ok.ensures.read } in
-    search rules
+-- and read again; the numbers are those of the first reading
+near : (g : Over) (c : After-is_within g) → let m = g.G.Game.model c.args.setup.now.game in
+    IsWorked m c.args.s (at_work (g.B.Bounds.view c.args.board.now) c.args.worker.now) (at_work (g.B.Bounds.view c.is_within.new.board) c.args.worker.now)
+    × AreStageNumbers m (g.B.Bounds.view c.args.board.now) (g.B.Bounds.view c.is_within.new.board) c.args.s c.args.growth.now.held c.in-Ok.numbers
+near g c = (
+  worked_read (worked_posted (worked_read (worked_none c.requires.here.kept) c.read.ensures.later c.read.ensures.entries) c.post_alone.ensures.later c.post_alone.ensures.posted)
+      c.is_within.ensures.later c.is_within.ensures.entries,
+  numbers_later (g.G.Game.model c.args.setup.now.game) _ _ _ c.args.s c.args.growth.now.held c.in-Ok.numbers
+      (later_trans _ _ _ c.post_alone.ensures.later c.is_within.ensures.later) c.in-Ok.ensures.read,
+)
 
-pub is_within-requires : goal.is_within-requires
-is_within-requires g c =
-    let m = g.G.Game.model c.args.setup.now.game in
-    let old = g.B.Bounds.view c.args.board.now in
-    let read = g.B.Bounds.view c.read.new.board in
-    let posted = g.B.Bounds.view c.post_alone.new.board in
-    let over = worked_over m c.args.s (m.rank c.args.s) old c.args.worker.now c.requires.here.kept read posted c.read.ensures.later c.read.ensures.entries
-    c.post_alone.ensures.later c.post_alone.ensures.posted in
-    let game : posted.game ≡ c.args.setup.now.game = over.board.later.game ∙ c.requires.here.game in
-    let reachable : Reachable m c.args.s = c.requires.here.reachable in
-    let row : posted.key_at c.args.row ≡ Some (m.key c.args.s) = over.board.later.keys c.args.row (m.key c.args.s) c.requires.here.has_row.holds in
-    search rules
+-- a turn
+turned : (g : Over) (c : After-take_turn_over g) → IsWorked (g.G.Game.model c.args.setup.now.game) c.args.s (at_work (g.B.Bounds.view c.args.board.now) c.args.worker.now)
+    (at_work (g.B.Bounds.view c.take_turn_over.new.board) c.take_turn_over.new.worker)
+turned g c = worked_after (worked_read
+    (worked_posted (worked_read (worked_none c.requires.here.kept) c.read.ensures.later c.read.ensures.entries) c.post_alone.ensures.later c.post_alone.ensures.posted)
+    c.is_within.ensures.later c.is_within.ensures.entries) c.take_turn_over.ensures.worked
 
-pub take_turn_over-requires : goal.take_turn_over-requires
-take_turn_over-requires g c =
+closed : (g : Over) (c : In-Ok-take_turn_over g) → c.args.sweep.now.is_last ≡ true → IsClose (g.G.Game.model c.args.setup.now.game) (g.B.Bounds.view c.take_turn_over.new.board) c.args.s
+closed g c last =
     let m = g.G.Game.model c.args.setup.now.game in
     let old = g.B.Bounds.view c.args.board.now in
-    let read = g.B.Bounds.view c.read.new.board in
-    let posted = g.B.Bounds.view c.post_alone.new.board in
-    let over = worked_over m c.args.s (m.rank c.args.s) old c.args.worker.now c.requires.here.kept read posted c.read.ensures.later c.read.ensures.entries
-    c.post_alone.ensures.later c.post_alone.ensures.posted in
-    let v = g.B.Bounds.view c.is_within.new.board in
-    let quiet = worked_after m c.args.s (m.rank c.args.s) (m.rank c.args.s) (m.rank c.args.s) _ _ _ (omega arith) (omega arith) over
-    (worked_quiet m c.args.s (m.rank c.args.s) posted c.args.worker.now over.kept v c.is_within.ensures.later c.is_within.ensures.entries) in
-    let after = later_trans read posted v c.post_alone.ensures.later c.is_within.ensures.later in
-    let here : IsAtRow m c.args.setup.now.game c.args.s c.args.row (at_work v c.args.worker.now) = record {
-      game = quiet.board.later.game ∙ c.requires.here.game;
-      reachable = c.requires.here.reachable;
-      has_row = row_later m old v c.args.s c.args.row quiet.board.later c.requires.here.has_row;
-      kept = quiet.kept;
-    } in
-    let rows : c.args.growth.now.held.most_rows ≡ m.moves One c.args.s = c.requires.held.most_rows in
-    let cols : c.args.growth.now.held.most_cols ≡ m.moves Two c.args.s = c.requires.held.most_cols in
-    let were : WereStageNumbers m v c.args.s c.args.growth.now.held c.in-Ok.numbers =
-    record { since = old; are = numbers_later m old read v c.args.s c.args.growth.now.held c.in-Ok.numbers after c.in-Ok.ensures.read } in
-    search rules
+    let here = c.requires.here in
+    close_full m (g.met.G.Game.lawful c.args.setup.now.game) c.args.s here.has_row.goes_on here.reachable old (g.B.Bounds.view c.take_turn_over.new.board) c.args.growth.now.held
+    c.in-Ok-take_turn_over.field-0 (c.take_turn_over.ensures.worked.board.later.total ∙ c.is_within.ensures.later.total ∙ c.post_alone.ensures.later.total ∙ c.read.ensures.later.total)
+    c.requires.held (c.requires.done last) (c.in-Ok-take_turn_over.ensures.all c.requires.held.all)
+    (c.in-Ok-take_turn_over.ensures.gap old (numbers_later m _ _ _ c.args.s c.args.growth.now.held c.in-Ok.numbers
+    (later_trans _ _ _ c.post_alone.ensures.later c.is_within.ensures.later) c.in-Ok.ensures.read))
 
-pub returns-in-Err-Full-clause-worked : goal.returns-in-Err-Full-clause-worked
-returns-in-Err-Full-clause-worked g c =
-    let m = g.G.Game.model c.args.setup.now.game in
-    let old = g.B.Bounds.view c.args.board.now in
-    let read = g.B.Bounds.view c.read.new.board in
-    worked_quiet m c.args.s (m.rank c.args.s) old c.args.worker.now c.requires.here.kept read c.read.ensures.later c.read.ensures.entries
-
-pub returns-in-Err-Full-clause-full : goal.returns-in-Err-Full-clause-full
-returns-in-Err-Full-clause-full g c is =
+full : (g : Over) (c : In-Err-Full g) → IsBoardFull (g.G.Game.model c.args.setup.now.game) c.args.s (g.B.Bounds.view c.read.new.board)
+full g c =
     let m = g.G.Game.model c.args.setup.now.game in
     full_weaker m (g.B.Bounds.view c.read.new.board) _ (LeadsTo m c.args.s) (read_child_leads m c.args.s c.args.growth.now.held.rows c.args.growth.now.held.cols)
     (c.read.ensures.full (c.in-Err-Full.is ∙ ap Err c.in-Err-Full.field-0-is))
 
-pub returns-in-Err-NoMemory-clause-worked : goal.returns-in-Err-NoMemory-clause-worked
-returns-in-Err-NoMemory-clause-worked g c =
-    let m = g.G.Game.model c.args.setup.now.game in
-    let old = g.B.Bounds.view c.args.board.now in
-    let read = g.B.Bounds.view c.read.new.board in
-    worked_quiet m c.args.s (m.rank c.args.s) old c.args.worker.now c.requires.here.kept read c.read.ensures.later c.read.ensures.entries
+pub read-requires-clause-goes_on : goal.read-requires-clause-goes_on
+read-requires-clause-goes_on g c = c.requires.here.has_row.goes_on
 
-pub returns-in-Err-clause-worked : goal.returns-in-Err-clause-worked
-returns-in-Err-clause-worked g c =
-    let m = g.G.Game.model c.args.setup.now.game in
-    let old = g.B.Bounds.view c.args.board.now in
-    let read = g.B.Bounds.view c.read.new.board in
-    let posted = g.B.Bounds.view c.post_alone.new.board in
-    let over = worked_over m c.args.s (m.rank c.args.s) old c.args.worker.now c.requires.here.kept read posted c.read.ensures.later c.read.ensures.entries
-    c.post_alone.ensures.later c.post_alone.ensures.posted in
-    over
+pub returns-in-Err-Full-clause-swept : goal.returns-in-Err-Full-clause-swept
+returns-in-Err-Full-clause-swept g c =
+    swept_full (swept_none c.requires.here.kept c.requires.swept) c.read.ensures.later c.read.ensures.entries c.note_full.ensures
+    (full g (goal.at.returns-in-Err-Full-clause-swept g c).In-Err-Full)
 
-pub returns-then-is_within-clause-worked : goal.returns-then-is_within-clause-worked
-returns-then-is_within-clause-worked g c =
-    let m = g.G.Game.model c.args.setup.now.game in
-    let old = g.B.Bounds.view c.args.board.now in
-    let read = g.B.Bounds.view c.read.new.board in
-    let posted = g.B.Bounds.view c.post_alone.new.board in
-    let over = worked_over m c.args.s (m.rank c.args.s) old c.args.worker.now c.requires.here.kept read posted c.read.ensures.later c.read.ensures.entries
-    c.post_alone.ensures.later c.post_alone.ensures.posted in
-    let v = g.B.Bounds.view c.is_within.new.board in
-    let quiet = worked_after m c.args.s (m.rank c.args.s) (m.rank c.args.s) (m.rank c.args.s) _ _ _ (omega arith) (omega arith) over
-    (worked_quiet m c.args.s (m.rank c.args.s) posted c.args.worker.now over.kept v c.is_within.ensures.later c.is_within.ensures.entries) in
-    quiet
+pub returns-in-Err-Full-clause-ended : goal.returns-in-Err-Full-clause-ended
+returns-in-Err-Full-clause-ended g c = (stop_full _ _ c.args.worker.now c.note_full.ensures (full g (goal.at.returns-in-Err-Full-clause-ended g c).In-Err-Full), one_full c.args.worker.now c.note_full.ensures)
 
-pub returns-in-Ok-take_turn_over-clause-worked : goal.returns-in-Ok-take_turn_over-clause-worked
-returns-in-Ok-take_turn_over-clause-worked g c =
-    let m = g.G.Game.model c.args.setup.now.game in
-    let old = g.B.Bounds.view c.args.board.now in
-    let read = g.B.Bounds.view c.read.new.board in
-    let posted = g.B.Bounds.view c.post_alone.new.board in
-    let over = worked_over m c.args.s (m.rank c.args.s) old c.args.worker.now c.requires.here.kept read posted c.read.ensures.later c.read.ensures.entries
-    c.post_alone.ensures.later c.post_alone.ensures.posted in
-    let v = g.B.Bounds.view c.is_within.new.board in
-    let quiet = worked_after m c.args.s (m.rank c.args.s) (m.rank c.args.s) (m.rank c.args.s) _ _ _ (omega arith) (omega arith) over
-    (worked_quiet m c.args.s (m.rank c.args.s) posted c.args.worker.now over.kept v c.is_within.ensures.later c.is_within.ensures.entries) in
-    worked_after m c.args.s (m.rank c.args.s) (m.rank c.args.s) (m.rank c.args.s) _ _ _ (omega arith) (omega arith) quiet c.take_turn_over.ensures.worked
+pub returns-in-Err-NoMemory-clause-swept : goal.returns-in-Err-NoMemory-clause-swept
+returns-in-Err-NoMemory-clause-swept g c = swept_read (swept_none c.requires.here.kept c.requires.swept) c.read.ensures.later c.read.ensures.entries
 
-pub returns-clause-worked : goal.returns-clause-worked
-returns-clause-worked g c =
+pub post_alone-requires : goal.post_alone-requires
+post_alone-requires g c =
     let m = g.G.Game.model c.args.setup.now.game in
-    let old = g.B.Bounds.view c.args.board.now in
-    let read = g.B.Bounds.view c.read.new.board in
-    let posted = g.B.Bounds.view c.post_alone.new.board in
-    let over = worked_over m c.args.s (m.rank c.args.s) old c.args.worker.now c.requires.here.kept read posted c.read.ensures.later c.read.ensures.entries
-    c.post_alone.ensures.later c.post_alone.ensures.posted in
-    let v = g.B.Bounds.view c.is_within.new.board in
-    let quiet = worked_after m c.args.s (m.rank c.args.s) (m.rank c.args.s) (m.rank c.args.s) _ _ _ (omega arith) (omega arith) over
-    (worked_quiet m c.args.s (m.rank c.args.s) posted c.args.worker.now over.kept v c.is_within.ensures.later c.is_within.ensures.entries) in
-    worked_after m c.args.s (m.rank c.args.s) (m.rank c.args.s) (m.rank c.args.s) _ _ _ (omega arith) (omega arith) quiet c.take_turn_over.ensures.worked
+    let here = at_row_after c.requires.here (worked_read (worked_none {limit = 0} c.requires.here.kept) c.read.ensures.later c.read.ensures.entries) in
+    let were : WereStageNumbers m (g.B.Bounds.view c.read.new.board) c.args.s c.args.growth.now.held c.in-Ok.numbers = record { since = g.B.Bounds.view c.args.board.now; are = c.in-Ok.ensures.read } in
+    record {
+      game = here.game;
+      reachable = here.reachable;
+      goes_on = here.has_row.goes_on;
+      row = here.has_row.holds;
+      rows = c.requires.held.most_rows;
+      cols = c.requires.held.most_cols;
+      read = were;
+    }
 
-pub returns-in-Ok-take_turn_over-clause-close : goal.returns-in-Ok-take_turn_over-clause-close
-returns-in-Ok-take_turn_over-clause-close g c turned done =
-    let m = g.G.Game.model c.args.setup.now.game in
-    let old = g.B.Bounds.view c.args.board.now in
-    let read = g.B.Bounds.view c.read.new.board in
-    let posted = g.B.Bounds.view c.post_alone.new.board in
-    let over = worked_over m c.args.s (m.rank c.args.s) old c.args.worker.now c.requires.here.kept read posted c.read.ensures.later c.read.ensures.entries
-    c.post_alone.ensures.later c.post_alone.ensures.posted in
-    let v = g.B.Bounds.view c.is_within.new.board in
-    let quiet = worked_after m c.args.s (m.rank c.args.s) (m.rank c.args.s) (m.rank c.args.s) _ _ _ (omega arith) (omega arith) over
-    (worked_quiet m c.args.s (m.rank c.args.s) posted c.args.worker.now over.kept v c.is_within.ensures.later c.is_within.ensures.entries) in
-    let game = g.met.G.Game.lawful c.args.setup.now.game in
-    let goes_on = c.requires.here.has_row.goes_on in
-    let held = c.args.growth.now.held in
-    let is_row = all_rows m c.args.s held (game.other_moves One c.args.s c.requires.here.reachable goes_on) c.requires.held in
-    let is_col = all_cols m c.args.s held (game.other_moves Two c.args.s c.requires.here.reachable goes_on) c.requires.held in
-    let after = later_trans read posted v c.post_alone.ensures.later c.is_within.ensures.later in
-    close_full m c.args.s goes_on game c.requires.here.reachable old (g.B.Bounds.view c.take_turn_over.new.board) held c.in-Ok-take_turn_over.field-0
-    (c.take_turn_over.ensures.worked.board.later.total ∙ quiet.board.later.total) is_row is_col
-    (λ one two has_one has_two. done one two (is_row one has_one) (is_col two has_two))
-    (c.in-Ok-take_turn_over.ensures.all c.requires.held.all)
-    (c.in-Ok-take_turn_over.ensures.gap old (numbers_later m old read v c.args.s held c.in-Ok.numbers after c.in-Ok.ensures.read))
+pub returns-in-Err-clause-swept : goal.returns-in-Err-clause-swept
+returns-in-Err-clause-swept g c = swept_by (swept_none c.requires.here.kept c.requires.swept) (posted g (goal.at.returns-in-Err-clause-swept g c).After-post_alone) refl
+
+pub is_within-requires : goal.is_within-requires
+is_within-requires g c =
+    let here = at_row_after c.requires.here (posted g (goal.at.is_within-requires g c).After-post_alone) in
+    record { game = here.game; reachable = here.reachable; row = here.has_row.holds }
+
+pub returns-then-is_within-clause-swept : goal.returns-then-is_within-clause-swept
+returns-then-is_within-clause-swept g c =
+    swept_by (swept_none c.requires.here.kept c.requires.swept) (near g (goal.at.returns-then-is_within-clause-swept g c).After-is_within).0 refl
+
+pub returns-then-left-eq0-clause-swept : goal.returns-then-left-eq0-clause-swept
+returns-then-left-eq0-clause-swept g c =
+    swept_by (swept_none c.requires.here.kept c.requires.swept) (near g (goal.at.returns-then-left-eq0-clause-swept g c).After-is_within).0 refl
+
+pub take_turn_over-requires : goal.take_turn_over-requires
+take_turn_over-requires g c =
+    let k = near g (goal.at.take_turn_over-requires g c).After-is_within in
+    record {
+      here = at_row_after c.requires.here k.0;
+      rows = c.requires.held.most_rows;
+      cols = c.requires.held.most_cols;
+      read = record { since = g.B.Bounds.view c.args.board.now; are = k.1 };
+      left = search rules;
+    }
+
+-- ---- after the turn
+pub add_swept-requires : goal.add_swept-requires
+add_swept-requires g c has = c.requires.unmet (rw (c.key.ensures, ap (λ (w : WorkerView). w.swept) c.take_turn_over.ensures.same) at has)
+
+pub returns-in-Ok-add_swept-clause-swept : goal.returns-in-Ok-add_swept-clause-swept
+returns-in-Ok-add_swept-clause-swept g c =
+    let k = goal.at.returns-in-Ok-add_swept-clause-swept g c in
+    let here = c.requires.here in
+    swept_added (g.met.G.Game.lawful c.args.setup.now.game) c.args.s here.reachable c.args.row here.has_row.goes_on
+    ((turned g k.After-take_turn_over).board.later.keys c.args.row _ here.has_row.holds) (closed g k.In-Ok-take_turn_over)
+    (rw (ap (λ (w : WorkerView). w.swept) c.take_turn_over.ensures.same) c.requires.unmet)
+    (swept_by (swept_none here.kept c.requires.swept) (turned g k.After-take_turn_over) (ap (λ (w : WorkerView). w.swept) c.take_turn_over.ensures.same))
+    (rw c.key.ensures at c.in-Ok-add_swept.ensures.ok)
+
+pub returns-in-Ok-add_swept-clause-ended : goal.returns-in-Ok-add_swept-clause-ended
+returns-in-Ok-add_swept-clause-ended g c = (
+  λ last goes_on. closed g (goal.at.returns-in-Ok-add_swept-clause-ended g c).In-Ok-take_turn_over last,
+  one_added c.key.result c.in-Ok-take_turn_over.ensures.turn (ap (λ (w : WorkerView). w.swept) c.take_turn_over.ensures.same) c.in-Ok-add_swept.ensures.ok,
+)
+
+pub returns-in-Ok-take_turn_over-clause-swept : goal.returns-in-Ok-take_turn_over-clause-swept
+returns-in-Ok-take_turn_over-clause-swept g c = rw c.in-Err-add_swept.ensures.err
+    (swept_by (swept_none c.requires.here.kept c.requires.swept) (turned g (goal.at.returns-in-Ok-take_turn_over-clause-swept g c).After-take_turn_over)
+    (ap (λ (w : WorkerView). w.swept) c.take_turn_over.ensures.same))
+
+pub returns-clause-swept : goal.returns-clause-swept
+returns-clause-swept g c =
+    swept_by (swept_none c.requires.here.kept c.requires.swept) (turned g (goal.at.returns-clause-swept g c).After-take_turn_over)
+    (ap (λ (w : WorkerView). w.swept) c.take_turn_over.ensures.same)

@@ -1,0 +1,234 @@
+-- Sweeps, one part after another.
+use Rattle.std.proofs.Common.{◌≡◌, ⊎_elim, ℕ, ◌+◌, ◌*◌, ◌<◌, ◌≤◌, ℤ, pos, ◌≤ℤ◌, Bool, true, false, List, [], ◌∷◌, ◌++◌, length, Some, None, Option, Contains, refl, sym, ap, subst, ◌∙◌, arith}
+use Rattle.std.specs.List.{range_with_len}
+use Rattle.std.proofs.lemmas.Int.{ints}
+use Rattle.std.proofs.lemmas.Bool.{cases_lt}
+use Rattle.std.proofs.Math.Nat.{mul-le-mul_left, mul-le-mul_right}
+use Rattle.std.proofs.lemmas.List.{length-append}
+use Rattle.std.proofs.lemmas.List.Elements.{All-contains}
+use Rattle.sim_game.specs.declared.Side.TheVariants.{One, Two}
+use Rattle.sim_game.specs.Model.{GameModel, IsGame, Reachable}
+use Rattle.bounds_board.specs.Views.{BoardView, IsLater}
+use Rattle.bounds_board.proofs.ViewLemmas.{later_refl}
+use Rattle.restricted_game.specs.Children.{KeptRows, AreChildRows}
+use Rattle.restricted_game.specs.declared.held.StepEnd.{StepEnd}
+use Rattle.restricted_game.specs.declared.held.StepEnd.TheVariants.{Grown, Done}
+use Rattle.restricted_game.specs.Held.{HeldMoves, IsGrown}
+use Rattle.restricted_game.specs.Gaps.{HasStepGap}
+use Rattle.restricted_game.proofs.HeldLemmas.{all_moves_held}
+use Rattle.oracle_search.specs.declared.ends.SearchEnd.{SearchEnd}
+use Rattle.oracle_search.specs.declared.ends.SearchEnd.TheVariants.{Settled}
+use Rattle.oracle_search.specs.declared.ends.Stop.{Stop}
+use Rattle.oracle_search.specs.Finished.{IsWithin, IsBeyond, IsClose, AreFinished, AreAdded}
+use Rattle.oracle_search.specs.Searches.{HasKept, IsBoardFull, IsWorked, IsWorkedBelow, Ends, HasTurn, HasEnded}
+use Rattle.oracle_search.specs.Sweeps.{HasSwept, TakesOne, IsSweepEnd, AreAllDone, IsFullHeld, TakesSweeps, EndsBySweeps, LeavesToNext, HasBounded}
+use Rattle.oracle_search.specs.Workers.{WorkerView, WorkView, at_work, with_full, with_swept}
+use Rattle.oracle_search.proofs.GrowLemmas.{close_after}
+use Rattle.oracle_search.proofs.KeyLemmas.{finished_none, finished_open, finished_later, finished_more, added_none, added_wider, added_after, added_more}
+use Rattle.oracle_search.proofs.TurnLemmas.{not_before, taken_by, taken_from}
+use Rattle.oracle_search.proofs.WorkLemmas.{IsAfter, worked_none, worked_read, worked_full, worked_after, worked_wider, worked_under, worked_swept}
+
+-- ---- parts of a sweep
+module _ {S G N : Type 0} {m : GameModel S} {is_last : Bool} {s : S} {limit : ℕ} where
+  -- a part that finishes no state, after another
+  pub swept_by : {u : WorkView G N} {v b : BoardView G N} {w new : WorkerView} → HasSwept m is_last s limit u (at_work v w) → IsWorked m s (at_work v w) (at_work b new) → new.swept ≡ w.swept
+      → HasSwept m is_last s limit u (at_work b new)
+  swept_by {u} {v} {b} {w} p worked same = record {
+    worked = worked_after p.worked worked;
+    added = subst (AreAdded m is_last b limit u.swept) (sym same) (added_after worked.board.later p.added (added_none b limit w.swept));
+    kept = subst (AreFinished m is_last b) (sym same) (finished_later worked.board.later p.kept);
+  }
+
+  pub swept_none : {v : WorkView G N} → HasKept m v → AreFinished m is_last v.board v.swept → HasSwept m is_last s limit v v
+  swept_none {v} kept swept = record { worked = worked_none kept; added = added_none v.board limit v.swept; kept = swept }
+
+  pub swept_read : {u : WorkView G N} {v b : BoardView G N} {w : WorkerView} → HasSwept m is_last s limit u (at_work v w) → IsLater v b → b.entries ≡ v.entries
+      → HasSwept m is_last s limit u (at_work b w)
+  swept_read p later same = swept_by p (worked_read (worked_none p.worked.kept) later same) refl
+
+  -- a claim that was full
+  pub swept_full : {u : WorkView G N} {v b : BoardView G N} {w new : WorkerView} → HasSwept m is_last s limit u (at_work v w) → IsLater v b → b.entries ≡ v.entries
+      → new ≡ with_full w → IsBoardFull m s b → HasSwept m is_last s limit u (at_work b new)
+  swept_full p later same is was = swept_by p (worked_full (worked_none p.worked.kept) later same is was) (ap (λ (x : WorkerView). x.swept) is)
+
+  pub swept_after : {u v w : WorkView G N} → HasSwept m is_last s limit u v → HasSwept m is_last s limit v w → HasSwept m is_last s limit u w
+  swept_after p q = record { worked = worked_after p.worked q.worked; added = added_after q.worked.board.later p.added q.added; kept = q.kept }
+
+module _ {S G N : Type 0} {m : GameModel S} {is_last : Bool} {u v : WorkView G N} where
+  pub swept_wider : {s : S} {a b : ℕ} → a ≤ b → HasSwept m is_last s a u v → HasSwept m is_last s b u v
+  swept_wider wide p = record { worked = p.worked; added = added_wider wide p.added; kept = p.kept }
+
+  -- the same of the state before
+  pub swept_child : {s child : S} → IsAfter m s child → HasSwept m is_last child (m.rank child + 1) u v → HasSwept m is_last s (m.rank s) u v
+  swept_child {s} after p = let lower = after.lower in
+      record { worked = worked_wider (omega arith) (worked_under s after.leads p.worked); added = added_wider (omega arith) p.added; kept = p.kept }
+
+-- the state itself, whose key was added
+pub swept_added : {S G N : Type 0} {m : GameModel S} {is_last : Bool} (game : IsGame m) (s : S) (r : Reachable m s) {u : WorkView G N} {v : BoardView G N} {w new : WorkerView} (row : ℕ)
+    → 1 ≤ m.rank s → v.key_at row ≡ Some (m.key s) → (is_last ≡ true → IsClose m v s) → (Contains w.swept (m.key s) → ⊥) → HasSwept m is_last s (m.rank s) u (at_work v w)
+    → new ≡ with_swept w (m.key s) → HasSwept m is_last s (m.rank s + 1) u (at_work v new)
+swept_added {m = m} {is_last = is_last} game s r {u} {v} {w} row goes_on held close not p is = subst (λ (x : WorkerView). HasSwept m is_last s (m.rank s + 1) u (at_work v x)) (sym is) (record {
+  worked = worked_swept (w.swept ++ m.key s ∷ []) p.worked refl;
+  added = added_after (later_refl v) (added_wider (omega arith) p.added) (added_more m game s r goes_on row held close w.swept);
+  kept = finished_more m game s r goes_on row held close w.swept p.kept not;
+})
+
+-- ---- turns of a sweep
+-- a turn that was not taken
+pub one_none : {states : ℕ} {w x : WorkerView} → x.turns.spent ≡ w.turns.spent → x.swept ≡ w.swept → TakesOne states w x
+one_none turns swept = record { unless_full = λ not. let keys = ap (λ (l : List ℕ). length l) swept in omega arith }
+
+pub one_wider : {a b : ℕ} {w x : WorkerView} → a ≤ b → TakesOne a w x → TakesOne b w x
+one_wider wide p = record { unless_full = λ not. let a = p.unless_full not in omega arith }
+
+-- a claim that was full
+pub one_full : {states : ℕ} {w new : WorkerView} (x : WorkerView) → new ≡ with_full x → TakesOne states w new
+one_full x is = record { unless_full = λ not. let wrong : false ≡ true = sym not ∙ ap (λ (x : WorkerView). x.settled.was_full) is in absurd (cc) }
+
+-- a turn at the state itself, whose key was added
+pub one_added : {w x y : WorkerView} (key : ℕ) → HasTurn w.turns x.turns → x.swept ≡ w.swept → y ≡ with_swept x key → TakesOne 0 w y
+one_added {w} {x} {y} key turn swept is = record {
+  unless_full = λ not.
+      let spent : x.turns.spent ≡ w.turns.spent + 1 = ap (λ t. t.spent) turn.1 in
+      let same : y.turns.spent ≡ x.turns.spent = ap (λ (z : WorkerView). z.turns.spent) is in
+      let keys = ap (λ (l : List ℕ). length l) swept in
+      let more : length y.swept ≡ length x.swept + 1 = ap (λ (z : WorkerView). length z.swept) is ∙ length-append x.swept (key ∷ []) in
+      omega arith;
+}
+
+module _ {S G N : Type 0} {m : GameModel S} {s : S} {limit : ℕ} {v x : WorkView G N} (worked : IsWorkedBelow m s limit v x) where
+  pub one_after : {states most : ℕ} {w : WorkerView} → states ≤ most → TakesOne 0 w v.worker → TakesOne states v.worker x.worker → TakesOne most w x.worker
+  one_after few p q = record {
+    unless_full = λ not. let a = p.unless_full (not_before v.settled.was_full x.settled.was_full worked.settled.full not) in let b = q.unless_full not in omega arith;
+  }
+
+  -- an end, after a part that took no turn
+  pub ended_after : (rank : ℕ) (Known : Type 0) {u : WorkerView} → TakesOne 0 u v.worker → (stop : Option Stop) → IsSweepEnd m s rank Known v.worker x stop → IsSweepEnd m s rank Known u x stop
+  ended_after rank Known p None end = (end.0, one_after (omega arith) p end.1)
+  ended_after rank Known p (Some stop) end = (end.0, one_after (omega arith) p end.1)
+
+-- ---- sweeps over the states after moves
+-- what was kept so far, what is done, and the rows that are known
+pub record IsSweeping {S G N : Type 0} (m : GameModel S) (is_last : Bool) (s : S) (places : KeptRows) (old new : WorkView G N) (Known : Type 0) : Type 0 where
+  pub swept : HasSwept m is_last s (m.rank s) old new
+  pub turns : TakesOne 0 old.worker new.worker
+  pub done : Known
+  pub children : AreChildRows m new.board s places
+
+module _ {S G N : Type 0} {m : GameModel S} {is_last : Bool} {s : S} where
+  pub sweeping_none : {xs : KeptRows} {v : WorkView G N} {Known : Type 0} → HasKept m v → AreFinished m is_last v.board v.swept → AreChildRows m v.board s xs → Known
+      → IsSweeping m is_last s xs v v Known
+  sweeping_none kept swept children done = record { swept = swept_none kept swept; turns = one_none refl refl; done = done; children = children }
+
+  -- the claim of a row
+  pub sweeping_read : {xs ys : KeptRows} {u : WorkView G N} {v b : BoardView G N} {w : WorkerView} {Known More : Type 0} → IsSweeping m is_last s xs u (at_work v w) Known
+      → IsLater v b → b.entries ≡ v.entries → AreChildRows m b s ys → More → IsSweeping m is_last s ys u (at_work b w) More
+  sweeping_read p later same children done = record { swept = swept_read p.swept later same; turns = p.turns; done = done; children = children }
+
+  pub sweeping_more : {xs ys : KeptRows} {u v w : WorkView G N} {Known More : Type 0} → IsSweeping m is_last s xs u v Known → HasSwept m is_last s (m.rank s) v w
+      → TakesOne 0 v.worker w.worker → AreChildRows m w.board s ys → More → IsSweeping m is_last s ys u w More
+  sweeping_more p swept turns children done =
+      record { swept = swept_after p.swept swept; turns = one_after swept.worked (omega arith) p.turns turns; done = done; children = children }
+
+-- ---- a restricted game that holds all moves
+-- how close the bounds are after a step
+pub close_full : {S G N : Type 0} (m : GameModel S) (game : IsGame m) (s : S) → 1 ≤ m.rank s → Reachable m s → (v w : BoardView G N) (held : HeldMoves) (end : StepEnd) → w.total ≡ v.total
+    → IsFullHeld m s held → AreAllDone m v s → (IsGrown end → ⊥) → HasStepGap m v w s held end → IsClose m w s
+close_full m game s goes_on r v w held (Grown row col) same full done all gap = absurd (all tt)
+close_full m game s goes_on r v w held (Done lower upper) same full done all gap =
+    close_after m s goes_on game r v w held lower upper same is_row is_col (λ one two has_one has_two. done one two (is_row one has_one) (is_col two has_two)) gap where
+  is_move : (moves : ℕ) → 1 ≤ moves → (x : ℕ) → Contains (range_with_len 0 moves) x → x < moves
+  is_move moves some x has = All-contains (λ (n : ℕ). n < moves) (range_with_len 0 moves) x (all_moves_held moves some).within has
+
+  is_row : (one : ℕ) → Contains held.rows one → one < m.moves One s
+  is_row one has = is_move (m.moves One s) (game.other_moves One s r goes_on) one (subst (λ (l : List ℕ). Contains l one) full.rows has)
+
+  is_col : (two : ℕ) → Contains held.cols two → two < m.moves Two s
+  is_col two has = is_move (m.moves Two s) (game.other_moves Two s r goes_on) two (subst (λ (l : List ℕ). Contains l two) full.cols has)
+
+-- bounds that meet are within each target
+pub met_not_beyond : {G N : Type 0} (v w : BoardView G N) (key : ℕ) (target : ℤ) → pos 0 ≤ℤ target → IsLater v w → IsWithin v key (pos 0) → IsBeyond w key target → ⊥
+met_not_beyond v w key target some later near far =
+    let low : v.seen One key ≤ℤ w.seen One key = later.seen One key in
+    let high : w.seen Two key ≤ℤ v.seen Two key = later.seen Two key in
+    absurd (omega (arith, ints))
+
+-- ---- the turns of whole sweeps
+module _ {S G N : Type 0} {m : GameModel S} {rank : ℕ} where
+  pub owed_none : {sweeps a b : ℕ} (v : BoardView G N) → b ≤ a → TakesSweeps m sweeps v rank a b
+  owed_none v few = record { keys = []; swept = finished_none v; few = omega arith }
+
+  -- a sweep that began with no state finished
+  pub owed_sweep : {is_last : Bool} {states : ℕ} {v t : BoardView G N} {w x : WorkerView} (u : WorkerView) → w ≡ record u { swept = [] } → states ≤ rank → IsLater v t → AreFinished m is_last v x.swept
+      → TakesOne states w x → x.settled.was_full ≡ false → TakesSweeps m 1 t rank u.turns.spent x.turns.spent
+  owed_sweep {states = states} {w = w} {x = x} u is few later swept took not =
+      let begun : length w.swept ≡ 0 = ap (λ (z : WorkerView). length z.swept) is in
+      let spent : w.turns.spent ≡ u.turns.spent = ap (λ (z : WorkerView). z.turns.spent) is in
+      let most = took.unless_full not in
+      record { keys = x.swept; swept = finished_open (finished_later later swept); few = omega arith }
+
+  -- the longer list is owed the turns of both
+  pub owed_after : {p q a b c : ℕ} {u v : BoardView G N} → IsLater u v → TakesSweeps m p u rank a b → TakesSweeps m q v rank b c → TakesSweeps m (p + q) v rank a c
+  owed_after {p} {q} later x y =
+      let first = x.few in let last = y.few in
+      ⊎_elim
+      (λ (l : length x.keys < length y.keys).
+      let more : p * (length x.keys + rank) ≤ p * (length y.keys + rank) = mul-le-mul_left p (omega arith) in
+      record { keys = y.keys; swept = y.swept; few = omega arith })
+      (λ (g : length y.keys ≤ length x.keys).
+      let more : q * (length y.keys + rank) ≤ q * (length x.keys + rank) = mul-le-mul_left q (omega arith) in
+      record { keys = x.keys; swept = finished_later later x.swept; few = omega arith })
+      (cases_lt (length x.keys) (length y.keys))
+
+  pub owed_wider : {p q a b : ℕ} {v : BoardView G N} → p ≤ q → TakesSweeps m p v rank a b → TakesSweeps m q v rank a b
+  owed_wider {p} {q} wide x =
+      let few = x.few in let more : p * (length x.keys + rank) ≤ q * (length x.keys + rank) = mul-le-mul_right (length x.keys + rank) wide in
+      record { keys = x.keys; swept = x.swept; few = omega arith }
+
+-- ---- whole sweeps
+-- what the sweeps so far leave to the next
+pub record HasMade {S G N : Type 0} (m : GameModel S) (s : S) (sweeps : ℕ) (old new : WorkView G N) : Type 0 where
+  pub worked : IsWorked m s old new
+  pub owed : new.settled.was_full ≡ false → TakesSweeps m sweeps new.board (m.rank s) old.turns.spent new.turns.spent
+
+module _ {S G N : Type 0} {m : GameModel S} {s : S} {u v : WorkView G N} where
+  pub made_wider : {p q : ℕ} → p ≤ q → HasMade m s p u v → HasMade m s q u v
+  made_wider wide made = record { worked = made.worked; owed = λ not. owed_wider wide (made.owed not) }
+
+  module _ {w : WorkView G N} {sweeps : ℕ} (made : HasMade m s sweeps u v) (worked : IsWorked m s v w) where
+    not_full : w.settled.was_full ≡ false → v.settled.was_full ≡ false
+    not_full = not_before v.settled.was_full w.settled.was_full worked.settled.full
+
+    pub made_more : {target : ℤ} {is_last : Bool} → LeavesToNext m s target is_last v w → HasMade m s (sweeps + 1) u w
+    made_more left = record { worked = worked_after made.worked worked; owed = λ not. owed_after worked.board.later (made.owed (not_full not)) (left.owed not) }
+
+    -- the last of them
+    pub made_end : {target : ℤ} {most : ℕ} {end : SearchEnd} → sweeps + 1 ≤ most → EndsBySweeps m s target 1 v w end → EndsBySweeps m s target most u w end
+    made_end few last = record {
+      ends = last.ends;
+      owed = λ not. owed_wider few (owed_after worked.board.later (made.owed (not_full not)) (last.owed not));
+      turned = λ is. let before = made.worked.turns.rises in let one = last.turned is in omega arith;
+    }
+
+-- the search is settled after the last sweep
+pub ends_settled : {S G N : Type 0} {m : GameModel S} {s : S} {target : ℤ} {is_last : Bool} {v w : WorkView G N} → 1 ≤ m.rank s → is_last ≡ true → LeavesToNext m s target is_last v w
+    → EndsBySweeps m s target 1 v w Settled
+ends_settled goes_on last left = record { ends = (goes_on, left.beyond, left.close last); owed = left.owed; turned = λ _. left.turned last }
+
+-- ---- how the search of a state ends
+module _ {S G N : Type 0} {m : GameModel S} {s : S} {target : ℤ} {u v : WorkView G N} {end : SearchEnd} where
+  -- before a turn
+  pub bounded_early : Ends m s target v end → v.turns.spent ≡ u.turns.spent → v.settled.keys ≡ u.settled.keys → HasBounded m s target u v end
+  bounded_early ends turns keys = record { ends = ends; turns = λ _. taken_by turns keys; owed = λ _ not. owed_none v.board (omega arith) }
+
+  module _ {start : WorkView G N} (turns : u.turns.spent ≡ start.turns.spent) where
+    pub bounded_grown : u.settled.keys ≡ start.settled.keys → start.linear ≡ false → HasEnded m s target u v end → HasBounded m s target start v end
+    bounded_grown keys regret ended =
+        record { ends = ended.ends; turns = λ _. taken_from turns keys ended.turns; owed = λ linear. let wrong : false ≡ true = sym regret ∙ linear in absurd (cc) }
+
+    pub bounded_swept : start.linear ≡ true → EndsBySweeps m s target 3 u v end → HasBounded m s target start v end
+    bounded_swept linear ended = record {
+      ends = ended.ends;
+      turns = λ regret. let wrong : false ≡ true = sym regret ∙ linear in absurd (cc);
+      owed = λ _ not. subst (λ (n : ℕ). TakesSweeps m 3 v.board (m.rank s) n v.turns.spent) turns (ended.owed not);
+    }

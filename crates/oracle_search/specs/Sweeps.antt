@@ -1,0 +1,77 @@
+-- The sweeps of a search with linear stages.
+use Rattle.std.specs.Prelude.{◌≡◌, ℕ, ◌+◌, ◌*◌, ◌≤◌, ◌<◌, ℤ, Bool, true, false, Option, None, Some, List, length}
+use Rattle.std.specs.List.{range_with_len}
+use Rattle.sim_game.specs.declared.Side.TheVariants.{One, Two}
+use Rattle.sim_game.specs.Model.{GameModel}
+use Rattle.bounds_board.specs.Views.{BoardView}
+use Rattle.restricted_game.specs.Held.{HeldMoves, HoldsAll}
+use Rattle.oracle_search.specs.declared.ends.SearchEnd.{SearchEnd}
+use Rattle.oracle_search.specs.declared.ends.SearchEnd.TheVariants.{Settled}
+use Rattle.oracle_search.specs.declared.ends.Stop.{Stop}
+use Rattle.oracle_search.specs.Finished.{IsBeyond, IsClose, AreFinished, AreAdded}
+use Rattle.oracle_search.specs.Searches.{IsWorked, Ends, HasTaken, IsStop, IsDone, AreDone}
+use Rattle.oracle_search.specs.Workers.{WorkerView, WorkView}
+
+-- ---- one sweep
+-- what each part of a sweep keeps; the states that it finishes have ranks below the limit, and after the last sweep their bounds are as close as these allow
+pub record HasSwept {S G N : Type 0} (m : GameModel S) (is_last : Bool) (s : S) (limit : ℕ) (old new : WorkView G N) : Type 0 where
+  pub worked : IsWorked m s old new
+  pub added : AreAdded m is_last new.board limit old.swept new.swept
+  pub kept : AreFinished m is_last new.board new.swept
+
+-- as long as no claim was full: at most one turn for each state that the sweep has finished, and for so many others
+pub record TakesOne (states : ℕ) (old new : WorkerView) : Type 0 where
+  pub unless_full : new.settled.was_full ≡ false → new.turns.spent + length old.swept ≤ old.turns.spent + length new.swept + states
+
+-- how a sweep over states of at most this rank ends: all is known, or it stopped at one of them
+abbrev pub IsSweepEnd : {S G N : Type 0} → GameModel S → S → ℕ → Type 0 → WorkerView → WorkView G N → Option Stop → Type 0
+IsSweepEnd m s rank Known old new None = Known × TakesOne 0 old new.worker
+IsSweepEnd m s rank Known old new (Some stop) = IsStop m s new stop × TakesOne rank old new.worker
+
+-- in the last sweep each state that is no end is as close as its rank allows
+abbrev pub IsSweepDone : {S G N : Type 0} → GameModel S → Bool → BoardView G N → S → Type 0
+IsSweepDone m is_last v s = is_last ≡ true → IsDone m v s
+
+-- each state after any moves is done
+abbrev pub AreAllDone : {S G N : Type 0} → GameModel S → BoardView G N → S → Type 0
+AreAllDone m v s = (one two : ℕ) → one < m.moves One s → two < m.moves Two s → AreDone m v s one two
+
+-- ---- whole sweeps
+-- so many sweeps took at most a turn each for each state of a list, none twice, of which each has a row, and for each rank
+pub record TakesSweeps {S G N : Type 0} (m : GameModel S) (sweeps : ℕ) (v : BoardView G N) (rank old new : ℕ) : Type 0 where
+  pub keys : List ℕ
+  pub swept : AreFinished m false v keys
+  pub few : new ≤ old + sweeps * (length keys + rank)
+
+-- how a search ends by so many sweeps
+pub record EndsBySweeps {S G N : Type 0} (m : GameModel S) (s : S) (target : ℤ) (sweeps : ℕ) (old new : WorkView G N) (end : SearchEnd) : Type 0 where
+  pub ends : Ends m s target new end
+  pub owed : new.settled.was_full ≡ false → TakesSweeps m sweeps new.board (m.rank s) old.turns.spent new.turns.spent
+  pub turned : end ≡ Settled → old.turns.spent + 1 ≤ new.turns.spent
+
+-- what a sweep leaves to the next: the gap is above the target, and as close as the rank allows after the last sweep
+pub record LeavesToNext {S G N : Type 0} (m : GameModel S) (s : S) (target : ℤ) (is_last : Bool) (old new : WorkView G N) : Type 0 where
+  pub beyond : IsBeyond new.board (m.key s) target
+  pub close : is_last ≡ true → IsClose m new.board s
+  pub owed : new.settled.was_full ≡ false → TakesSweeps m 1 new.board (m.rank s) old.turns.spent new.turns.spent
+  pub turned : is_last ≡ true → old.turns.spent + 1 ≤ new.turns.spent
+
+-- how the search ends with a sweep, if it does
+abbrev pub IsAfterSweep : {S G N : Type 0} → GameModel S → S → ℤ → Bool → WorkView G N → WorkView G N → Option SearchEnd → Type 0
+IsAfterSweep m s target is_last old new None = LeavesToNext m s target is_last old new
+IsAfterSweep m s target is_last old new (Some end) = EndsBySweeps m s target 1 old new end
+
+-- how the search of a state ends: with regret matching turns are counted by states, with linear stages by sweeps
+pub record HasBounded {S G N : Type 0} (m : GameModel S) (s : S) (target : ℤ) (old new : WorkView G N) (end : SearchEnd) : Type 0 where
+  pub ends : Ends m s target new end
+  pub turns : old.linear ≡ false → HasTaken m s end old new
+  pub owed : old.linear ≡ true → new.settled.was_full ≡ false → TakesSweeps m 3 new.board (m.rank s) old.turns.spent new.turns.spent
+
+-- ---- the moves of a state
+-- a restricted game at the state that holds all moves
+pub record IsFullHeld {S : Type 0} (m : GameModel S) (s : S) (held : HeldMoves) : Type 0 where
+  pub all : HoldsAll held
+  pub rows : held.rows ≡ range_with_len 0 (m.moves One s)
+  pub cols : held.cols ≡ range_with_len 0 (m.moves Two s)
+  pub most_rows : held.most_rows ≡ m.moves One s
+  pub most_cols : held.most_cols ≡ m.moves Two s

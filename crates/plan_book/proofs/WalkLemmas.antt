@@ -1,5 +1,5 @@
 -- A walk through the states that rows reach, one child after another.
-use Rattle.std.proofs.Common.{◌≡◌, ℕ, ◌+◌, ◌<◌, ◌≤◌, Bool, cond, Option, Some, List, [], ◌∷◌, zero, suc, length, eqb, get_or, slice_get, option_and_then, option_map, ◌⊎◌, inl, inr, refl, sym, ap, subst, ◌∙◌, arith}
+use Rattle.std.proofs.Common.{◌≡◌, ℕ, ◌+◌, ◌<◌, ◌≤◌, Bool, true, false, cond, Option, Some, List, [], ◌∷◌, zero, suc, length, eqb, get_or, slice_get, option_and_then, option_map, ◌⊎◌, inl, inr, refl, sym, ap, subst, ◌∙◌, arith}
 use Rattle.std.proofs.lemmas.Bool.{cases_eq, cases_lt}
 use Rattle.std.specs.Option.{IsSome, IfSome}
 use Rattle.std.specs.Prelude.{IsSomeAnd}
@@ -23,7 +23,6 @@ use Rattle.sim_game.proofs.SideLemmas.{side_turn}
 pub record IsWalking {S : Type 0} (m : GameModel S) (side : Side) (rows : ℕ → Option SheetRow) (s : S) (items : List S) (index : ℕ) (before now : ℕ → Option SheetRow) : Type 0 where
   pub grows : (key : ℕ) → IsSome (before key) → IsSome (now key)
   pub here : IsSome (now (m.key s))
-  pub sound : (key : ℕ) → IsSome (now key) → IsSome (before key) ⊎ ((t : S) × IsReached m side rows t × (m.key t ≡ key) × IsSome (rows key))
   pub closed : (t : S) → IsReached m side rows t → IsSome (now (m.key t)) → IsSome (before (m.key t)) ⊎ ((m.key t ≡ m.key s) ⊎ IsFollowed m side rows now t)
   pub done : (k : ℕ) (d : S) → k < index → IsSome (rows (m.key (get_or items k d))) → IsSome (now (m.key (get_or items k d)))
 
@@ -31,6 +30,10 @@ same_item : {X : Type 0} (xs : List X) (k : ℕ) (d e : X) → k < length xs →
 same_item [] k d e h = absurd (omega arith)
 same_item (x ∷ xs) zero d e h = refl
 same_item (x ∷ xs) (suc k) d e h = same_item xs k d e (omega arith)
+
+still_some : (here : Bool) (r : SheetRow) (o : Option SheetRow) → IsSome o → IsSome (cond here (Some r) o)
+still_some true r o h = refl
+still_some false r o h = h
 
 abbrev pub reply_move : Side → Turn → ℕ
 reply_move One t = t.two
@@ -78,23 +81,15 @@ module _ {S : Type 0} (m : GameModel S) (side : Side) (rows : ℕ → Option She
   gathered_nothing s before h = record {
     grows = λ key some. some;
     here = h;
-    sound = λ key some. inl some;
     closed = λ t r some. inl some;
   }
 
   -- the state itself
-  pub walk_start : (s : S) (items : List S) (row : SheetRow) (before now : ℕ → Option SheetRow) → IsReached m side rows s → IsSome (rows (m.key s))
-      → ((key : ℕ) → now key ≡ cond (eqb (m.key s) key) (Some row) (before key)) → IsWalking m side rows s items 0 before now
-  walk_start s items row before now r some_row is = record {
-    grows = λ key some. elim (cases_eq (m.key s) key) [
-      | inl same ↦ subst IsSome (sym (is key ∙ ap (λ (b : Bool). cond b (Some row) (before key)) (is_same (m.key s) key same))) refl
-      | inr other ↦ subst IsSome (sym (is key ∙ ap (λ (b : Bool). cond b (Some row) (before key)) (is_other (m.key s) key other))) some
-    ];
+  pub walk_start : (s : S) (items : List S) (row : SheetRow) (before now : ℕ → Option SheetRow) → ((key : ℕ) → now key ≡ cond (eqb (m.key s) key) (Some row) (before key))
+      → IsWalking m side rows s items 0 before now
+  walk_start s items row before now is = record {
+    grows = λ key some. subst IsSome (sym (is key)) (still_some (eqb (m.key s) key) row (before key) some);
     here = subst IsSome (sym (is (m.key s) ∙ ap (λ (b : Bool). cond b (Some row) (before (m.key s))) (is_same (m.key s) (m.key s) refl))) refl;
-    sound = λ key some. elim (cases_eq (m.key s) key) [
-      | inl same ↦ inr (s, r, same, subst (λ (k : ℕ). IsSome (rows k)) same some_row)
-      | inr other ↦ inl (subst IsSome (is key ∙ ap (λ (b : Bool). cond b (Some row) (before key)) (is_other (m.key s) key other)) some)
-    ];
     closed = λ t r' some. elim (cases_eq (m.key s) (m.key t)) [
       | inl same ↦ inr (inl (sym same))
       | inr other ↦ inl (subst IsSome (is (m.key t) ∙ ap (λ (b : Bool). cond b (Some row) (before (m.key t))) (is_other (m.key s) (m.key t) other)) some)
@@ -111,7 +106,6 @@ module _ {S : Type 0} (m : GameModel S) (side : Side) (rows : ℕ → Option She
   walk_more s items index child before now later h item walk found = record {
     grows = λ key some. found.grows key (walk.grows key some);
     here = found.grows _ walk.here;
-    sound = λ key some. elim (found.sound key some) [ inl old ↦ walk.sound key old | inr new ↦ inr new ];
     closed = λ t r some. elim (found.closed t r some) [
       | inl old ↦ elim (walk.closed t r old) [
         | inl first ↦ inl first
@@ -145,7 +139,6 @@ module _ {S : Type 0} (m : GameModel S) (side : Side) (rows : ℕ → Option She
   walk_end s weights row before now game r is same_weights walk = record {
     grows = walk.grows;
     here = λ some. walk.here;
-    sound = walk.sound;
     closed = λ t r' some. elim (walk.closed t r' some) [
       | inl old ↦ inl old
       | inr rest ↦ inr (elim rest [

@@ -66,8 +66,8 @@ pub fn gather<G: Game>(
     rows: &mut Vec<SheetRow>,
 ) -> Result<(), NoMemory>
     requires reached { IsReached (G.model g) side (best_row side entries.now) s }
-    requires taken { AreTaken side entries.now (get nat_eq left.old) rows.old.items }
-    ensures taken { OnOk result (AreTaken side entries.now (get nat_eq left.new) rows.new.items) }
+    requires taken { AreTaken (G.model g) side entries.now (get nat_eq left.old) rows.old.items }
+    ensures taken { OnOk result (AreTaken (G.model g) side entries.now (get nat_eq left.new) rows.new.items) }
     ensures gathered { OnOk result
         (IsGathered (G.model g) side (best_row side entries.now) s (row_at rows.old.items) (row_at rows.new.items)) }
 {

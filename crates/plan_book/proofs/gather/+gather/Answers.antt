@@ -1,4 +1,4 @@
-use Rattle.std.proofs.Common.{rules, arith, ℕ, ◌≡◌, ◌<◌, Some, List, [], ◌∷◌, ◌++◌, nat_eq, sym, ap, ◌∙◌}
+use Rattle.std.proofs.Common.{rules, arith, ℕ, ◌≡◌, ◌<◌, Option, Some, List, [], ◌∷◌, ◌++◌, nat_eq, sym, ap, ◌∙◌}
 use Rattle.std.specs.HashMap.{get}
 use Rattle.plan_book.specs.declared.SheetRow.{SheetRow}
 use Rattle.plan_book.specs.Children.{children_of}
@@ -6,7 +6,7 @@ use Rattle.plan_book.specs.Books.{best_row, row_of}
 use Rattle.plan_book.specs.Sheets.{row_at}
 use Rattle.plan_book.proofs.SheetLemmas.{reached_reachable}
 use Rattle.plan_book.proofs.TakenLemmas.{left_row, row_more, taken_more}
-use Rattle.plan_book.proofs.WalkLemmas.{walk_start, walk_more, walk_done, item_below, some_is}
+use Rattle.plan_book.proofs.WalkLemmas.{walk_start, walk_more, walk_done, item_below}
 use Rattle.plan_book.proofs.gather.+gather.Goals as goal
 
 pub key-requires : goal.key-requires
@@ -19,17 +19,15 @@ pub loop-child-init : goal.loop-child-init
 loop-child-init g t c =
     let m = g.G.Game.model c.args.g in
     let rows = c.args.rows.now.items in
+    let left : ℕ → Option ℕ = get nat_eq c.args.left.now in
     let e = c.index-entries-place.result in
-    let place : get nat_eq c.args.left.now (m.key c.args.s) ≡ Some c.in-Some.place = ap (λ (k : ℕ). get nat_eq c.args.left.now k) (sym c.key.ensures) ∙ sym c.in-Some.ensures.value in
+    let place : left (m.key c.args.s) ≡ Some c.in-Some.place = ap left (sym c.key.ensures) ∙ sym c.in-Some.ensures.value in
     let pushed : c.push.new.self.items ≡ rows ++ row_of e ∷ [] = c.in_ok-push.ensures.items ∙ ap (λ (r : SheetRow). rows ++ r ∷ []) c.in_ok-row_of.ensures in
-    let row = left_row c.args.side c.args.entries.now (get nat_eq c.args.left.now) rows c.requires.taken (m.key c.args.s) c.in-Some.place e place c.index-entries-place.is in
     record {
       walking = walk_start m c.args.side (best_row c.args.side c.args.entries.now) c.args.s c.deref-child-items.result.now (row_of e) (row_at rows) (row_at c.push.new.self.items)
-          c.requires.reached (some_is _ _ row)
-          (λ q. ap (λ (xs : List SheetRow). row_at xs q) pushed
-          ∙ row_more c.args.side c.args.entries.now (get nat_eq c.args.left.now) rows c.requires.taken (m.key c.args.s) c.in-Some.place e place c.index-entries-place.is q);
-      taken = rw pushed (taken_more c.args.side c.args.entries.now (get nat_eq c.args.left.now) rows c.requires.taken (m.key c.args.s) c.in-Some.place e place c.index-entries-place.is
-          (get nat_eq c.remove.new.self) (λ q. rw (← c.key.ensures) (c.remove.ensures.updates.0 q)));
+          (λ q. ap (λ (xs : List SheetRow). row_at xs q) pushed ∙ row_more m c.args.side c.args.entries.now left rows c.requires.taken c.args.s c.in-Some.place e place c.index-entries-place.is q);
+      taken = rw pushed (taken_more m c.args.side c.args.entries.now left rows c.requires.taken c.args.s c.in-Some.place e place c.index-entries-place.is
+          (get nat_eq c.remove.new.self) c.requires.reached (λ q. rw (← c.key.ensures) (c.remove.ensures.updates.0 q)));
     }
 
 pub gather-requires : goal.gather-requires
@@ -38,7 +36,7 @@ gather-requires g t c =
     let entries = c.args.entries.now in
     let e = c.index-entries-place.result in
     let place : get nat_eq c.args.left.now (m.key c.args.s) ≡ Some c.in-Some.place = ap (λ (k : ℕ). get nat_eq c.args.left.now k) (sym c.key.ensures) ∙ sym c.in-Some.ensures.value in
-    let row = left_row c.args.side entries (get nat_eq c.args.left.now) c.args.rows.now.items c.requires.taken (m.key c.args.s) c.in-Some.place e place c.index-entries-place.is in
+    let row = left_row m c.args.side entries (get nat_eq c.args.left.now) c.args.rows.now.items c.requires.taken c.args.s c.in-Some.place e place c.index-entries-place.is in
     let weights : e.weights ≡ c.as_slice.result.now = sym c.as_slice.ensures in
     let items : c.deref-child-items.result.now ≡ children_of m c.args.side c.as_slice.result.now c.args.s = c.deref-child-items.ensures.value ∙ c.in_ok-below.ensures in
     let below = item_below m (g.met.G.Game.lawful c.args.g) c.args.side (best_row c.args.side entries) c.args.s c.as_slice.result.now (row_of e) c.loop-child.child-index c.child-item.result
@@ -62,7 +60,7 @@ returns g t c =
     let entries = c.args.entries.now in
     let e = c.index-entries-place.result in
     let place : get nat_eq c.args.left.now (m.key c.args.s) ≡ Some c.in-Some.place = ap (λ (k : ℕ). get nat_eq c.args.left.now k) (sym c.key.ensures) ∙ sym c.in-Some.ensures.value in
-    let row = left_row c.args.side entries (get nat_eq c.args.left.now) c.args.rows.now.items c.requires.taken (m.key c.args.s) c.in-Some.place e place c.index-entries-place.is in
+    let row = left_row m c.args.side entries (get nat_eq c.args.left.now) c.args.rows.now.items c.requires.taken c.args.s c.in-Some.place e place c.index-entries-place.is in
     let weights : e.weights ≡ c.as_slice.result.now = sym c.as_slice.ensures in
     let items : c.deref-child-items.result.now ≡ children_of m c.args.side c.as_slice.result.now c.args.s = c.deref-child-items.ensures.value ∙ c.in_ok-below.ensures in
     record {

@@ -13,7 +13,7 @@ use Rattle.plan_book.proofs.gather.best_sheet.Goals as goal
 pub gather-requires : goal.gather-requires
 gather-requires g c = record {
   reached = rw c.root.ensures (reached_root _ c.args.side (best_row c.args.side c.args.entries.now));
-  taken = rw c.new-rows.ensures.items (all_left c.args.side c.args.entries.now (get nat_eq c.in_ok-left.left) c.in_ok-left.ensures);
+  taken = rw c.new-rows.ensures.items (all_left _ c.args.side c.args.entries.now (get nat_eq c.in_ok-left.left) c.in_ok-left.ensures);
 }
 
 pub returns-clause-best : goal.returns-clause-best
@@ -26,6 +26,5 @@ returns-clause-best g c =
     subst (λ (s : g.row.G-State.Denot). IsGathered m side (best_row side entries) s (row_at c.new-rows.result.items) (row_at found)) c.root.ensures c.in_ok-gather.ensures.gathered in
     let walk : IsGathered m side (best_row side entries) m.root (row_at []) (row_at found) =
     subst (λ (xs : List SheetRow). IsGathered m side (best_row side entries) m.root (row_at xs) (row_at found)) c.new-rows.ensures.items from_root in
-    let taken = c.in_ok-gather.ensures.taken in
-    rw c.from_vec.ensures (found_sheet m side entries found c.sort_unstable_by_key.new.self.items taken.each taken.distinct walk c.sort_unstable_by_key.ensures.permutation
-    (IsNonDecreasingBy-from_sort_by_key (λ r. r.key) _ c.sort_unstable_by_key.ensures.sorted (λ a r q k. search rules)))
+    rw c.from_vec.ensures (found_sheet m side entries (get nat_eq c.gather.new.left) found c.sort_unstable_by_key.new.self.items c.in_ok-gather.ensures.taken walk
+    c.sort_unstable_by_key.ensures.permutation (IsNonDecreasingBy-from_sort_by_key (λ r. r.key) _ c.sort_unstable_by_key.ensures.sorted (λ a r q k. search rules)))

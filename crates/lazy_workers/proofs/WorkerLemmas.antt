@@ -25,7 +25,7 @@ use Rattle.serial_ab.specs.Counts.{VisitsView, left_on}
 use Rattle.oracle_search.specs.declared.ends.SearchEnd.{SearchEnd}
 use Rattle.oracle_search.specs.declared.ends.SearchEnd.TheVariants.{Reached, Settled, Spent, Full}
 use Rattle.oracle_search.specs.Finished.{FinishedView, IsFinished, AreApart, IsWithin, rank_gap}
-use Rattle.oracle_search.specs.Passes.{IsPassedKey, TakesPasses}
+use Rattle.oracle_search.specs.Sweeps.{TakesSweeps}
 use Rattle.oracle_search.specs.declared.worker.MemoryLimits.{MemoryLimits}
 use Rattle.oracle_search.specs.Searches.{IsWorked, IsBoardFull, Ends, TakesTurns, HasTaken, IsPureTight, HasVisitsBelow as Whole}
 use Rattle.oracle_search.specs.Workers.{WorkView, is_linear}
@@ -38,12 +38,12 @@ use Rattle.lazy_workers.specs.Workers.{Rows, KnowsEach, IsFinishedKey, AreOwedTo
 use Rattle.lazy_workers.specs.Keeping.{HasLimit}
 use Rattle.lazy_workers.specs.Searched.{IsFar, HasRoom, HasVisits, IsPureClose, TooFewTurns, IsSearched}
 
--- the turns of a search that ended so: 63 to a state with regret matching, a turn of each of three passes with linear stages
+-- the turns of a search that ended so: 63 to a state with regret matching, a turn of each of three sweeps with linear stages
 abbrev pub AreTaken : {S G N : Type 0} → GameModel S → Ask → SearchEnd → WorkView G N → WorkView G N → Type 0
 AreTaken m ask end start last = HasTaken m m.root end start last
-    ⊎ ((ask.stages ≡ Regret → ⊥) × (last.settled.was_full ≡ false → TakesPasses m 3 last.board (m.rank m.root) start.turns.spent last.turns.spent))
+    ⊎ ((ask.stages ≡ Regret → ⊥) × (last.settled.was_full ≡ false → TakesSweeps m 3 last.board (m.rank m.root) start.turns.spent last.turns.spent))
 
--- whether the solver of a method makes passes
+-- whether the solver of a method makes sweeps
 abbrev IsOfKind : StageMethod → SolverKind → Type 0
 IsOfKind stages kind = (is_linear (solver_of kind) ≡ false) ⊎ ((stages ≡ Regret → ⊥) × (is_linear (solver_of kind) ≡ true))
 
@@ -132,17 +132,17 @@ module _ {S : Type 0} (m : GameModel S) (game : IsGame m) where
                 ⊎_elim (λ (a : TakesTurns (m.rank m.root) start last). a) (λ (b : (left_of last.turns ≡ 0) × TakesTurns (m.rank m.root) start last). b.1) (takes.unless_full quiet) in
                 omega arith
 
-            finished : (key : ℕ) → IsFinished m last.board.total last.board 32 key → IsFinishedKey m ask last.board.seen has_row key
+            finished : (key : ℕ) → IsFinished m true last.board 32 key → IsFinishedKey m ask last.board.seen has_row key
             finished key f = record {
               named = record { state = f.state; reachable = f.reachable; goes_on = f.goes_on; is_key = f.is_key };
               row = f.row;
               has_row = f.held;
               close = λ _ stage is. subst (λ (k : ℕ). IsWithin last.board k (pos (rank_gap m stage (m.rank f.state)))) f.is_key
-                  (f.close stage (subst (λ (w : ℕ). IsStageGap m w stage) (sym total) is));
+                  (f.close refl stage (subst (λ (w : ℕ). IsStageGap m w stage) (sym total) is));
             }
 
-            passed : (ask.stages ≡ Regret → ⊥) → (key : ℕ) → IsPassedKey m false last.board.total last.board 32 key → IsFinishedKey m ask last.board.seen has_row key
-            passed not key f = record {
+            swept : (ask.stages ≡ Regret → ⊥) → (key : ℕ) → IsFinished m false last.board 32 key → IsFinishedKey m ask last.board.seen has_row key
+            swept not key f = record {
               named = record { state = f.state; reachable = f.reachable; goes_on = f.goes_on; is_key = f.is_key };
               row = f.row;
               has_row = f.held;
@@ -156,15 +156,15 @@ module _ {S : Type 0} (m : GameModel S) (game : IsGame m) where
                 (λ (a : HasTaken m m.root Spent start last). record {
                   keys = last.settled.keys;
                   apart = worked.kept.finished.apart;
-                  each = All-weaker (IsFinished m last.board.total last.board 32) (IsFinishedKey m ask last.board.seen has_row) finished last.settled.keys worked.kept.finished.each;
+                  each = All-weaker (IsFinished m true last.board 32) (IsFinishedKey m ask last.board.seen has_row) finished last.settled.keys worked.kept.finished.each;
                   few = taken all a quiet;
                 })
-                (λ (b : (ask.stages ≡ Regret → ⊥) × (last.settled.was_full ≡ false → TakesPasses m 3 last.board (m.rank m.root) start.turns.spent last.turns.spent)).
-                let it : TakesPasses m 3 last.board (m.rank m.root) start.turns.spent last.turns.spent = b.1 quiet in
+                (λ (b : (ask.stages ≡ Regret → ⊥) × (last.settled.was_full ≡ false → TakesSweeps m 3 last.board (m.rank m.root) start.turns.spent last.turns.spent)).
+                let it : TakesSweeps m 3 last.board (m.rank m.root) start.turns.spent last.turns.spent = b.1 quiet in
                 let few = it.few in record {
                   keys = it.keys;
-                  apart = it.passed.apart;
-                  each = All-weaker (IsPassedKey m false last.board.total last.board 32) (IsFinishedKey m ask last.board.seen has_row) (passed b.0) it.keys it.passed.each;
+                  apart = it.swept.apart;
+                  each = All-weaker (IsFinished m false last.board 32) (IsFinishedKey m ask last.board.seen has_row) (swept b.0) it.keys it.swept.each;
                   few = omega arith;
                 })
                 takes

@@ -56,7 +56,6 @@ finished_open {m = m} {is_close = is_close} {v = v} {keys = keys} f = record {
 }
 
 module _ {S G N : Type 0} {m : GameModel S} {is_close : Bool} where
-
   pub finished_later : {v w : BoardView G N} {keys : List ℕ} → IsLater v w → AreFinished m is_close v keys → AreFinished m is_close w keys
   finished_later {v} {w} {keys} later f =
       record { each = All-weaker (IsFinished m is_close v 32) (IsFinished m is_close w 32) (λ key. key_later (λ e. e) (omega arith) later) keys f.each; apart = f.apart }

@@ -137,14 +137,14 @@ pub close_full : {S G N : Type 0} (m : GameModel S) (game : IsGame m) (s : S) �
 close_full m game s goes_on r v w held (Grown row col) same full done all gap = absurd (all tt)
 close_full m game s goes_on r v w held (Done lower upper) same full done all gap =
     close_after m s goes_on game r v w held lower upper same is_row is_col (λ one two has_one has_two. done one two (is_row one has_one) (is_col two has_two)) gap where
-  is_move : (moves : ℕ) → 1 ≤ moves → (x : ℕ) → Contains (range_with_len 0 moves) x → x < moves
-  is_move moves some x has = All-contains (λ (n : ℕ). n < moves) (range_with_len 0 moves) x (all_moves_held moves some).within has
+      is_move : (moves : ℕ) → 1 ≤ moves → (x : ℕ) → Contains (range_with_len 0 moves) x → x < moves
+      is_move moves some x has = All-contains (λ (n : ℕ). n < moves) (range_with_len 0 moves) x (all_moves_held moves some).within has
 
-  is_row : (one : ℕ) → Contains held.rows one → one < m.moves One s
-  is_row one has = is_move (m.moves One s) (game.other_moves One s r goes_on) one (subst (λ (l : List ℕ). Contains l one) full.rows has)
+      is_row : (one : ℕ) → Contains held.rows one → one < m.moves One s
+      is_row one has = is_move (m.moves One s) (game.other_moves One s r goes_on) one (subst (λ (l : List ℕ). Contains l one) full.rows has)
 
-  is_col : (two : ℕ) → Contains held.cols two → two < m.moves Two s
-  is_col two has = is_move (m.moves Two s) (game.other_moves Two s r goes_on) two (subst (λ (l : List ℕ). Contains l two) full.cols has)
+      is_col : (two : ℕ) → Contains held.cols two → two < m.moves Two s
+      is_col two has = is_move (m.moves Two s) (game.other_moves Two s r goes_on) two (subst (λ (l : List ℕ). Contains l two) full.cols has)
 
 -- bounds that meet are within each target
 pub met_not_beyond : {G N : Type 0} (v w : BoardView G N) (key : ℕ) (target : ℤ) → pos 0 ≤ℤ target → IsLater v w → IsWithin v key (pos 0) → IsBeyond w key target → ⊥

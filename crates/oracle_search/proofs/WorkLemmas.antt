@@ -330,7 +330,6 @@ module _ {S G N : Type 0} {m : GameModel S} {s : S} {target : ℤ} {u v : WorkVi
     at_once = λ visits not near. let wrong : false ≡ true = sym not ∙ full in absurd (cc);
   }
 
-
 -- ---- a state that is left to another worker
 -- no reachable state has a greater rank than the root
 pub rank_below_root : {S : Type 0} (m : GameModel S) → IsGame m → (s : S) → Reachable m s → m.rank s ≤ m.rank m.root

@@ -103,7 +103,11 @@ pub(crate) fn make_sweeps<G: Game, B: Bounds<G>, T: Gate>(
 {
     worker.forget_searches(setup.alloc);
     let first = Sweep::first(setup.game, s, board.total());
-    let coarse = if target < first.goal / 4 { first.goal } else { 0 };
+    let coarse = if target < first.goal / 4 {
+        first.goal
+    } else {
+        0
+    };
     for goal in [coarse, target] {
         if goal > 0 {
             let sweep = first.with_goal(goal);

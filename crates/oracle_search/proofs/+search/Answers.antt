@@ -1,11 +1,9 @@
-use Rattle.std.proofs.Common.{rules, ℕ, ◌+◌, ◌-◌, ◌<◌, pos, Some, Err, length, w64, refl, sym, ap, ◌∙◌, arith, below_more}
+use Rattle.std.proofs.Common.{rules, ℕ, ◌+◌, ◌<◌, pos, Some, Err, length, w64, refl, sym, ap, ◌∙◌, arith, below_more}
 use Rattle.std.proofs.lemmas.Int.{ints, to_z-of_z}
 use Rattle.std.proofs.lemmas.Result.{IfOk-weaker}
 use Rattle.std.proofs.lemmas.List.Elements.{All-get_or, All-contains}
-use Rattle.sim_game.specs.Model.{IsEnd}
 use Rattle.matrix_game.specs.Budget.{Budget, left_of}
 use Rattle.restricted_game.proofs.ChildLemmas.{no_child_rows, child_rows_later}
-use Rattle.restricted_game.specs.Held.{count_held}
 use Rattle.oracle_search.specs.declared.ends.Stop.TheVariants as stops
 use Rattle.oracle_search.specs.Finished.{IsClose}
 use Rattle.oracle_search.specs.Workers.{WorkerView, at_work}
@@ -15,12 +13,12 @@ use Rattle.oracle_search.proofs.+search.Goals as goal
 use Rattle.oracle_search.proofs.BetterLemmas.{gap_closed, serial_closed}
 use Rattle.oracle_search.proofs.GrowLemmas.{IsSearching, IsGrowing, searching_none, searching_read, searching_more, searching_stopped, child_done, child_stopped, stop_full, stop_kept}
 use Rattle.oracle_search.proofs.GrowLemmas.{stopped_ended, stopped_ends, early_ends, early_reached, growing_none, growing_stopped, growing_passed, growing_turn, growing_more, close_after}
-use Rattle.oracle_search.proofs.KeyLemmas.{close_later, done_later, are_done_later, done_within, key_done, not_added}
+use Rattle.oracle_search.proofs.KeyLemmas.{close_later, done_later, are_done_later, key_done, not_added}
 use Rattle.oracle_search.proofs.RingLemmas.{pair_inside, ring_contained}
 use Rattle.oracle_search.proofs.SweepLemmas.{bounded_early, bounded_grown, bounded_swept}
 use Rattle.oracle_search.proofs.TurnLemmas.{taken_by, taken_full, taken_added}
 use Rattle.oracle_search.proofs.WorkLemmas.{IsAfter, worked_none, worked_read, worked_after, worked_full, worked_wider, worked_added, worked_child, full_kept, full_child, stop_under, drawn_after}
-use Rattle.oracle_search.proofs.WorkLemmas.{at_row_after, at_children_from, at_children_after, at_child, pure_later, ahead_later, pure_within, pure_beyond, pure_full}
+use Rattle.oracle_search.proofs.WorkLemmas.{at_row_after, at_children_after, at_child, pure_later, ahead_later, pure_within, pure_beyond}
 use Rattle.oracle_search.proofs.+search.Goals.{children::search_child-After-search_row, children::search_child-In-None-stop, children::search_draws-After-drawn-child, children::search_draws-In-Err}
 use Rattle.oracle_search.proofs.+search.Goals.{growth::grow-In-Ok-None, growth::grow-After-take_turn, state::search_row-After-bound_state, state::search_row-After-ended_early}
 
@@ -38,11 +36,6 @@ finished g t c = child_done (g.G.Game.model c.args.setup.now.game) c.args.s (at_
 pub children::search_child-returns-in-None-clause-worked : goal.children::search_child-returns-in-None-clause-worked
 children::search_child-returns-in-None-clause-worked g t c = worked_none c.requires.here.kept
 
-pub children::search_child-returns-in-None-clause-searched : goal.children::search_child-returns-in-None-clause-searched
-children::search_child-returns-in-None-clause-searched g t c =
-    let end : IsEnd (g.G.Game.model c.args.setup.now.game) c.args.s = rw c.in-None.is at c.requires.here.has_row in
-    (λ goes_on. absurd (omega arith), taken_by refl refl)
-
 pub children::search_child-returns-then-has-clause-worked : goal.children::search_child-returns-then-has-clause-worked
 children::search_child-returns-then-has-clause-worked g t c = worked_none c.requires.here.kept
 
@@ -55,16 +48,6 @@ children::search_child-returns-then-has-clause-searched g t c = (
 
 pub children::search_child-returns-then-gap_at-eq0-clause-worked : goal.children::search_child-returns-then-gap_at-eq0-clause-worked
 children::search_child-returns-then-gap_at-eq0-clause-worked g t c = worked_read (worked_none c.requires.here.kept) c.gap_at.ensures.later c.gap_at.ensures.entries
-
-pub children::search_child-returns-then-gap_at-eq0-clause-searched : goal.children::search_child-returns-then-gap_at-eq0-clause-searched
-children::search_child-returns-then-gap_at-eq0-clause-searched g t c =
-    let m = g.G.Game.model c.args.setup.now.game in
-    let v = g.B.Bounds.view c.gap_at.new.board in
-    let met = gap_closed m (g.met.G.Game.lawful c.args.setup.now.game) c.args.s v c.gap_at.result c.gap_at.ensures.enclosed c.gap_at.ensures.gap c.if-gap_at-eq0.true in
-    (done_within m c.args.s v (omega (arith, ints)), taken_by refl refl)
-
-pub children::search_child-gap_at-requires-clause-row : goal.children::search_child-gap_at-requires-clause-row
-children::search_child-gap_at-requires-clause-row g t c = (rw c.in-Some.is at c.requires.here).has_row.holds
 
 pub children::search_child-search_row-requires : goal.children::search_child-search_row-requires
 children::search_child-search_row-requires g t c =
@@ -131,12 +114,6 @@ full g t c =
 pub children::search_draws-loop-draw-init : goal.children::search_draws-loop-draw-init
 children::search_draws-loop-draw-init g t c = searching_none c.requires.here.kept c.requires.here.children (λ d l. absurd (omega arith))
 
-pub children::search_draws-drawn-child-requires-clause-draw : goal.children::search_draws-drawn-child-requires-clause-draw
-children::search_draws-drawn-child-requires-clause-draw g t c = let count = c.draws-draw-end.ensures in let inside = c.loop-draw-test.true in omega arith
-
-pub children::search_draws-claim-requires-clause-draw : goal.children::search_draws-claim-requires-clause-draw
-children::search_draws-claim-requires-clause-draw g t c = let count = c.draws-draw-end.ensures in let inside = c.loop-draw-test.true in omega arith
-
 pub children::search_draws-search_child-requires : goal.children::search_draws-search_child-requires
 children::search_draws-search_child-requires g t c =
     let k = claimed g t (goal.at.children::search_draws-search_child-requires g t c).After-drawn-child in
@@ -179,11 +156,6 @@ children::search_draws-returns-in-Err-search_child-clause-worked g t c =
 
 pub children::search_draws-returns-in-Err-search_child-clause-children : goal.children::search_draws-returns-in-Err-search_child-clause-children
 children::search_draws-returns-in-Err-search_child-clause-children g t c = child_rows_later _ _ _ _ _ c.search_child.ensures.worked.board.later c.claim.ensures.children
-
-pub children::search_draws-returns-clause-searched : goal.children::search_draws-returns-clause-searched
-children::search_draws-returns-clause-searched g t c =
-    let inside = c.loop-draw-test.false in let count = c.draws-draw-end.ensures in
-    (λ draw l. c.loop-draw.invariant.done draw (omega arith), c.loop-draw.invariant.turns)
 
 pub children::search_draws-returns-in-Err-clause-worked : goal.children::search_draws-returns-in-Err-clause-worked
 children::search_draws-returns-in-Err-clause-worked g t c = worked_full c.loop-draw.invariant.worked c.claim.ensures.later c.claim.ensures.entries c.note_full.ensures
@@ -258,13 +230,6 @@ pub growth::grow-growth-init : goal.growth::grow-growth-init
 growth::grow-growth-init g t c =
     growing_none c.requires.here.has_row.goes_on c.requires.here.kept c.in-Ok.ensures.held (no_child_rows _ _ c.args.s c.in-Ok.growth.children c.in-Ok.ensures.children)
 
-pub growth::grow-search_children-requires : goal.growth::grow-search_children-requires
-growth::grow-search_children-requires g t c =
-    let here = at_children_from c.requires.here c.growth.invariant.worked c.growth.invariant.children in
-    let rows = c.growth.invariant.rows in let cols = c.growth.invariant.cols in
-    let regret = c.growth.invariant.worked.linear ∙ c.requires.regret in
-    search rules
-
 pub growth::grow-take_turn-requires-clause-here : goal.growth::grow-take_turn-requires-clause-here
 growth::grow-take_turn-requires-clause-here g t c = at_row_after c.requires.here (worked_after c.growth.invariant.worked c.search_children.ensures.worked)
 
@@ -331,12 +296,6 @@ growth::grow-returns-in-Done-clause-ended g t c =
       turns = growing_turn here.has_row.goes_on (passed g t (goal.at.growth::grow-returns-in-Done-clause-ended g t c).In-Ok-None) c.in-Ok-take_turn.ensures.turn
           (ap (λ (w : WorkerView). w.settled) c.take_turn.ensures.same);
     }
-
-pub growth::grow-growth-smaller : goal.growth::grow-growth-smaller
-growth::grow-growth-smaller g t c =
-    let grown = rw c.in-Grown.is at c.in-Ok-take_turn.ensures.grown in
-    let rises = grown.0 in let few = grown.1 in
-    let smaller : 64 - count_held c.take_turn.new.growth.held < 64 - count_held c.growth.growth.held = omega arith in smaller
 
 pub growth::grow-growth-preserved : goal.growth::grow-growth-preserved
 growth::grow-growth-preserved g t c = growing_more c.requires.here.has_row.goes_on (passed g t (goal.at.growth::grow-growth-preserved g t c).In-Ok-None) c.in-Ok-take_turn.end
@@ -506,9 +465,6 @@ state::search_row-returns-in-Err-Full-clause-ended g t c =
     (stop_full _ _ c.bound_state.new.worker noted (full_kept _ c.args.s c.stopped.ensures.later (c.bound_state.ensures.full (c.in-Err-Full.is ∙ ap Err c.in-Err-Full.field-0-is))))
     (rw (to_z-of_z w64 c.args.target c.ranges.target) at c.stopped.ensures.end))
     (ap (λ (w : WorkerView). w.turns.spent) noted ∙ ap (λ (w : WorkerView). w.turns.spent) same) (ap (λ (w : WorkerView). w.settled.keys) noted ∙ ap (λ (w : WorkerView). w.settled.keys) same)
-
-pub state::search_row-returns-in-Err-Full-clause-pure : goal.state::search_row-returns-in-Err-Full-clause-pure
-state::search_row-returns-in-Err-Full-clause-pure g t c = pure_full (ap (λ (w : WorkerView). w.settled.was_full) c.note_full.ensures)
 
 pub state::search_row-returns-in-Err-NoMemory-clause-worked : goal.state::search_row-returns-in-Err-NoMemory-clause-worked
 state::search_row-returns-in-Err-NoMemory-clause-worked g t c = bounded g t (goal.at.state::search_row-returns-in-Err-NoMemory-clause-worked g t c).After-bound_state

@@ -6,7 +6,7 @@ use Rattle.oracle_search.specs.Searches.{IsWorked, IsStoppedAs}
 use Rattle.oracle_search.proofs.GrowLemmas.{stop_kept, stopped_ends, stopped_unsettled}
 use Rattle.oracle_search.proofs.KeyLemmas.{done_later}
 use Rattle.oracle_search.proofs.SweepLemmas.{met_not_beyond, owed_sweep}
-use Rattle.oracle_search.proofs.WorkLemmas.{worked_none, worked_after, worked_read, worked_swept, at_row_after}
+use Rattle.oracle_search.proofs.WorkLemmas.{worked_none, worked_after, worked_read, worked_swept}
 use Rattle.oracle_search.proofs.sweeping.make_sweep.Given.{Over}
 use Rattle.oracle_search.proofs.sweeping.make_sweep.Goals as goal
 use Rattle.oracle_search.proofs.sweeping.make_sweep.Goals.{After-sweep_state}
@@ -15,9 +15,6 @@ use Rattle.oracle_search.proofs.sweeping.make_sweep.Goals.{After-sweep_state}
 swept : (g : Over) (c : After-sweep_state g) → IsWorked (g.G.Game.model c.args.setup.now.game) c.args.s (at_work (g.B.Bounds.view c.args.board.now) c.args.worker.now)
     (at_work (g.B.Bounds.view c.sweep_state.new.board) c.sweep_state.new.worker)
 swept g c = worked_after (worked_swept [] (worked_none c.requires.here.kept) c.begin_sweep.ensures) c.sweep_state.ensures.swept.worked
-
-pub sweep_state-requires-clause-here : goal.sweep_state-requires-clause-here
-sweep_state-requires-clause-here g c = at_row_after c.requires.here (worked_swept {limit = 0} [] (worked_none c.requires.here.kept) c.begin_sweep.ensures)
 
 pub returns-then-is_within_told-clause-worked : goal.returns-then-is_within_told-clause-worked
 returns-then-is_within_told-clause-worked g c =

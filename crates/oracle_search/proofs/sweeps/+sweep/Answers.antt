@@ -1,17 +1,16 @@
-use Rattle.std.proofs.Common.{rules, inl, inr, ⊎_elim, ℕ, ◌+◌, ◌*◌, ◌%◌, ◌<◌, Err, Contains, refl, ap, ◌∙◌, arith, below_more}
+use Rattle.std.proofs.Common.{rules, ℕ, ◌*◌, ◌%◌, ◌<◌, Err, Contains, refl, ap, ◌∙◌, arith, below_more}
 use Rattle.std.proofs.lemmas.Result.{IfOk-weaker}
-use Rattle.sim_game.specs.Model.{IsEnd}
 use Rattle.bounds_board.proofs.ViewLemmas.{later_refl}
-use Rattle.restricted_game.proofs.ChildLemmas.{no_child_rows, child_rows_later}
+use Rattle.restricted_game.proofs.ChildLemmas.{child_rows_later}
 use Rattle.oracle_search.specs.Workers.{WorkerView, at_work}
 use Rattle.oracle_search.specs.Searches.{IsBoardFull, AreDone}
 use Rattle.oracle_search.specs.Sweeps.{HasSwept, IsSweepDone}
 use Rattle.oracle_search.proofs.GrowLemmas.{stop_full}
 use Rattle.oracle_search.proofs.KeyLemmas.{done_later, are_done_later, not_added}
-use Rattle.oracle_search.proofs.RingLemmas.{pair_inside, ring_all}
-use Rattle.oracle_search.proofs.SweepLemmas.{IsSweeping, swept_by, swept_none, swept_after, swept_wider, swept_full, swept_child, one_none, one_full, one_wider, one_after, ended_after}
+use Rattle.oracle_search.proofs.RingLemmas.{ring_all}
+use Rattle.oracle_search.proofs.SweepLemmas.{IsSweeping, swept_by, swept_none, swept_after, swept_wider, swept_full, swept_child, one_none, one_full, one_after, ended_after}
 use Rattle.oracle_search.proofs.SweepLemmas.{sweeping_none, sweeping_read, sweeping_more}
-use Rattle.oracle_search.proofs.WorkLemmas.{IsAfter, worked_none, drawn_after, at_row_after, at_children_from, at_children_after, at_child, full_child, stop_under}
+use Rattle.oracle_search.proofs.WorkLemmas.{IsAfter, drawn_after, at_row_after, at_child, full_child, stop_under}
 use Rattle.oracle_search.proofs.sweeps.+sweep.Given as given
 use Rattle.oracle_search.proofs.sweeps.+sweep.Goals as goal
 use Rattle.oracle_search.proofs.sweeps.+sweep.Goals.{sweep_child-After-is_enough, sweep_draws-After-drawn-child, sweep_draws-In-Err}
@@ -26,22 +25,8 @@ looked g t c = swept_by (swept_none c.requires.here.kept c.requires.swept) c.is_
 pub sweep_child-returns-in-None-clause-swept : goal.sweep_child-returns-in-None-clause-swept
 sweep_child-returns-in-None-clause-swept g t c = swept_none c.requires.here.kept c.requires.swept
 
-pub sweep_child-returns-in-None-clause-ended : goal.sweep_child-returns-in-None-clause-ended
-sweep_child-returns-in-None-clause-ended g t c =
-    let end : IsEnd (g.G.Game.model c.args.setup.now.game) c.args.s = rw c.in-None.is at c.requires.here.has_row in
-    (λ last goes_on. absurd (omega arith), one_none refl refl)
-
-pub sweep_child-is_enough-requires-clause-here : goal.sweep_child-is_enough-requires-clause-here
-sweep_child-is_enough-requires-clause-here g t c = rw c.in-Some.is at c.requires.here
-
 pub sweep_child-returns-then-is_enough-clause-swept : goal.sweep_child-returns-then-is_enough-clause-swept
 sweep_child-returns-then-is_enough-clause-swept g t c = swept_wider (omega arith) (looked g t (goal.at.sweep_child-returns-then-is_enough-clause-swept g t c).After-is_enough)
-
-pub sweep_child-returns-then-is_enough-clause-ended : goal.sweep_child-returns-then-is_enough-clause-ended
-sweep_child-returns-then-is_enough-clause-ended g t c = (
-  λ last. c.in-Ok.ensures.last last c.if-is_enough.true,
-  one_none (ap (λ (w : WorkerView). w.turns.spent) c.is_enough.ensures.same) (ap (λ (w : WorkerView). w.swept) c.is_enough.ensures.same),
-)
 
 pub sweep_child-sweep_state-requires : goal.sweep_child-sweep_state-requires
 sweep_child-sweep_state-requires g t c =
@@ -64,10 +49,6 @@ pub sweep_child-returns-in-Err-Full-clause-swept : goal.sweep_child-returns-in-E
 sweep_child-returns-in-Err-Full-clause-swept g t c = swept_wider (omega arith)
     (swept_full (looked g t (goal.at.sweep_child-returns-in-Err-Full-clause-swept g t c).After-is_enough) (later_refl _) refl c.note_full.ensures
     (c.is_enough.ensures.full (c.in-Err-Full.is ∙ ap Err c.in-Err-Full.field-0-is)))
-
-pub sweep_child-returns-in-Err-Full-clause-ended : goal.sweep_child-returns-in-Err-Full-clause-ended
-sweep_child-returns-in-Err-Full-clause-ended g t c =
-    (stop_full _ _ c.is_enough.new.worker c.note_full.ensures (c.is_enough.ensures.full (c.in-Err-Full.is ∙ ap Err c.in-Err-Full.field-0-is)), one_full c.is_enough.new.worker c.note_full.ensures)
 
 pub sweep_child-returns-in-Err-NoMemory-clause-swept : goal.sweep_child-returns-in-Err-NoMemory-clause-swept
 sweep_child-returns-in-Err-NoMemory-clause-swept g t c =
@@ -96,9 +77,6 @@ full g t c =
 
 pub sweep_draws-loop-draw-init : goal.sweep_draws-loop-draw-init
 sweep_draws-loop-draw-init g t c = sweeping_none c.requires.here.kept c.requires.swept c.requires.here.children (λ d l. absurd (omega arith))
-
-pub sweep_draws-claim-requires-clause-draw : goal.sweep_draws-claim-requires-clause-draw
-sweep_draws-claim-requires-clause-draw g t c = let count = c.draws-draw-end.ensures in let inside = c.loop-draw-test.true in omega arith
 
 pub sweep_draws-sweep_child-requires : goal.sweep_draws-sweep_child-requires
 sweep_draws-sweep_child-requires g t c =
@@ -140,11 +118,6 @@ sweep_draws-returns-in-Err-sweep_child-clause-swept g t c =
 pub sweep_draws-returns-in-Err-sweep_child-clause-children : goal.sweep_draws-returns-in-Err-sweep_child-clause-children
 sweep_draws-returns-in-Err-sweep_child-clause-children g t c = child_rows_later _ _ _ _ _ c.sweep_child.ensures.swept.worked.board.later c.claim.ensures.children
 
-pub sweep_draws-returns-clause-ended : goal.sweep_draws-returns-clause-ended
-sweep_draws-returns-clause-ended g t c =
-    let inside = c.loop-draw-test.false in let count = c.draws-draw-end.ensures in
-    (λ last draw l. c.loop-draw.invariant.done draw (omega arith) last, c.loop-draw.invariant.turns)
-
 pub sweep_draws-returns-in-Err-clause-swept : goal.sweep_draws-returns-in-Err-clause-swept
 sweep_draws-returns-in-Err-clause-swept g t c = swept_full c.loop-draw.invariant.swept c.claim.ensures.later c.claim.ensures.entries c.note_full.ensures
     (full g t (goal.at.sweep_draws-returns-in-Err-clause-swept g t c).In-Err)
@@ -156,16 +129,6 @@ sweep_draws-returns-in-Err-clause-ended g t c = (stop_full _ _ c.loop-draw.worke
 pub sweep_children-loop-turn-init : goal.sweep_children-loop-turn-init
 sweep_children-loop-turn-init g t c = sweeping_none c.requires.here.kept c.requires.swept c.requires.here.children (λ last turn l. absurd (omega arith))
 
-pub sweep_children-sweep_draws-requires : goal.sweep_children-sweep_draws-requires
-sweep_children-sweep_draws-requires g t c =
-    let below = c.loop-turn-test.true in
-    let inside = pair_inside (c.first_pair-first.result % (c.moves.result * c.moves-cols.result) + c.loop-turn.turn) c.moves.result c.moves-cols.result (omega arith) in
-    let here = at_children_after c.requires.here c.loop-turn.invariant.swept.worked c.loop-turn.invariant.children in
-    let swept = c.loop-turn.invariant.swept.kept in
-    let one = rw c.moves.ensures at inside.0 in
-    let two = rw c.moves-cols.ensures at inside.1 in
-    search rules
-
 pub sweep_children-loop-turn-preserved : goal.sweep_children-loop-turn-preserved
 sweep_children-loop-turn-preserved g t c =
     let m = g.G.Game.model c.args.setup.now.game in
@@ -176,11 +139,6 @@ sweep_children-loop-turn-preserved g t c =
 
 pub sweep_children-returns-in-Ok-Some-clause-swept : goal.sweep_children-returns-in-Ok-Some-clause-swept
 sweep_children-returns-in-Ok-Some-clause-swept g t c = swept_after c.loop-turn.invariant.swept c.sweep_draws.ensures.swept
-
-pub sweep_children-returns-in-Ok-Some-clause-ended : goal.sweep_children-returns-in-Ok-Some-clause-ended
-sweep_children-returns-in-Ok-Some-clause-ended g t c =
-    let end = rw c.in-Ok-Some.field-0-is at c.in-Ok-Some.ensures.ended in
-    (end.0, one_after c.sweep_draws.ensures.swept.worked (omega arith) c.loop-turn.invariant.turns end.1)
 
 pub sweep_children-returns-in-Err-clause-swept : goal.sweep_children-returns-in-Err-clause-swept
 sweep_children-returns-in-Err-clause-swept g t c = swept_after c.loop-turn.invariant.swept c.sweep_draws.ensures.swept
@@ -198,27 +156,11 @@ sweep_children-returns-clause-ended g t c =
 pub sweep_state-returns-in-Err-clause-swept : goal.sweep_state-returns-in-Err-clause-swept
 sweep_state-returns-in-Err-clause-swept g t c = swept_none c.requires.here.kept c.requires.swept
 
-pub sweep_state-sweep_children-requires : goal.sweep_state-sweep_children-requires
-sweep_state-sweep_children-requires g t c =
-    let m = g.G.Game.model c.args.setup.now.game in
-    let v = g.B.Bounds.view c.args.board.now in
-    let here = at_children_from c.requires.here (worked_none {limit = 0} c.requires.here.kept) (no_child_rows m v c.args.s c.in-Ok.growth.children c.in-Ok.ensures.children) in
-    search rules
-
 pub sweep_state-returns-in-Ok-Some-clause-swept : goal.sweep_state-returns-in-Ok-Some-clause-swept
 sweep_state-returns-in-Ok-Some-clause-swept g t c = swept_wider (omega arith) c.sweep_children.ensures.swept
 
-pub sweep_state-returns-in-Ok-Some-clause-ended : goal.sweep_state-returns-in-Ok-Some-clause-ended
-sweep_state-returns-in-Ok-Some-clause-ended g t c = let end = rw c.in-Ok-Some.field-0-is at c.in-Ok-Some.ensures.ended in (end.0, one_wider (omega arith) end.1)
-
 pub sweep_state-returns-in-Err-sweep_children-clause-swept : goal.sweep_state-returns-in-Err-sweep_children-clause-swept
 sweep_state-returns-in-Err-sweep_children-clause-swept g t c = swept_wider (omega arith) c.sweep_children.ensures.swept
-
-pub sweep_state-close_in-requires-clause-here : goal.sweep_state-close_in-requires-clause-here
-sweep_state-close_in-requires-clause-here g t c = at_row_after c.requires.here c.sweep_children.ensures.swept.worked
-
-pub sweep_state-close_in-requires-clause-done : goal.sweep_state-close_in-requires-clause-done
-sweep_state-close_in-requires-clause-done g t c = let end = rw c.in-Ok-None.field-0-is at c.in-Ok-None.ensures.ended in end.0
 
 pub sweep_state-close_in-requires-clause-unmet : goal.sweep_state-close_in-requires-clause-unmet
 sweep_state-close_in-requires-clause-unmet g t c =
@@ -231,8 +173,3 @@ pub sweep_state-returns-clause-ended : goal.sweep_state-returns-clause-ended
 sweep_state-returns-clause-ended g t c =
     let end = rw c.in-Ok-None.field-0-is at c.in-Ok-None.ensures.ended in
     IfOk-weaker c.close_in.result _ _ (ended_after c.close_in.ensures.swept.worked _ _ end.1) c.close_in.ensures.ended
-
-pub sweep_state-returns-clause-turned : goal.sweep_state-returns-clause-turned
-sweep_state-returns-clause-turned g t c is last =
-    let before = c.sweep_children.ensures.swept.worked.turns.rises in
-    ⊎_elim (λ took. inl (omega arith)) inr (c.close_in.ensures.turned is last)

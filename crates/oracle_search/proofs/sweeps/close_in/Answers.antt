@@ -1,8 +1,8 @@
-use Rattle.std.proofs.Common.{rules, ◌≡◌, true, Err, refl, ap, ◌∙◌}
+use Rattle.std.proofs.Common.{◌≡◌, true, Err, refl, ap, ◌∙◌}
 use Rattle.sim_game.specs.Model.{LeadsTo}
 use Rattle.bounds_board.proofs.FullLemmas.{full_weaker}
 use Rattle.bounds_board.proofs.ViewLemmas.{later_trans}
-use Rattle.restricted_game.specs.Stages.{WereStageNumbers, AreStageNumbers}
+use Rattle.restricted_game.specs.Stages.{AreStageNumbers}
 use Rattle.restricted_game.proofs.OverLemmas.{numbers_later}
 use Rattle.restricted_game.proofs.ReadLemmas.{read_child_leads}
 use Rattle.oracle_search.specs.Finished.{IsClose}
@@ -55,9 +55,6 @@ full g c =
     full_weaker m (g.B.Bounds.view c.read.new.board) _ (LeadsTo m c.args.s) (read_child_leads m c.args.s c.args.growth.now.held.rows c.args.growth.now.held.cols)
     (c.read.ensures.full (c.in-Err-Full.is ∙ ap Err c.in-Err-Full.field-0-is))
 
-pub read-requires-clause-goes_on : goal.read-requires-clause-goes_on
-read-requires-clause-goes_on g c = c.requires.here.has_row.goes_on
-
 pub returns-in-Err-Full-clause-swept : goal.returns-in-Err-Full-clause-swept
 returns-in-Err-Full-clause-swept g c =
     swept_full (swept_none c.requires.here.kept c.requires.swept) c.read.ensures.later c.read.ensures.entries c.note_full.ensures
@@ -69,28 +66,8 @@ returns-in-Err-Full-clause-ended g c = (stop_full _ _ c.args.worker.now c.note_f
 pub returns-in-Err-NoMemory-clause-swept : goal.returns-in-Err-NoMemory-clause-swept
 returns-in-Err-NoMemory-clause-swept g c = swept_read (swept_none c.requires.here.kept c.requires.swept) c.read.ensures.later c.read.ensures.entries
 
-pub post_alone-requires : goal.post_alone-requires
-post_alone-requires g c =
-    let m = g.G.Game.model c.args.setup.now.game in
-    let here = at_row_after c.requires.here (worked_read (worked_none {limit = 0} c.requires.here.kept) c.read.ensures.later c.read.ensures.entries) in
-    let were : WereStageNumbers m (g.B.Bounds.view c.read.new.board) c.args.s c.args.growth.now.held c.in-Ok.numbers = record { since = g.B.Bounds.view c.args.board.now; are = c.in-Ok.ensures.read } in
-    record {
-      game = here.game;
-      reachable = here.reachable;
-      goes_on = here.has_row.goes_on;
-      row = here.has_row.holds;
-      rows = c.requires.held.most_rows;
-      cols = c.requires.held.most_cols;
-      read = were;
-    }
-
 pub returns-in-Err-clause-swept : goal.returns-in-Err-clause-swept
 returns-in-Err-clause-swept g c = swept_by (swept_none c.requires.here.kept c.requires.swept) (posted g (goal.at.returns-in-Err-clause-swept g c).After-post_alone) refl
-
-pub is_within-requires : goal.is_within-requires
-is_within-requires g c =
-    let here = at_row_after c.requires.here (posted g (goal.at.is_within-requires g c).After-post_alone) in
-    record { game = here.game; reachable = here.reachable; row = here.has_row.holds }
 
 pub returns-then-is_within-clause-swept : goal.returns-then-is_within-clause-swept
 returns-then-is_within-clause-swept g c =
@@ -100,21 +77,13 @@ pub returns-then-left-eq0-clause-swept : goal.returns-then-left-eq0-clause-swept
 returns-then-left-eq0-clause-swept g c =
     swept_by (swept_none c.requires.here.kept c.requires.swept) (near g (goal.at.returns-then-left-eq0-clause-swept g c).After-is_within).0 refl
 
-pub take_turn_over-requires : goal.take_turn_over-requires
-take_turn_over-requires g c =
-    let k = near g (goal.at.take_turn_over-requires g c).After-is_within in
-    record {
-      here = at_row_after c.requires.here k.0;
-      rows = c.requires.held.most_rows;
-      cols = c.requires.held.most_cols;
-      read = record { since = g.B.Bounds.view c.args.board.now; are = k.1 };
-      left = search rules;
-    }
+pub take_turn_over-requires-clause-here : goal.take_turn_over-requires-clause-here
+take_turn_over-requires-clause-here g c = at_row_after c.requires.here (near g (goal.at.take_turn_over-requires-clause-here g c).After-is_within).0
+
+pub take_turn_over-requires-clause-read : goal.take_turn_over-requires-clause-read
+take_turn_over-requires-clause-read g c = record { since = g.B.Bounds.view c.args.board.now; are = (near g (goal.at.take_turn_over-requires-clause-read g c).After-is_within).1 }
 
 -- ---- after the turn
-pub add_swept-requires : goal.add_swept-requires
-add_swept-requires g c has = c.requires.unmet (rw (c.key.ensures, ap (λ (w : WorkerView). w.swept) c.take_turn_over.ensures.same) at has)
-
 pub returns-in-Ok-add_swept-clause-swept : goal.returns-in-Ok-add_swept-clause-swept
 returns-in-Ok-add_swept-clause-swept g c =
     let k = goal.at.returns-in-Ok-add_swept-clause-swept g c in

@@ -39,9 +39,6 @@ returns-then-has_swept-clause-last g c last enough =
 pub returns-then-not-wants_bounds-clause-worked : goal.returns-then-not-wants_bounds-clause-worked
 returns-then-not-wants_bounds-clause-worked g c = looked g (goal.at.returns-then-not-wants_bounds-clause-worked g c).After-is_within
 
-pub returns-then-not-wants_bounds-clause-unmet : goal.returns-then-not-wants_bounds-clause-unmet
-returns-then-not-wants_bounds-clause-unmet g c not = rw c.key.ensures at c.if-has_swept.ensures
-
 pub bound_state-requires-clause-here : goal.bound_state-requires-clause-here
 bound_state-requires-clause-here g c = at_row_after c.requires.here (looked g (goal.at.bound_state-requires-clause-here g c).After-is_within)
 
@@ -67,6 +64,3 @@ returns-in-Ok-note_bounds-clause-last g c last enough goes_on =
     close_below m c.total.result v c.args.s c.wanted_gap-goal.result
     (c.gap_at-gap.ensures.later.total ∙ c.bound_state.ensures.worked.board.later.total ∙ c.is_within.ensures.later.total ∙ sym c.total.ensures.total) (c.wanted_gap-goal.ensures.last last)
     (gap_within m (g.met.G.Game.lawful c.args.setup.now.game) c.args.s v c.gap_at-gap.result c.wanted_gap-goal.result c.gap_at-gap.ensures.enclosed c.gap_at-gap.ensures.gap fits enough)
-
-pub returns-in-Ok-note_bounds-clause-unmet : goal.returns-in-Ok-note_bounds-clause-unmet
-returns-in-Ok-note_bounds-clause-unmet g c not = rw c.key.ensures at c.if-has_swept.ensures

@@ -128,25 +128,18 @@ module _ {S : Type 0} (m : GameModel S) (game : IsGame m) where
             taken all takes quiet =
                 let none_spent : start.turns.spent ≡ 0 = ap (λ (t : Budget). t.spent) turns in
                 let no_keys : length start.settled.keys ≡ 0 = ap (λ (f : FinishedView). length f.keys) none in
-                let so : TakesTurns (m.rank m.root) start last =
-                ⊎_elim (λ (a : TakesTurns (m.rank m.root) start last). a) (λ (b : (left_of last.turns ≡ 0) × TakesTurns (m.rank m.root) start last). b.1) (takes.unless_full quiet) in
+                let so : TakesTurns (m.rank m.root) start.worker last.worker =
+                ⊎_elim (λ (a : TakesTurns (m.rank m.root) start.worker last.worker). a)
+                (λ (b : (left_of last.turns ≡ 0) × TakesTurns (m.rank m.root) start.worker last.worker). b.1) (takes.unless_full quiet) in
                 omega arith
 
-            finished : (key : ℕ) → IsFinished m true last.board 32 key → IsFinishedKey m ask last.board.seen has_row key
-            finished key f = record {
+            finished : (is_close : Bool) → (ask.stages ≡ Regret → is_close ≡ true) → (key : ℕ) → IsFinished m is_close last.board 32 key → IsFinishedKey m ask last.board.seen has_row key
+            finished is_close so key f = record {
               named = record { state = f.state; reachable = f.reachable; goes_on = f.goes_on; is_key = f.is_key };
               row = f.row;
               has_row = f.held;
-              close = λ _ stage is. subst (λ (k : ℕ). IsWithin last.board k (pos (rank_gap m stage (m.rank f.state)))) f.is_key
-                  (f.close refl stage (subst (λ (w : ℕ). IsStageGap m w stage) (sym total) is));
-            }
-
-            swept : (ask.stages ≡ Regret → ⊥) → (key : ℕ) → IsFinished m false last.board 32 key → IsFinishedKey m ask last.board.seen has_row key
-            swept not key f = record {
-              named = record { state = f.state; reachable = f.reachable; goes_on = f.goes_on; is_key = f.is_key };
-              row = f.row;
-              has_row = f.held;
-              close = λ regret. absurd (not regret);
+              close = λ regret stage is. subst (λ (k : ℕ). IsWithin last.board k (pos (rank_gap m stage (m.rank f.state)))) f.is_key
+                  (f.close (so regret) stage (subst (λ (w : ℕ). IsStageGap m w stage) (sym total) is));
             }
 
             owed : last.turns.spent ≡ ask.turns → AreTaken m ask Spent start last → last.settled.was_full ≡ false → AreOwedTo m ask last.board.seen has_row
@@ -156,7 +149,7 @@ module _ {S : Type 0} (m : GameModel S) (game : IsGame m) where
                 (λ (a : HasTaken m m.root Spent start last). record {
                   keys = last.settled.keys;
                   apart = worked.kept.finished.apart;
-                  each = All-weaker (IsFinished m true last.board 32) (IsFinishedKey m ask last.board.seen has_row) finished last.settled.keys worked.kept.finished.each;
+                  each = All-weaker (IsFinished m true last.board 32) (IsFinishedKey m ask last.board.seen has_row) (finished true (λ _. refl)) last.settled.keys worked.kept.finished.each;
                   few = taken all a quiet;
                 })
                 (λ (b : (ask.stages ≡ Regret → ⊥) × (last.settled.was_full ≡ false → TakesSweeps m 3 last.board (m.rank m.root) start.turns.spent last.turns.spent)).
@@ -164,7 +157,7 @@ module _ {S : Type 0} (m : GameModel S) (game : IsGame m) where
                 let few = it.few in record {
                   keys = it.keys;
                   apart = it.swept.apart;
-                  each = All-weaker (IsFinished m false last.board 32) (IsFinishedKey m ask last.board.seen has_row) (swept b.0) it.keys it.swept.each;
+                  each = All-weaker (IsFinished m false last.board 32) (IsFinishedKey m ask last.board.seen has_row) (finished false (λ regret. absurd (b.0 regret))) it.keys it.swept.each;
                   few = omega arith;
                 })
                 takes

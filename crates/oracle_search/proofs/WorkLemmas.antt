@@ -138,7 +138,8 @@ module _ {S G N : Type 0} {m : GameModel S} {s : S} {limit : ℕ} where
       (record { later = later; posted = grows_weaker (IsPureEntry m v.total) (IsLawfulEntry m v.total) v.entries b.entries (λ e p. p.lawful) posted })
       (rw turns (turned_none w.turns)) (rw visits (visited_none w.visits)) linear keys full kept remembered cause (λ _. posted)
 
-  worked_still : (v b : BoardView G N) (w : WorkerView) → HasKept m (at_work v w) → IsLater v b → Grows (IsPureEntry m v.total) v.entries b.entries → IsWorkedBelow m s limit (at_work v w) (at_work b w)
+  worked_still : (v b : BoardView G N) (w : WorkerView) → HasKept m (at_work v w) → IsLater v b → Grows (IsPureEntry m v.total) v.entries b.entries
+      → IsWorkedBelow m s limit (at_work v w) (at_work b w)
   worked_still v b w kept later posted =
       worked_quietly v b w w kept later refl refl refl refl (remembered_later later kept.remembered) (λ e. e) (λ e. inl e) posted
 

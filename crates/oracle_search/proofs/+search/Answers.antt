@@ -30,7 +30,8 @@ searched g t c = worked_after (worked_read (worked_none c.requires.here.kept) c.
 -- a child that was finished
 finished : (g : given.Over) (t : ℕ) (c : children::search_child-In-None-stop g t) → let m = g.G.Game.model c.args.setup.now.game in
     IsClose m (g.B.Bounds.view c.search_row.new.board) c.args.s × TakesAtMost 1 (m.rank c.args.s) c.args.worker.now c.search_row.new.worker
-finished g t c = child_done (g.G.Game.model c.args.setup.now.game) c.args.s (at_work (g.B.Bounds.view c.gap_at.new.board) c.args.worker.now) (at_work (g.B.Bounds.view c.search_row.new.board) c.search_row.new.worker) c.in-Ok.end
+finished g t c = child_done (g.G.Game.model c.args.setup.now.game) c.args.s (at_work (g.B.Bounds.view c.gap_at.new.board) c.args.worker.now)
+    (at_work (g.B.Bounds.view c.search_row.new.board) c.search_row.new.worker) c.in-Ok.end
     (rw c.in-Some.is at c.requires.here).has_row.goes_on (sym c.stop.ensures ∙ c.in-None-stop.is) c.in-Ok.ensures.ended.ends (c.in-Ok.ensures.ended.turns c.requires.regret)
 
 pub children::search_child-returns-in-None-clause-worked : goal.children::search_child-returns-in-None-clause-worked
@@ -384,7 +385,8 @@ state::search_row-returns-in-Some-clause-worked g t c = told g t (goal.at.state:
 pub state::search_row-returns-in-Some-clause-ended : goal.state::search_row-returns-in-Some-clause-ended
 state::search_row-returns-in-Some-clause-ended g t c =
     let same = c.bound_state.ensures.same in
-    bounded_early (early_ends (g.G.Game.model c.args.setup.now.game) c.args.s c.requires.here.has_row.goes_on (at_work (g.B.Bounds.view c.ended_early.new.board) c.bound_state.new.worker) c.args.target c.in-Some.end
+    bounded_early (early_ends (g.G.Game.model c.args.setup.now.game) c.args.s c.requires.here.has_row.goes_on
+    (at_work (g.B.Bounds.view c.ended_early.new.board) c.bound_state.new.worker) c.args.target c.in-Some.end
     (rw (to_z-of_z w64 c.args.target c.ranges.target, c.in-Some.is) at c.ended_early.ensures.end))
     (ap (λ (w : WorkerView). w.turns.spent) same) (ap (λ (w : WorkerView). w.settled.keys) same)
 
@@ -428,7 +430,8 @@ state::search_row-returns-then-is_linear-clause-worked g t c =
 pub state::search_row-returns-then-is_linear-clause-ended : goal.state::search_row-returns-then-is_linear-clause-ended
 state::search_row-returns-then-is_linear-clause-ended g t c =
     let same = c.bound_state.ensures.same in
-    IfOk-weaker c.make_sweeps.result _ _ (λ end. bounded_swept (ap (λ (w : WorkerView). w.turns.spent) same) (sym (ap (λ (w : WorkerView). w.linear) same) ∙ sym c.is_linear.ensures ∙ c.if-is_linear.true))
+    IfOk-weaker c.make_sweeps.result _ _
+    (λ end. bounded_swept (ap (λ (w : WorkerView). w.turns.spent) same) (sym (ap (λ (w : WorkerView). w.linear) same) ∙ sym c.is_linear.ensures ∙ c.if-is_linear.true))
     (rw (to_z-of_z w64 c.args.target c.ranges.target) at c.make_sweeps.ensures.ended)
 
 pub state::search_row-returns-then-is_linear-clause-pure : goal.state::search_row-returns-then-is_linear-clause-pure

@@ -65,7 +65,8 @@ claimed g t c =
     let count = c.draws-draw-end.ensures in let inside = c.loop-draw-test.true in (
       rw c.drawn-child.ensures (drawn_after m (g.met.G.Game.lawful c.args.setup.now.game) c.args.s c.requires.here.reachable c.args.moves.0 c.args.moves.1 c.loop-draw.draw
           c.requires.one c.requires.two (omega arith)),
-      sweeping_read c.loop-draw.invariant c.claim.ensures.later c.claim.ensures.entries c.claim.ensures.children (λ d l last. done_later m _ c.claim.ensures.later (c.loop-draw.invariant.done d l last)),
+      sweeping_read c.loop-draw.invariant c.claim.ensures.later c.claim.ensures.entries c.claim.ensures.children
+          (λ d l last. done_later m _ c.claim.ensures.later (c.loop-draw.invariant.done d l last)),
     )
 
 -- a claim that was full
@@ -123,7 +124,10 @@ sweep_draws-returns-in-Err-clause-swept g t c = swept_full c.loop-draw.invariant
     (full g t (goal.at.sweep_draws-returns-in-Err-clause-swept g t c).In-Err)
 
 pub sweep_draws-returns-in-Err-clause-ended : goal.sweep_draws-returns-in-Err-clause-ended
-sweep_draws-returns-in-Err-clause-ended g t c = (stop_full _ _ c.loop-draw.worker c.note_full.ensures (full g t (goal.at.sweep_draws-returns-in-Err-clause-ended g t c).In-Err), one_full c.loop-draw.worker c.note_full.ensures)
+sweep_draws-returns-in-Err-clause-ended g t c = (
+  stop_full _ _ c.loop-draw.worker c.note_full.ensures (full g t (goal.at.sweep_draws-returns-in-Err-clause-ended g t c).In-Err),
+  one_full c.loop-draw.worker c.note_full.ensures,
+)
 
 -- ---- the pairs of moves
 pub sweep_children-loop-turn-init : goal.sweep_children-loop-turn-init

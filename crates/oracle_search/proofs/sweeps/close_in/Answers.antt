@@ -61,7 +61,10 @@ returns-in-Err-Full-clause-swept g c =
     (full g (goal.at.returns-in-Err-Full-clause-swept g c).In-Err-Full)
 
 pub returns-in-Err-Full-clause-ended : goal.returns-in-Err-Full-clause-ended
-returns-in-Err-Full-clause-ended g c = (stop_full _ _ c.args.worker.now c.note_full.ensures (full g (goal.at.returns-in-Err-Full-clause-ended g c).In-Err-Full), one_full c.args.worker.now c.note_full.ensures)
+returns-in-Err-Full-clause-ended g c = (
+  stop_full _ _ c.args.worker.now c.note_full.ensures (full g (goal.at.returns-in-Err-Full-clause-ended g c).In-Err-Full),
+  one_full c.args.worker.now c.note_full.ensures,
+)
 
 pub returns-in-Err-NoMemory-clause-swept : goal.returns-in-Err-NoMemory-clause-swept
 returns-in-Err-NoMemory-clause-swept g c = swept_read (swept_none c.requires.here.kept c.requires.swept) c.read.ensures.later c.read.ensures.entries

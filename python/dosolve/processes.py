@@ -28,19 +28,26 @@ class Processes(Executor):
 
     def __init__(self, count: int) -> None:
         self._count = count
-        self._jobs: queue.SimpleQueue[tuple[Future[Any], _Job] | None] = queue.SimpleQueue()
+        self._jobs: queue.SimpleQueue[tuple[Future[Any], bytes] | None] = queue.SimpleQueue()
         self._lock = threading.Lock()
         self._threads: list[threading.Thread] = []
         self._processes: set[_Process] = set()
         self._is_closed = False
 
     def submit(self, work: Callable[..., Any], /, *arguments: Any, **named: Any) -> Future[Any]:
-        """A future of what a function of a module gives."""
+        """A future of what a function of a module gives, or of the fault that it, its arguments or
+        its answer cannot be pickled."""
         future: Future[Any] = Future()
+        job: _Job = work, arguments, named
+        try:
+            pickled = pickle.dumps(job)
+        except Exception as fault:
+            future.set_exception(fault)
+            return future
         with self._lock:
             if self._is_closed:
                 raise RuntimeError("the processes have been ended")
-            self._jobs.put((future, (work, arguments, named)))
+            self._jobs.put((future, pickled))
             if len(self._threads) < self._count:
                 self._threads.append(threading.Thread(target=self._serve, daemon=True))
                 self._threads[-1].start()
@@ -113,9 +120,9 @@ class _Process:
             raise
         self._answers = self._socket.makefile("rb")
 
-    def call(self, job: _Job) -> Any:
-        """What a job gives, an exception where it raised one."""
-        self._socket.sendall(pickle.dumps(job))
+    def call(self, job: bytes) -> Any:
+        """What a pickled job gives, an exception where it raised one."""
+        self._socket.sendall(job)
         return pickle.load(self._answers)
 
     def end(self) -> None:
@@ -145,7 +152,14 @@ def serve() -> None:
                 answer = work(*arguments, **named)
             except Exception as fault:
                 answer = fault
-            channel.sendall(pickle.dumps(answer))
+            channel.sendall(_pickled(answer))
+
+
+def _pickled(answer: Any) -> bytes:
+    try:
+        return pickle.dumps(answer)
+    except Exception as fault:
+        return pickle.dumps(pickle.PicklingError(f"the answer of a job cannot be pickled: {fault}"))
 
 
 def _listen(stream: Any, jobs: queue.SimpleQueue[_Job]) -> None:

@@ -6,6 +6,7 @@ import importlib.util
 import json
 import logging
 import os
+import pickle
 import random
 import shutil
 import signal
@@ -180,6 +181,16 @@ class Executors(unittest.TestCase):
             self.assertEqual([future.result() for future in futures[2:]], [32, 10**7])
         with self.assertRaisesRegex(RuntimeError, "have been ended"):
             executor.submit(pow, 2, 2)
+
+    def test_what_cannot_be_pickled_says_so_and_the_next_job_is_done(self):
+        with Processes(1) as executor:
+            job, answer = executor.submit(lambda: 1), executor.submit(threading.Lock)
+            following = executor.submit(pow, 2, 5)
+            with self.assertRaisesRegex(Exception, "Can't pickle"):
+                job.result()
+            with self.assertRaisesRegex(pickle.PicklingError, "answer of a job cannot be pickled"):
+                answer.result()
+            self.assertEqual(following.result(), 32)
 
     def test_what_runs_and_what_waits_ends_with_it(self):
         executor = Processes(1)

@@ -32,7 +32,7 @@ nothing_kept : Kept
 nothing_kept = record { key = 0; lower = pos 0; upper = pos 0 }
 
 -- no key stands twice
-abbrev Apart : List ℕ → Type 0
+abbrev pub Apart : List ℕ → Type 0
 Apart [] = Unit {0}
 Apart (k ∷ ks) = ((x : ℕ) → Has x ks → k ≢ x) × Apart ks
 

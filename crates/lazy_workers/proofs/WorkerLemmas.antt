@@ -19,7 +19,7 @@ use Rattle.serial_ab.proofs.ValueLemmas.{serial_end}
 use Rattle.matrix_game.specs.Budget.{Budget, left_of}
 use Rattle.matrix_game.specs.declared.solver.SolverKind.{SolverKind}
 use Rattle.matrix_game.specs.Solvers.{solver_of}
-use Rattle.bounds_board.specs.Views.{BoardView, IsInnerKey}
+use Rattle.bounds_board.specs.Views.{IsInnerKey}
 use Rattle.bounds_board.proofs.FullLemmas.{rows_too_few}
 use Rattle.serial_ab.specs.Counts.{VisitsView, left_on}
 use Rattle.oracle_search.specs.declared.ends.SearchEnd.{SearchEnd}

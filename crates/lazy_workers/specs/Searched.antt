@@ -77,3 +77,8 @@ pub record IsSearched {S : Type 0} (m : GameModel S) (ask : Ask) (entries : List
       (IsRooted m kept) (was_full ≡ true) turns
   -- where no turn was spent, only pure plans were posted
   pub alone : All (λ t. t.spent ≡ 0) turns → All (IsPureEntry m ask.weight) entries
+
+-- what is found where the one is asked answers the other too
+abbrev pub AnswersToo : {S : Type 0} → GameModel S → Ask → Ask → Type 0
+AnswersToo m ask other = (entries : List Entry) (kept : List Kept) (turns : List Budget) (was_full : Bool)
+    → IsSearched m ask entries kept turns was_full → IsSearched m other entries kept turns was_full

@@ -4,7 +4,7 @@ ghost use Rattle.std.specs.Prelude.{◌≡◌, ◌+◌, ◌≤◌, [], length, A
 ghost use Rattle.certificate.specs.Ranges.{IsAskInRange, IsPositionInRange};
 ghost use Rattle.plan_book.specs.Books.{book_bound};
 ghost use Rattle.shared_board.specs.Values.{IsPassOf};
-ghost use Rattle.lazy_workers.specs.Searched.{IsSearched};
+ghost use Rattle.lazy_workers.specs.Searched.{AnswersToo, IsSearched};
 ghost use Rattle.lazy_workers.specs.Solutions.{IsSolvedGame};
 ghost use Rattle.lazy_workers.specs.Workers.{IsBoardFor, IsLead, IsJob, IsJobDone, IsNoLooser};
 
@@ -22,7 +22,7 @@ use std::thread;
 use std::thread::Threads;
 
 /// Searches the game by so many workers as asked, and reports what was found. Each worker searches the root on a board
-/// that all share; where a thread cannot be started, the caller does its work.
+/// that all share. The caller does the work of a single worker, and of one whose thread cannot be started.
 pub fn solve<R: Threads + Sync, G: Game + Send + Sync, T: Gate + Sync>(
     rt: &R,
     alloc: Global,
@@ -39,6 +39,8 @@ where
 {
     let found = if g.rank(g.root()) == 0 {
         nothing(alloc, g, ask)?
+    } else if ask.workers == 1 {
+        search_alone(alloc, g, ask, gate)?
     } else {
         search_all(rt, alloc, g, ask, gate)?
     };
@@ -81,19 +83,36 @@ where
     ensures searched { IfOk result (λ found.
         IsSearched (G.model g) ask.now found.book.entries found.kept found.turns found.was_full) }
 {
-    let (board, mut lead) = Board::create(alloc, g, ask.rows, ask.weight)?;
-    let jobs = split_all(alloc, &board, &mut lead, ask.workers)?;
+    let enough = with_rows_for(g, ask);
+    let (board, mut lead) = Board::create(alloc, g, enough.rows, enough.weight)?;
+    let jobs = split_all(alloc, &board, &mut lead, enough.workers)?;
     let shared = &board;
-    let asked = *ask;
     let done = thread::map_vec(
         rt,
         jobs,
         &|job: Job<G>| -> Result<Done<G>, NoMemory>
-            requires { IsBoardFor G.model g shared.now asked × IsJob G.model shared.now job }
-            ensures { IfOk result (IsJobDone G.model g shared.entry.now asked) }
-        { work(alloc, g, shared, &asked, gate, job) },
+            requires { IsBoardFor G.model g shared.now enough × IsJob G.model shared.now job }
+            ensures { IfOk result (IsJobDone G.model g shared.entry.now enough) }
+        { work(alloc, g, shared, &enough, gate, job) },
     )?;
-    gather(alloc, g, board, ask, lead, done)
+    gather(alloc, g, board, &enough, lead, done)
+}
+
+/// What is asked, of a board of no more rows than the game can need: one for each key, and one that stays free. A key
+/// below the number of rows has a home of its own, as on a larger board, so nothing else changes.
+fn with_rows_for<G: Game>(g: G, ask: &Ask) -> Ask
+    requires { IsAskInRange ask.now }
+    ensures same { AnswersToo (G.model g) result ask.now }
+    ensures weight { result.weight ≡ ask.now.weight }
+    ensures in_range { IsAskInRange result }
+{
+    let limit = g.key_limit();
+    if limit >= ask.rows as u64 {
+        return *ask;
+    }
+    let mut enough = *ask;
+    enough.rows = limit as u32 + 1;
+    enough
 }
 
 /// As `solve`, but the caller does the work of each worker, one after the other. It starts no thread.
@@ -129,10 +148,11 @@ fn search_alone<G: Game, T: Gate>(
     ensures searched { IfOk result (λ found.
         IsSearched (G.model g) ask.now found.book.entries found.kept found.turns found.was_full) }
 {
-    let (board, mut lead) = Board::create(alloc, g, ask.rows, ask.weight)?;
-    let jobs = split_all(alloc, &board, &mut lead, ask.workers)?;
-    let done = work_all(alloc, g, &board, ask, gate, jobs)?;
-    gather(alloc, g, board, ask, lead, done)
+    let enough = with_rows_for(g, ask);
+    let (board, mut lead) = Board::create(alloc, g, enough.rows, enough.weight)?;
+    let jobs = split_all(alloc, &board, &mut lead, enough.workers)?;
+    let done = work_all(alloc, g, &board, &enough, gate, jobs)?;
+    gather(alloc, g, board, &enough, lead, done)
 }
 
 /// Does the work of each job, that of the last first, and stops at want of memory.

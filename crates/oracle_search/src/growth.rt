@@ -19,7 +19,9 @@ use crate::gap::{is_within_told, stopped};
 use crate::gate::Gate;
 use crate::worker::{Setup, Worker};
 use bounds_board::{Bounds, Row};
-use restricted_game::{ChildRows, Node, Restricted, StageNumbers, StepEnd, StepFault};
+use restricted_game::{
+    ChildRows, Node, Restricted, StageBuffers, StageNumbers, StepEnd, StepFault,
+};
 use sim_game::{Game, NoMemory, Side};
 
 /// The moves that a restricted game at a state holds, and the rows of the states after pairs of moves.
@@ -46,22 +48,29 @@ impl Growth {
         })
     }
 
-    /// All moves of both sides, and no row.
-    pub(crate) fn full<G: Game, T: Gate>(
-        setup: &Setup<'_, G, T>,
+    /// All moves of both sides, in lists of the buffers, which it takes, and the rows that are known.
+    pub(crate) fn full<G: Game>(
+        g: G,
         s: G::State,
+        children: ChildRows,
+        buffers: &mut StageBuffers,
     ) -> Result<Growth, NoMemory>
-        requires reachable { Reachable (G.model setup.now.game) s }
-        requires goes_on { 1 ≤ (G.model setup.now.game).rank s }
-        ensures held { IfOk result (λ growth. IsFullHeld (G.model setup.now.game) s growth.held) }
-        ensures children { IfOk result (λ growth. HasNoRows (G.model setup.now.game) s growth.children) }
+        requires reachable { Reachable (G.model g) s }
+        requires goes_on { 1 ≤ (G.model g).rank s }
+        ensures held { IfOk result (λ growth. IsFullHeld (G.model g) s growth.held) }
+        ensures children { IfOk result (λ growth. growth.children ≡ children) }
     {
-        let rows = setup.game.moves(Side::One, s);
-        let cols = setup.game.moves(Side::Two, s);
-        Ok(Growth {
-            held: Restricted::full(setup.alloc, rows, cols)?,
-            children: ChildRows::new(setup.alloc, setup.game, s)?,
-        })
+        let rows = g.moves(Side::One, s);
+        let cols = g.moves(Side::Two, s);
+        let held = Restricted::full(rows, cols, buffers)?;
+        Ok(Growth { held, children })
+    }
+
+    /// Gives back the lists of the moves and of the rows.
+    pub(crate) fn give_back(self, buffers: &mut StageBuffers) {
+        let Growth { held, children } = self;
+        held.give_back(buffers);
+        children.give_back(buffers);
     }
 }
 

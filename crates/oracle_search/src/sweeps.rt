@@ -17,7 +17,7 @@ use crate::serial_bounds::bound_state;
 use crate::sweeping::Sweep;
 use crate::worker::{Setup, Worker};
 use bounds_board::{BoardFault, Bounds, Row};
-use restricted_game::{ChildRows, Node};
+use restricted_game::{ChildRows, Node, StageBuffers};
 use sim_game::{Game, NoMemory, Side};
 
 /// Makes the sweep at the states that this one leads to, and then here, with all moves held.
@@ -43,49 +43,61 @@ pub(crate) fn sweep_state<G: Game, B: Bounds<G>, T: Gate>(
         → (worker.old.turns.spent + 1 ≤ worker.new.turns.spent)
         ⊎ IsWithin (B.view board.new) ((G.model setup.now.game).key s) (pos 0) }
 {
-    let mut growth = match Growth::full(setup, s) {
-        Ok(growth) => growth,
+    let mut children = match worker.child_rows(setup.game, s) {
+        Ok(children) => children,
         Err(_) => return Err(NoMemory),
     };
-    match sweep_children(setup, sweep, s, &mut growth.children, worker, board) {
+    match sweep_children(setup, sweep, s, &mut children, worker, board) {
         Ok(None) => {}
         Ok(Some(stop)) => return Ok(Some(stop)),
         Err(_) => return Err(NoMemory),
     }
-    close_in(setup, sweep, s, row, &mut growth, worker, board)
+    let mut buffers = worker.take_buffers(setup.alloc);
+    let mut growth = match Growth::full(setup.game, s, children, &mut buffers) {
+        Ok(growth) => growth,
+        Err(_) => return Err(NoMemory),
+    };
+    let node = Node { state: s, row };
+    let end = close_in(setup, sweep, node, &mut growth, worker, board, &mut buffers);
+    growth.give_back(&mut buffers);
+    worker.put_back(buffers);
+    end
 }
 
 /// Posts the best pure plans of both sides over the states after all moves, which are done, where these bring the gap to
-/// what the sweep wants, and takes a turn otherwise.
+/// what the sweep wants, and takes a turn otherwise. The children are read into lists of the buffers, which come back
+/// unless memory runs out.
 fn close_in<G: Game, B: Bounds<G>, T: Gate>(
     setup: &Setup<'_, G, T>,
     sweep: &Sweep,
-    s: G::State,
-    row: Row,
+    node: Node<G::State>,
     growth: &mut Growth,
     worker: &mut Worker,
     board: &mut B,
+    buffers: &mut StageBuffers,
 ) -> Result<Option<Stop>, NoMemory>
-    requires here { IsAtRow (G.model setup.now.game) setup.now.game s (Some row)
+    requires here { IsAtRow (G.model setup.now.game) setup.now.game node.state (Some node.row)
         (at_work (B.view board.old) worker.old) }
-    requires held { IsFullHeld (G.model setup.now.game) s growth.old.held }
-    requires children { AreChildRows (G.model setup.now.game) (B.view board.old) s growth.old.children }
-    requires done { sweep.now.is_last ≡ true → AreAllDone (G.model setup.now.game) (B.view board.old) s }
+    requires held { IsFullHeld (G.model setup.now.game) node.state growth.old.held }
+    requires children { AreChildRows (G.model setup.now.game) (B.view board.old) node.state growth.old.children }
+    requires done { sweep.now.is_last ≡ true → AreAllDone (G.model setup.now.game) (B.view board.old) node.state }
     requires swept { AreFinished (G.model setup.now.game) sweep.now.is_last (B.view board.old) worker.old.swept }
-    requires unmet { Contains worker.old.swept ((G.model setup.now.game).key s) → ⊥ }
-    ensures swept { HasSwept (G.model setup.now.game) sweep.now.is_last s ((G.model setup.now.game).rank s + 1)
+    requires unmet { Contains worker.old.swept ((G.model setup.now.game).key node.state) → ⊥ }
+    ensures swept { HasSwept (G.model setup.now.game) sweep.now.is_last node.state
+        ((G.model setup.now.game).rank node.state + 1)
         (at_work (B.view board.old) worker.old) (at_work (B.view board.new) worker.new) }
-    ensures ended { IfOk result (IsSweepEnd (G.model setup.now.game) s ((G.model setup.now.game).rank s)
-        (IsSweepDone (G.model setup.now.game) sweep.now.is_last (B.view board.new) s)
+    ensures ended { IfOk result (IsSweepEnd (G.model setup.now.game) node.state
+        ((G.model setup.now.game).rank node.state)
+        (IsSweepDone (G.model setup.now.game) sweep.now.is_last (B.view board.new) node.state)
         worker.old (at_work (B.view board.new) worker.new)) }
     ensures turned { result ≡ Ok None → sweep.now.is_last ≡ true
         → (worker.old.turns.spent + 1 ≤ worker.new.turns.spent)
-        ⊎ IsWithin (B.view board.new) ((G.model setup.now.game).key s) (pos 0) }
+        ⊎ IsWithin (B.view board.new) ((G.model setup.now.game).key node.state) (pos 0) }
 {
     let g = setup.game;
-    let node = Node { state: s, row };
+    let s = node.state;
     let goal = sweep.goal_at(g.rank(s));
-    let numbers = match growth.held.read(g, s, &mut growth.children, board) {
+    let numbers = match growth.held.read(g, s, &mut growth.children, board, buffers) {
         Ok(numbers) => numbers,
         Err(BoardFault::Full) => {
             worker.note_full();
@@ -97,17 +109,22 @@ fn close_in<G: Game, B: Bounds<G>, T: Gate>(
         Ok(()) => {}
         Err(_) => return Err(NoMemory),
     }
-    if is_within(g, s, row, goal, board) {
+    if is_within(g, s, node.row, goal, board) {
+        numbers.give_back(buffers);
         return Ok(None);
     }
     if worker.turns().left() == 0 {
+        numbers.give_back(buffers);
         return Ok(Some(Stop::Spent));
     }
     match take_turn_over(setup, node, &numbers, &mut growth.held, worker, board) {
-        Ok(_) => match worker.add_swept(g.key(s)) {
-            Ok(()) => Ok(None),
-            Err(_) => Err(NoMemory),
-        },
+        Ok(_) => {
+            numbers.give_back(buffers);
+            match worker.add_swept(g.key(s)) {
+                Ok(()) => Ok(None),
+                Err(_) => Err(NoMemory),
+            }
+        }
         Err(_) => Err(NoMemory),
     }
 }

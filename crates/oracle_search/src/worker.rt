@@ -1,9 +1,11 @@
 //! One worker of a search.
 
-ghost use Rattle.std.specs.Prelude.{◌≡◌, ◌≤◌, [], min, false, IsTrue, MatchBool, OnOk, OnErr};
+ghost use Rattle.std.specs.Prelude.{◌≡◌, ◌≤◌, [], min, false, IsTrue, MatchBool, IfOk, OnOk, OnErr};
 ghost use Rattle.std.specs.List.{Contains};
+ghost use Rattle.sim_game.specs.Model.{Reachable};
 ghost use Rattle.matrix_game.specs.Budget.{left_of};
 ghost use Rattle.matrix_game.specs.Solvers.{solver_of};
+ghost use Rattle.restricted_game.specs.Children.{HasNoRows};
 ghost use Rattle.oracle_search.specs.Workers.{is_linear, with_swept, with_key, with_full};
 ghost use Rattle.oracle_search.specs.Workers.{without_full, without_searches};
 
@@ -11,10 +13,12 @@ use crate::finished::Settled;
 use crate::gate::Gate;
 use indexmap::IndexSet;
 use matrix_game::{SolverKind, StageSolver, Turns};
+use restricted_game::{ChildRows, StageBuffers};
 use serial_ab::{SerialWorker, TranspositionTable, Visits};
 use sim_game::{Game, NoMemory};
 use std::alloc::Global;
 use std::marker::Model;
+use std::mem;
 
 /// What all searches of a worker have in common.
 #[derive(Clone, Copy)]
@@ -41,6 +45,8 @@ pub struct Worker {
     pub(crate) turns: Turns,
     pub(crate) serial: SerialWorker,
     pub(crate) stages: StageSolver,
+    // What sweeps read stages into.
+    buffers: StageBuffers,
     settled: Settled,
     // The keys of the states that the sweep under way has finished.
     swept: Settled,
@@ -87,6 +93,7 @@ impl Worker {
             turns,
             serial: SerialWorker::new(alloc, visits, table),
             stages: StageSolver::new(limits.stages),
+            buffers: StageBuffers::new(alloc),
             settled: Settled::new(alloc),
             swept: Settled::new(alloc),
             bounded: IndexSet::new(alloc),
@@ -175,6 +182,28 @@ impl Worker {
         ensures { self.new ≡ without_searches self.old }
     {
         self.serial.table = TranspositionTable::new(alloc, self.searches);
+    }
+
+    /// The rows of the states after pairs of moves at a state, of which none is known, in a list that it keeps.
+    pub(crate) fn child_rows<G: Game>(&mut self, g: G, s: G::State) -> Result<ChildRows, NoMemory>
+        requires reachable { Reachable (G.model g) s }
+        ensures rows { IfOk result (HasNoRows (G.model g) s) }
+        ensures same { self.new ≡ self.old }
+    {
+        ChildRows::new_in(g, s, &mut self.buffers)
+    }
+
+    /// Takes out what it reads stages into, to be put back.
+    pub(crate) fn take_buffers(&mut self, alloc: Global) -> StageBuffers
+        ensures { self.new ≡ self.old }
+    {
+        mem::replace(&mut self.buffers, StageBuffers::new(alloc))
+    }
+
+    pub(crate) fn put_back(&mut self, buffers: StageBuffers)
+        ensures { self.new ≡ self.old }
+    {
+        self.buffers = buffers;
     }
 
     /// Begins a sweep: it has finished no state.

@@ -208,6 +208,10 @@ impl Game for OshiZumo {
         put(put(place, s.one as u64, 5), s.two as u64, 5).0
     }
 
+    fn key_limit(&self) -> u64 {
+        1 << 15
+    }
+
     #[inline]
     fn low(&self) -> i32 {
         -1

@@ -212,6 +212,10 @@ impl Game for Pursuit {
         put(put(rounds, s.one as u64, 5), s.two as u64, 5).0
     }
 
+    fn key_limit(&self) -> u64 {
+        1 << 16
+    }
+
     #[inline]
     fn low(&self) -> i32 {
         -1

@@ -6,6 +6,7 @@ ghost use Rattle.restricted_game.specs.Held.{AreMoves};
 ghost use Rattle.restricted_game.specs.Stages.{HasCells};
 ghost use Rattle.restricted_game.specs.Tables.{AreCells, HasShape, pair_cell, held_cells};
 
+use crate::buffers::{StageBuffers, emptied};
 use crate::table::{Cells, StageNumbers, Table};
 use sim_game::{CHANCE, Game, NoMemory, Side};
 use std::alloc::Global;
@@ -29,13 +30,13 @@ fn pair_cell<G: Game>(g: G, s: G::State, side: Side, one: u32, two: u32, table: 
     side.quotient(sum, CHANCE)
 }
 
-/// The cells of all pairs of moves.
-pub(crate) fn cells_of<G: Game>(
-    alloc: Global,
+/// The cells of all pairs of moves, in this list, which it takes.
+fn cells_of<G: Game>(
     g: G,
     s: G::State,
     side: Side,
     table: &Table,
+    list: &mut Vec<i64>,
 ) -> Result<Cells, NoMemory>
     requires reachable { Reachable (G.model g) s }
     requires goes_on { 1 ≤ (G.model g).rank s }
@@ -43,7 +44,8 @@ pub(crate) fn cells_of<G: Game>(
     ensures { IfOk result (AreCells (G.model g) side s table.now) }
 {
     let pairs = table.height * table.width;
-    let mut items = Vec::with_capacity(alloc, pairs as usize)?;
+    let mut items = emptied(list);
+    items.reserve(pairs as usize)?;
     for pair in 0..pairs {
         let one = pair / table.width;
         let two = pair % table.width;
@@ -80,12 +82,12 @@ pub(crate) fn held_cells(
     Ok(held)
 }
 
-/// What was read, with the cells of both sides.
+/// What was read, with the cells of both sides, in the lists of the buffers, which it takes.
 pub(crate) fn numbers_of<G: Game>(
-    alloc: Global,
     g: G,
     s: G::State,
     table: Table,
+    buffers: &mut StageBuffers,
 ) -> Result<StageNumbers, NoMemory>
     requires reachable { Reachable (G.model g) s }
     requires goes_on { 1 ≤ (G.model g).rank s }
@@ -93,7 +95,7 @@ pub(crate) fn numbers_of<G: Game>(
     ensures table { IfOk result (λ numbers. numbers.table ≡ table) }
     ensures cells { IfOk result (HasCells (G.model g) s) }
 {
-    let lows = cells_of(alloc, g, s, Side::One, &table)?;
-    let highs = cells_of(alloc, g, s, Side::Two, &table)?;
+    let lows = cells_of(g, s, Side::One, &table, &mut buffers.lows)?;
+    let highs = cells_of(g, s, Side::Two, &table, &mut buffers.highs)?;
     Ok(StageNumbers { table, lows, highs })
 }

@@ -5,6 +5,7 @@ ghost use Rattle.bounds_board.specs.Views.{IsLater, IsFull};
 ghost use Rattle.restricted_game.specs.Children.{AreChildRows, HasNoRows, HasRow};
 ghost use Rattle.restricted_game.specs.Tables.{IsStride};
 
+use crate::buffers::{StageBuffers, filled};
 use bounds_board::{Bounds, Full, Row};
 use sim_game::{Game, NoMemory, Side};
 use std::alloc::Global;
@@ -49,15 +50,33 @@ impl ChildRows {
         requires reachable { Reachable (G.model g) s }
         ensures { IfOk result (HasNoRows (G.model g) s) }
     {
+        ChildRows::new_in(g, s, &mut StageBuffers::new(alloc))
+    }
+
+    /// The same, in a list of the buffers, which it takes. It takes no memory where that has room.
+    pub fn new_in<G: Game>(
+        g: G,
+        s: G::State,
+        buffers: &mut StageBuffers,
+    ) -> Result<ChildRows, NoMemory>
+        requires reachable { Reachable (G.model g) s }
+        ensures { IfOk result (HasNoRows (G.model g) s) }
+    {
         let width = g.moves(Side::Two, s);
         let stride = most_draws(g, s);
         let places = g.moves(Side::One, s) * width * stride;
-        let rows = Vec::from_elem(alloc, None, places as usize)?;
+        let mut list = buffers.take_children();
+        let rows = filled(&mut list, places as usize, None)?;
         Ok(ChildRows {
             width,
             stride,
             rows,
         })
+    }
+
+    /// Gives back the list that the rows stand in.
+    pub fn give_back(self, buffers: &mut StageBuffers) {
+        buffers.keep_children(self.rows);
     }
 
     /// How many draws a pair of moves has room for.

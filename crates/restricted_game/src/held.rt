@@ -17,6 +17,7 @@ ghost use Rattle.restricted_game.specs.Stages.{AreStageNumbers, WereStageNumbers
 ghost use Rattle.restricted_game.specs.Turns.{TakesStepTurn};
 
 use crate::alone::best_alone;
+use crate::buffers::{StageBuffers, emptied};
 use crate::cells::numbers_of;
 use crate::children::ChildRows;
 use crate::node::Node;
@@ -114,8 +115,9 @@ impl Restricted {
         })
     }
 
-    /// Holds all of `rows` moves of One and `cols` of Two, in order of their numbers, so that no step adds another.
-    pub fn full(alloc: Global, rows: u32, cols: u32) -> Result<Restricted, NoMemory>
+    /// Holds all of `rows` moves of One and `cols` of Two, in order of their numbers, so that no step adds another. They
+    /// stand in lists of the buffers, which it takes.
+    pub fn full(rows: u32, cols: u32, buffers: &mut StageBuffers) -> Result<Restricted, NoMemory>
         requires some_row { 1 ≤ rows }
         requires few_rows { rows ≤ MOST_MOVES }
         requires some_col { 1 ≤ cols }
@@ -128,14 +130,21 @@ impl Restricted {
         }) }
         ensures all { IfOk result HoldsAll }
     {
-        let held_rows = all_moves(alloc, rows)?;
-        let held_cols = all_moves(alloc, cols)?;
+        let held_rows = all_moves(&mut buffers.rows, rows)?;
+        let held_cols = all_moves(&mut buffers.cols, cols)?;
         Ok(Restricted {
             rows: held_rows,
             cols: held_cols,
             most_rows: rows,
             most_cols: cols,
         })
+    }
+
+    /// Gives back the lists that the held moves stand in.
+    pub fn give_back(self, buffers: &mut StageBuffers) {
+        let Restricted { rows, cols, .. } = self;
+        buffers.rows = rows;
+        buffers.cols = cols;
     }
 
     /// The held moves of One, in order of addition.
@@ -202,7 +211,8 @@ impl Restricted {
         if turns.left() == 0 {
             return Err(StepFault::Spent);
         }
-        let numbers = match self.read(g, node.state, children, board) {
+        let mut buffers = StageBuffers::new(*self.rows.allocator());
+        let numbers = match self.read(g, node.state, children, board, &mut buffers) {
             Ok(numbers) => numbers,
             Err(BoardFault::Full) => return Err(StepFault::Full),
             Err(BoardFault::NoMemory) => return Err(StepFault::NoMemory),
@@ -213,13 +223,15 @@ impl Restricted {
         }
     }
 
-    /// Reads the states after held moves, as a step does. `Full` comes where the claim of a child found the board full.
+    /// Reads the states after held moves, as a step does, into lists of the buffers, which it takes: where these have
+    /// held as much before, that takes no memory. `Full` comes where the claim of a child found the board full.
     pub fn read<G: Game, B: Bounds<G>>(
         &self,
         g: G,
         s: G::State,
         children: &mut ChildRows,
         board: &mut B,
+        buffers: &mut StageBuffers,
     ) -> Result<StageNumbers, BoardFault>
         requires game { (B.view board.old).game ≡ g }
         requires reachable { Reachable (G.model g) s }
@@ -232,13 +244,12 @@ impl Restricted {
         ensures full { result ≡ Err BoardFault.Full → WasFull (G.model g) (B.view board.new)
             (IsReadChild (G.model g) s self.now.rows self.now.cols) }
     {
-        let alloc = *self.rows.allocator();
-        let table = match read_table(alloc, g, s, self.rows(), self.cols(), children, board) {
+        let table = match read_table(g, s, self.rows(), self.cols(), children, board, buffers) {
             Ok(table) => table,
             Err(BoardFault::Full) => return Err(BoardFault::Full),
             Err(BoardFault::NoMemory) => return Err(BoardFault::NoMemory),
         };
-        match numbers_of(alloc, g, s, table) {
+        match numbers_of(g, s, table, buffers) {
             Ok(numbers) => Ok(numbers),
             Err(_) => Err(BoardFault::NoMemory),
         }
@@ -341,12 +352,13 @@ impl Restricted {
     }
 }
 
-/// All of so many moves, in order of their numbers.
-fn all_moves(alloc: Global, count: u32) -> Result<Vec<u32>, NoMemory>
+/// All of so many moves, in order of their numbers, in this list, which it takes.
+fn all_moves(list: &mut Vec<u32>, count: u32) -> Result<Vec<u32>, NoMemory>
     ensures moves { IfOk result (λ moves. moves.items ≡ range_with_len 0 count) }
     ensures room { IfOk result (λ moves. count ≤ vec_capacity moves) }
 {
-    let mut moves = Vec::with_capacity(alloc, count as usize)?;
+    let mut moves = emptied(list);
+    moves.reserve(count as usize)?;
     for number in 0..count {
         moves.push_reserved(number);
     }

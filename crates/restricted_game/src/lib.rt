@@ -4,6 +4,7 @@
 ghost use Rattle.restricted_game.specs.Held.{FewSteps};
 
 mod alone;
+mod buffers;
 mod cells;
 mod children;
 mod held;
@@ -15,6 +16,7 @@ mod reads;
 mod stage;
 mod table;
 
+pub use buffers::StageBuffers;
 pub use children::ChildRows;
 pub use held::{Restricted, StepEnd, StepFault};
 pub use node::Node;

@@ -7,11 +7,11 @@ ghost use Rattle.restricted_game.specs.Numbers.{AreRead, IsWanted, IsReadChild};
 ghost use Rattle.restricted_game.specs.Sizes.{IsSmallEnclosure};
 ghost use Rattle.restricted_game.specs.Tables.{HasShape, IsFilled};
 
+use crate::buffers::{StageBuffers, filled};
 use crate::children::ChildRows;
 use crate::table::Table;
 use bounds_board::{BoardFault, Bounds, Enclosure, Full};
 use sim_game::{Game, Side, end_bound};
-use std::alloc::Global;
 
 /// Whether a step reads what follows a pair of moves.
 fn is_wanted(rows: &[u32], cols: &[u32], one: u32, two: u32) -> bool
@@ -77,15 +77,16 @@ fn read_child<G: Game, B: Bounds<G>>(
     }
 }
 
-/// Reads what follows each pair of moves of which at least one is held. Full comes where a claim was full.
+/// Reads what follows each pair of moves of which at least one is held, into the list of the buffers, which it takes.
+/// Full comes where a claim was full.
 pub(crate) fn read_table<G: Game, B: Bounds<G>>(
-    alloc: Global,
     g: G,
     s: G::State,
     rows: &[u32],
     cols: &[u32],
     children: &mut ChildRows,
     board: &mut B,
+    buffers: &mut StageBuffers,
 ) -> Result<Table, BoardFault>
     requires game { (B.view board.old).game ≡ g }
     requires reachable { Reachable (G.model g) s }
@@ -103,7 +104,8 @@ pub(crate) fn read_table<G: Game, B: Bounds<G>>(
     let width = g.moves(Side::Two, s);
     let stride = children.stride();
     let zeros = Enclosure { lower: 0, upper: 0 };
-    let Ok(mut enclosures) = Vec::from_elem(alloc, zeros, (height * width * stride) as usize) else {
+    let places = (height * width * stride) as usize;
+    let Ok(mut enclosures) = filled(&mut buffers.enclosures, places, zeros) else {
         return Err(BoardFault::NoMemory);
     };
     for place in 0..height * width * stride {
@@ -112,7 +114,10 @@ pub(crate) fn read_table<G: Game, B: Bounds<G>>(
         let draw = place % stride;
         match read_child(g, s, rows, cols, Draw { one, two, draw }, children, board) {
             Ok(found) => enclosures[place as usize] = found,
-            Err(_) => return Err(BoardFault::Full),
+            Err(_) => {
+                buffers.enclosures = enclosures;
+                return Err(BoardFault::Full);
+            }
         }
     }
     Ok(Table {

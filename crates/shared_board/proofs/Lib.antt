@@ -9,3 +9,4 @@ pub mod SeenLemmas
 pub mod PassLemmas
 pub mod PlaceLemmas
 pub mod DeskLemmas
+pub mod MarkLemmas

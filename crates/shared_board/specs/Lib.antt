@@ -4,6 +4,7 @@ pub mod Plays
 pub mod Passes
 pub mod Values
 pub mod Known
+pub mod Marks
 pub mod Closing
 pub mod Laws
 pub mod Bare

@@ -13,6 +13,7 @@ ghost use Rattle.shared_board.specs.Values.{IsPassOf, viewing, entering, desk_vi
 
 use crate::board::Board;
 use crate::known::KnownRows;
+use crate::marks::Marks;
 use crate::pass::Pass;
 use crate::steps::{claim_row, load_word, post_word};
 use crate::words::{bound_of_word, word_of_bound};
@@ -27,17 +28,20 @@ pub struct Desk<'a, G: Game> {
     board: &'a Board<G>,
     pass: Pass<G>,
     known: KnownRows,
+    marks: Marks,
 }
 
 impl<'a, G: Game> Model for Desk<'a, G> {
     ghost use Rattle.shared_board.specs.Values.{DeskValue, IsPassOf};
     ghost use Rattle.shared_board.specs.Known.{AreKnown};
+    ghost use Rattle.shared_board.specs.Marks.{AreMarks};
 
     ghost Value = { DeskValue G };
 
     ghost view = { λ d. record { board = d.board.now; pass = d.pass } };
 
-    ghost invariant = { λ d. IsPassOf d.board.now d.pass × AreKnown d.pass.view.keys d.known.places.items };
+    ghost invariant = { λ d. IsPassOf d.board.now d.pass × AreKnown d.pass.view.keys d.known.places.items
+        × AreMarks d.pass.view.keys d.marks.by_row.items };
 }
 
 impl<'a, G: Game> Desk<'a, G> {
@@ -51,6 +55,7 @@ impl<'a, G: Game> Desk<'a, G> {
             board,
             pass,
             known: KnownRows::new(board.alloc),
+            marks: Marks::new(board.alloc),
         }
     }
 
@@ -63,6 +68,7 @@ impl<'a, G: Game> Desk<'a, G> {
             board: _,
             pass,
             known: _,
+            marks: _,
         } = self;
         pass
     }
@@ -84,7 +90,14 @@ impl<'a, G: Game> Desk<'a, G> {
         }
         let board = self.board;
         let pass = &mut self.pass;
-        match claim_row(&board.words.shared, &mut pass.bare.seat, board.rows, key) {
+        match claim_row(
+            board.alloc,
+            &board.words.shared,
+            &mut pass.bare.seat,
+            board.rows,
+            key,
+            &mut self.marks,
+        ) {
             Some(row) => {
                 self.known.keep(board.alloc, key, row);
                 Ok(Row::new(row))

@@ -7,6 +7,7 @@ mod crossing;
 mod desk;
 mod known;
 mod laws;
+mod marks;
 mod pass;
 mod rule;
 mod steps;

@@ -2,13 +2,16 @@
 ghost use Rattle.std.specs.Prelude.{◌≡◌, ◌≢◌, ℕ, ◌+◌, ◌*◌, ◌<◌, ◌≤◌, List, length, Some, IfSome, IfNone};
 ghost use Rattle.bounds_board.specs.Views.{IsInnerKey};
 ghost use Rattle.shared_board.specs.Rule.{Has};
+ghost use Rattle.shared_board.specs.Marks.{AreMarks};
 ghost use Rattle.shared_board.specs.Plays.{more_keys, reading, posting, IsBound, IsLearnt, IsApart, AllNamed, IsAt, IsSized, MayClaim, MayPost};
 
+use crate::marks::{Marks, mark_of_key};
 use crate::rule::{Claim, Cut, Look, Raise, ReadLower, ReadUpper, Rules};
 use crate::view::View;
 use atomic_table::{Seat, Shared};
 use bounds_board::row_behind;
 use sim_game::{Game, Side};
+use std::alloc::Global;
 
 pub(crate) type SharedWords<G> = Shared<(), View<G>, (G, u32), Rules>;
 
@@ -40,16 +43,22 @@ fn try_row<G: Game>(
     words.compare_exchange::<Claim<G>>(seat, word, 0, key + 1)
 }
 
-/// Finds the row of a key, or claims one for it.
+/// How many rows a walk may pass before marks are kept.
+const SHORT_WALK: u32 = 16;
+
+/// Finds the row of a key, or claims one for it. Where a row's mark tells another key, it is passed without a step.
 pub(crate) fn claim_row<G: Game>(
+    alloc: Global,
     words: &SharedWords<G>,
     seat: &mut BoardSeat<G>,
     rows: u32,
     key: u64,
+    marks: &mut Marks,
 ) -> Option<u32>
     requires board { IsSized words.now.table_id words.now.key.1 rows }
     requires seat { IsAt words.now.table_id seat.old.table_id seat.old.me }
     requires key { IsInnerKey (G.model words.now.key.0) key }
+    requires marks { AreMarks seat.old.me.0.keys marks.old.by_row.items }
     ensures seat { IsAt words.now.table_id seat.new.table_id seat.new.me × (seat.new.id ≡ seat.old.id) }
     ensures keys { (ks : List (ℕ × ℕ)) × (seat.new.me.0 ≡ more_keys ks seat.old.me.0) × (length ks ≤ rows) }
     ensures named { (g : G) → seat.old.me.0.game ≡ Some g → AllNamed (G.model g) seat.old.me.0.keys
@@ -59,12 +68,21 @@ pub(crate) fn claim_row<G: Game>(
     ensures apart { IsApart seat.new.me.0.keys }
     ensures some { IfSome result (λ r. (r < rows) × Has (r, key) seat.new.me.0.keys) }
     ensures none { IfNone result ((i : ℕ) → i < rows → (k : ℕ) × Has (i, k) seat.new.me.0.keys × (k ≢ key)) }
+    ensures marks { AreMarks seat.new.me.0.keys marks.new.by_row.items }
 {
+    let mark = mark_of_key(key);
     let mut row = (key % rows as u64) as u32;
     for tried in 0..rows {
-        let found = try_row(words, seat, rows, key, row);
-        if found == 0 || found == key + 1 {
-            return Some(row);
+        if !marks.is_of_another(row, mark) {
+            let found = try_row(words, seat, rows, key, row);
+            if found == 0 || found == key + 1 {
+                marks.note(row, key);
+                return Some(row);
+            }
+            if tried == SHORT_WALK {
+                marks.make_room(alloc, rows);
+            }
+            marks.note(row, found - 1);
         }
         row = row_behind(row, rows);
     }

@@ -2,7 +2,7 @@
 #![tactic(auto)]
 
 ghost use Rattle.std.specs.Prelude.{◌≡◌, ℕ, ◌<◌, ◌≤◌, pos, ◌≤ℤ◌};
-ghost use Rattle.sim_game.specs.Model.{GameModel, IsGame, IsEnd, Reachable};
+ghost use Rattle.sim_game.specs.Model.{GameModel, IsGame, IsEnd, Reachable, AreKeysBelow};
 ghost use Rattle.sim_game.specs.Resolution.{IsLeastGap, IsResolution};
 
 mod sides;
@@ -78,6 +78,13 @@ pub trait Game: Copy {
     fn key(&self, s: Self::State) -> u64
         requires { Reachable (model self.now) s }
         ensures { result ≡ (model self.now).key s };
+
+    /// A number above each key. A board needs no more rows than that: each key then has a row of its own.
+    fn key_limit(&self) -> u64
+        ensures { AreKeysBelow (model self.now) result }
+    {
+        1 << 63
+    }
 
     /// The least payoff, at least -4000.
     fn low(&self) -> i32

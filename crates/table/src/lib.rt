@@ -188,6 +188,10 @@ impl Game for Table<'_> {
         s.number as u64
     }
 
+    fn key_limit(&self) -> u64 {
+        self.setting.ranks.len() as u64
+    }
+
     #[inline]
     fn low(&self) -> i32 {
         self.low

@@ -1,4 +1,4 @@
-use Rattle.std.proofs.Common.{◌⊎◌, ⊎_elim, inl, inr, true, false, All, Some, ◌≡◌, ◌≤◌, [], ◌∷◌, w64, SFits, sym, ap, subst, ◌∙◌, arith}
+use Rattle.std.proofs.Common.{⊎_elim, inl, inr, true, false, All, Some, ◌≡◌, ◌≤◌, [], ◌∷◌, w64, SFits, sym, ap, subst, ◌∙◌, arith}
 use Rattle.std.proofs.lemmas.Int.{ints, to_z-of_z}
 use Rattle.sim_game.proofs.SideLemmas.{looser_refl}
 use Rattle.shared_board.specs.Passes.{seen_by, known_key}

@@ -1,4 +1,4 @@
-use Rattle.std.proofs.Common.{rules, arith, ◌≡◌, ◌+◌, length, All, Some, ap, ◌∙◌}
+use Rattle.std.proofs.Common.{rules, arith, ◌≡◌, ◌+◌, length, Some}
 use Rattle.std.proofs.lemmas.List.Elements.{All-pop}
 use Rattle.lazy_workers.specs.Workers.{IsJob}
 use Rattle.lazy_workers.proofs.workers.+work_all.Goals as goal

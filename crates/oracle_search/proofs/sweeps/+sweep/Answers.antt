@@ -158,22 +158,38 @@ sweep_children-returns-clause-ended g t c =
 
 -- ---- the state after its children
 pub sweep_state-returns-in-Err-clause-swept : goal.sweep_state-returns-in-Err-clause-swept
-sweep_state-returns-in-Err-clause-swept g t c = swept_none c.requires.here.kept c.requires.swept
+sweep_state-returns-in-Err-clause-swept g t c = rw c.child_rows.ensures.same (swept_none c.requires.here.kept c.requires.swept)
 
 pub sweep_state-returns-in-Ok-Some-clause-swept : goal.sweep_state-returns-in-Ok-Some-clause-swept
-sweep_state-returns-in-Ok-Some-clause-swept g t c = swept_wider (omega arith) c.sweep_children.ensures.swept
+sweep_state-returns-in-Ok-Some-clause-swept g t c = swept_wider (omega arith) (rw c.child_rows.ensures.same at c.sweep_children.ensures.swept)
 
 pub sweep_state-returns-in-Err-sweep_children-clause-swept : goal.sweep_state-returns-in-Err-sweep_children-clause-swept
-sweep_state-returns-in-Err-sweep_children-clause-swept g t c = swept_wider (omega arith) c.sweep_children.ensures.swept
+sweep_state-returns-in-Err-sweep_children-clause-swept g t c = swept_wider (omega arith) (rw c.child_rows.ensures.same at c.sweep_children.ensures.swept)
 
-pub sweep_state-close_in-requires-clause-unmet : goal.sweep_state-close_in-requires-clause-unmet
-sweep_state-close_in-requires-clause-unmet g t c =
-    not_added (g.G.Game.model c.args.setup.now.game) (g.met.G.Game.lawful c.args.setup.now.game) c.args.s c.requires.here.reachable c.sweep_children.ensures.swept.added c.requires.unmet
+pub sweep_state-returns-in-Err-full-clause-swept : goal.sweep_state-returns-in-Err-full-clause-swept
+sweep_state-returns-in-Err-full-clause-swept g t c =
+    rw c.take_buffers-buffers.ensures (swept_wider (omega arith) (rw c.child_rows.ensures.same at c.sweep_children.ensures.swept))
+
+pub sweep_state-close_in-end-requires-clause-here : goal.sweep_state-close_in-end-requires-clause-here
+sweep_state-close_in-end-requires-clause-here g t c =
+    let children = rw c.child_rows.ensures.same at c.sweep_children.ensures.swept in
+    rw c.take_buffers-buffers.ensures (at_row_after c.requires.here children.worked)
+
+pub sweep_state-close_in-end-requires-clause-unmet : goal.sweep_state-close_in-end-requires-clause-unmet
+sweep_state-close_in-end-requires-clause-unmet g t c =
+    let children = rw c.child_rows.ensures.same at c.sweep_children.ensures.swept in
+    rw c.take_buffers-buffers.ensures
+    (not_added (g.G.Game.model c.args.setup.now.game) (g.met.G.Game.lawful c.args.setup.now.game) c.args.s c.requires.here.reachable children.added c.requires.unmet)
 
 pub sweep_state-returns-clause-swept : goal.sweep_state-returns-clause-swept
-sweep_state-returns-clause-swept g t c = swept_after (swept_wider (omega arith) c.sweep_children.ensures.swept) c.close_in.ensures.swept
+sweep_state-returns-clause-swept g t c =
+    let children = rw c.child_rows.ensures.same at c.sweep_children.ensures.swept in
+    let here = rw c.take_buffers-buffers.ensures at c.close_in-end.ensures.swept in
+    rw c.put_back.ensures (swept_after (swept_wider (omega arith) children) here)
 
 pub sweep_state-returns-clause-ended : goal.sweep_state-returns-clause-ended
 sweep_state-returns-clause-ended g t c =
-    let end = rw c.in-Ok-None.field-0-is at c.in-Ok-None.ensures.ended in
-    IfOk-weaker c.close_in.result _ _ (ended_after c.close_in.ensures.swept.worked _ _ end.1) c.close_in.ensures.ended
+    let end = rw (c.in-Ok-None.field-0-is, c.child_rows.ensures.same) at c.in-Ok-None.ensures.ended in
+    let here = rw c.take_buffers-buffers.ensures at c.close_in-end.ensures.swept in
+    let ended = rw c.take_buffers-buffers.ensures at c.close_in-end.ensures.ended in
+    rw c.put_back.ensures (IfOk-weaker c.close_in-end.result _ _ (ended_after here.worked _ _ end.1) ended)

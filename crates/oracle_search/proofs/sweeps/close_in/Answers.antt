@@ -16,43 +16,43 @@ use Rattle.oracle_search.proofs.sweeps.close_in.Goals as goal
 use Rattle.oracle_search.proofs.sweeps.close_in.Goals.{After-post_alone, After-is_within, After-take_turn_over, In-Ok-take_turn_over, In-Err-Full}
 
 -- what was read, and posted alone
-posted : (g : Over) (c : After-post_alone g) → IsWorked (g.G.Game.model c.args.setup.now.game) c.args.s (at_work (g.B.Bounds.view c.args.board.now) c.args.worker.now)
+posted : (g : Over) (c : After-post_alone g) → IsWorked (g.G.Game.model c.args.setup.now.game) c.args.node.state (at_work (g.B.Bounds.view c.args.board.now) c.args.worker.now)
     (at_work (g.B.Bounds.view c.post_alone.new.board) c.args.worker.now)
 posted g c = worked_posted (worked_read (worked_none c.requires.here.kept) c.read.ensures.later c.read.ensures.entries) c.post_alone.ensures.later c.post_alone.ensures.posted
 
 -- and read again; the numbers are those of the first reading
 near : (g : Over) (c : After-is_within g) → let m = g.G.Game.model c.args.setup.now.game in
-    IsWorked m c.args.s (at_work (g.B.Bounds.view c.args.board.now) c.args.worker.now) (at_work (g.B.Bounds.view c.is_within.new.board) c.args.worker.now)
-    × AreStageNumbers m (g.B.Bounds.view c.args.board.now) (g.B.Bounds.view c.is_within.new.board) c.args.s c.args.growth.now.held c.in-Ok.numbers
+    IsWorked m c.args.node.state (at_work (g.B.Bounds.view c.args.board.now) c.args.worker.now) (at_work (g.B.Bounds.view c.is_within.new.board) c.args.worker.now)
+    × AreStageNumbers m (g.B.Bounds.view c.args.board.now) (g.B.Bounds.view c.is_within.new.board) c.args.node.state c.args.growth.now.held c.in-Ok.numbers
 near g c = (
   worked_read (worked_posted (worked_read (worked_none c.requires.here.kept) c.read.ensures.later c.read.ensures.entries) c.post_alone.ensures.later c.post_alone.ensures.posted)
       c.is_within.ensures.later c.is_within.ensures.entries,
-  numbers_later (g.G.Game.model c.args.setup.now.game) _ _ _ c.args.s c.args.growth.now.held c.in-Ok.numbers
+  numbers_later (g.G.Game.model c.args.setup.now.game) _ _ _ c.args.node.state c.args.growth.now.held c.in-Ok.numbers
       (later_trans _ _ _ c.post_alone.ensures.later c.is_within.ensures.later) c.in-Ok.ensures.read,
 )
 
 -- a turn
-turned : (g : Over) (c : After-take_turn_over g) → IsWorked (g.G.Game.model c.args.setup.now.game) c.args.s (at_work (g.B.Bounds.view c.args.board.now) c.args.worker.now)
+turned : (g : Over) (c : After-take_turn_over g) → IsWorked (g.G.Game.model c.args.setup.now.game) c.args.node.state (at_work (g.B.Bounds.view c.args.board.now) c.args.worker.now)
     (at_work (g.B.Bounds.view c.take_turn_over.new.board) c.take_turn_over.new.worker)
 turned g c = worked_after (worked_read
     (worked_posted (worked_read (worked_none c.requires.here.kept) c.read.ensures.later c.read.ensures.entries) c.post_alone.ensures.later c.post_alone.ensures.posted)
     c.is_within.ensures.later c.is_within.ensures.entries) c.take_turn_over.ensures.worked
 
-closed : (g : Over) (c : In-Ok-take_turn_over g) → c.args.sweep.now.is_last ≡ true → IsClose (g.G.Game.model c.args.setup.now.game) (g.B.Bounds.view c.take_turn_over.new.board) c.args.s
+closed : (g : Over) (c : In-Ok-take_turn_over g) → c.args.sweep.now.is_last ≡ true → IsClose (g.G.Game.model c.args.setup.now.game) (g.B.Bounds.view c.take_turn_over.new.board) c.args.node.state
 closed g c last =
     let m = g.G.Game.model c.args.setup.now.game in
     let old = g.B.Bounds.view c.args.board.now in
     let here = c.requires.here in
-    close_full m (g.met.G.Game.lawful c.args.setup.now.game) c.args.s here.has_row.goes_on here.reachable old (g.B.Bounds.view c.take_turn_over.new.board) c.args.growth.now.held
+    close_full m (g.met.G.Game.lawful c.args.setup.now.game) c.args.node.state here.has_row.goes_on here.reachable old (g.B.Bounds.view c.take_turn_over.new.board) c.args.growth.now.held
     c.in-Ok-take_turn_over.field-0 (c.take_turn_over.ensures.worked.board.later.total ∙ c.is_within.ensures.later.total ∙ c.post_alone.ensures.later.total ∙ c.read.ensures.later.total)
     c.requires.held (c.requires.done last) (c.in-Ok-take_turn_over.ensures.all c.requires.held.all)
-    (c.in-Ok-take_turn_over.ensures.gap old (numbers_later m _ _ _ c.args.s c.args.growth.now.held c.in-Ok.numbers
+    (c.in-Ok-take_turn_over.ensures.gap old (numbers_later m _ _ _ c.args.node.state c.args.growth.now.held c.in-Ok.numbers
     (later_trans _ _ _ c.post_alone.ensures.later c.is_within.ensures.later) c.in-Ok.ensures.read))
 
-full : (g : Over) (c : In-Err-Full g) → IsBoardFull (g.G.Game.model c.args.setup.now.game) c.args.s (g.B.Bounds.view c.read.new.board)
+full : (g : Over) (c : In-Err-Full g) → IsBoardFull (g.G.Game.model c.args.setup.now.game) c.args.node.state (g.B.Bounds.view c.read.new.board)
 full g c =
     let m = g.G.Game.model c.args.setup.now.game in
-    full_weaker m (g.B.Bounds.view c.read.new.board) _ (LeadsTo m c.args.s) (read_child_leads m c.args.s c.args.growth.now.held.rows c.args.growth.now.held.cols)
+    full_weaker m (g.B.Bounds.view c.read.new.board) _ (LeadsTo m c.args.node.state) (read_child_leads m c.args.node.state c.args.growth.now.held.rows c.args.growth.now.held.cols)
     (c.read.ensures.full (c.in-Err-Full.is ∙ ap Err c.in-Err-Full.field-0-is))
 
 pub returns-in-Err-Full-clause-swept : goal.returns-in-Err-Full-clause-swept
@@ -91,8 +91,8 @@ pub returns-in-Ok-add_swept-clause-swept : goal.returns-in-Ok-add_swept-clause-s
 returns-in-Ok-add_swept-clause-swept g c =
     let k = goal.at.returns-in-Ok-add_swept-clause-swept g c in
     let here = c.requires.here in
-    swept_added (g.met.G.Game.lawful c.args.setup.now.game) c.args.s here.reachable c.args.row here.has_row.goes_on
-    ((turned g k.After-take_turn_over).board.later.keys c.args.row _ here.has_row.holds) (closed g k.In-Ok-take_turn_over)
+    swept_added (g.met.G.Game.lawful c.args.setup.now.game) c.args.node.state here.reachable c.args.node.row here.has_row.goes_on
+    ((turned g k.After-take_turn_over).board.later.keys c.args.node.row _ here.has_row.holds) (closed g k.In-Ok-take_turn_over)
     (rw (ap (λ (w : WorkerView). w.swept) c.take_turn_over.ensures.same) c.requires.unmet)
     (swept_by (swept_none here.kept c.requires.swept) (turned g k.After-take_turn_over) (ap (λ (w : WorkerView). w.swept) c.take_turn_over.ensures.same))
     (rw c.key.ensures at c.in-Ok-add_swept.ensures.ok)
@@ -103,12 +103,12 @@ returns-in-Ok-add_swept-clause-ended g c = (
   one_added c.key.result c.in-Ok-take_turn_over.ensures.turn (ap (λ (w : WorkerView). w.swept) c.take_turn_over.ensures.same) c.in-Ok-add_swept.ensures.ok,
 )
 
-pub returns-in-Ok-take_turn_over-clause-swept : goal.returns-in-Ok-take_turn_over-clause-swept
-returns-in-Ok-take_turn_over-clause-swept g c = rw c.in-Err-add_swept.ensures.err
-    (swept_by (swept_none c.requires.here.kept c.requires.swept) (turned g (goal.at.returns-in-Ok-take_turn_over-clause-swept g c).After-take_turn_over)
+pub returns-in-Err-add_swept-clause-swept : goal.returns-in-Err-add_swept-clause-swept
+returns-in-Err-add_swept-clause-swept g c = rw c.in-Err-add_swept.ensures.err
+    (swept_by (swept_none c.requires.here.kept c.requires.swept) (turned g (goal.at.returns-in-Err-add_swept-clause-swept g c).After-take_turn_over)
     (ap (λ (w : WorkerView). w.swept) c.take_turn_over.ensures.same))
 
-pub returns-clause-swept : goal.returns-clause-swept
-returns-clause-swept g c =
-    swept_by (swept_none c.requires.here.kept c.requires.swept) (turned g (goal.at.returns-clause-swept g c).After-take_turn_over)
+pub returns-in-Err-take_turn_over-clause-swept : goal.returns-in-Err-take_turn_over-clause-swept
+returns-in-Err-take_turn_over-clause-swept g c =
+    swept_by (swept_none c.requires.here.kept c.requires.swept) (turned g (goal.at.returns-in-Err-take_turn_over-clause-swept g c).After-take_turn_over)
     (ap (λ (w : WorkerView). w.swept) c.take_turn_over.ensures.same)

@@ -28,6 +28,7 @@ invariant_of-self g c =
       search rules,
       known_kept keys c.self.inside.known.places.items c.keep.new.self.places.items x c.keep.ensures here
           (known_more did.keys.0 c.pass.inside.bare.seat.me.0.keys c.claim_row.new.seat.me.0.keys c.self.inside.known.places.items (ap (λ v. v.keys) did.keys.1) did.apart before),
+      did.marks,
     )
 
 pub invariant_of-self-in-None : goal.invariant_of-self-in-None
@@ -37,6 +38,7 @@ invariant_of-self-in-None g c =
       search rules,
       known_more did.keys.0 c.pass.inside.bare.seat.me.0.keys c.claim_row.new.seat.me.0.keys c.self.inside.known.places.items (ap (λ v. v.keys) did.keys.1) did.apart
           before,
+      did.marks,
     )
 
 pub invariant_of-pass : goal.invariant_of-pass

@@ -14,7 +14,8 @@ use Rattle.certificate.specs.declared.report.Report.{Report}
 use Rattle.lazy_workers.specs.Solutions.{IsSolution}
 use Rattle.commands.specs.Samples.{sample_cards, rotated_left, sample_prizes, sample_position, sample_ask, IsSampleSolution}
 use Rattle.commands.specs.Runs.{status_of, IsSampled}
-use Rattle.commands.proofs.SizeLemmas.{below_five, more_states}
+use Rattle.sim_game.proofs.StateLemmas.{more_states}
+use Rattle.commands.proofs.SizeLemmas.{below_five}
 
 no_fault_below : (n : ℕ) → n < 5 → first_fault sample_cards sample_cards (rotated_left n sample_cards) (pos 0) ≡ None
 no_fault_below = below_five (λ n. first_fault sample_cards sample_cards (rotated_left n sample_cards) (pos 0) ≡ None) refl refl refl refl refl

@@ -15,6 +15,7 @@ use Rattle.std.proofs.lemmas.Map.Made.{IsDistinct-from_AllPairs, is_member-Decid
 use Rattle.sums.specs.Sums.{count_below}
 use Rattle.sums.proofs.CountLemmas.{count_same, count_constant}
 use Rattle.sim_game.specs.Model.{GameModel, Turn, IsTurn, IsGame, Reachable, HasAtMost, after_turn}
+use Rattle.sim_game.proofs.StateLemmas.{more_states}
 use Rattle.sim_game.proofs.ReachLemmas.{reachable_induction}
 use Rattle.plan_book.specs.Serial.{nodes_within, tree_size}
 use Rattle.goofspiel.specs.declared.Pay.TheVariants.{Margin}
@@ -87,9 +88,6 @@ few_keys m game keys held = record {
   few = λ count states reached apart. pigeonhole count (λ i. m.key (states i)) keys (λ i l. held (states i) (reached i l))
       (λ i j l h e. apart i j l h (game.same_key (states i) (states j) (reached i (omega (arith, l, h))) (reached j h) e));
 }
-
-pub more_states : {S : Type 0} (m : GameModel S) (few many : ℕ) → HasAtMost m few → few ≤ many → HasAtMost m many
-more_states m few many most l = record { few = λ count states reached apart. let low = most.few count states reached apart in omega (arith, low, l) }
 
 -- ---- hands and scores
 -- the packed hands of so many cards from 1 to 5

@@ -1,5 +1,6 @@
 pub mod CardLaws
 pub mod Cards
+pub mod Counts
 pub mod DealLaws
 pub mod DrawnLaws
 pub mod DrawnRules

@@ -7,7 +7,9 @@ ghost use Rattle.goofspiel.specs.DrawnRules.{drawn_game, KeepsDrawnRules};
 ghost use Rattle.goofspiel.specs.Position.{first_fault, prizes_of, IsPosition, IsSettingOf};
 ghost use Rattle.goofspiel.specs.Rules.{high_of, low_of};
 
+use crate::counts::{choose, deals};
 use crate::hands::{hands_key, play};
+use crate::position::prize_sum;
 use crate::sets::{number_at, size, take_out};
 use crate::{Goofspiel, GoofspielError, Pay, Setting, State};
 use sim_game::{CHANCE, Game, Side};
@@ -109,6 +111,21 @@ impl Game for GoofspielDrawn {
     fn key(&self, s: DrawnState) -> u64 {
         let later = put(hands_key(s.hands), s.undrawn as u64, 13);
         put(later, s.place as u64, 4).0
+    }
+
+    /// With so many cards left, besides, one set of places fewer by one than the cards is not drawn, and any place is bid
+    /// for; the score differs from the first one by no more than the sum of the prizes.
+    fn most_states(&self) -> u64 {
+        let count = self.setting.count as u32;
+        let later = count.saturating_sub(1);
+        let total = prize_sum(&self.setting.prizes[..count as usize]);
+        let mut most = 0;
+        for left in 0..count + 1 {
+            let sets = choose(later, left.saturating_sub(1));
+            let deals = deals(choose(count, left), total);
+            most += 1.max(count) as u64 * (sets * deals);
+        }
+        most
     }
 
     #[inline]

@@ -6,12 +6,14 @@ ghost use Rattle.goofspiel.specs.Laws.{goofspiel_is_game};
 ghost use Rattle.goofspiel.specs.Position.{first_fault, prizes_of, IsPosition, IsSettingOf};
 ghost use Rattle.goofspiel.specs.Rules.{goofspiel_game, high_of, low_of, KeepsRules};
 
+mod counts;
 mod drawn;
 mod hands;
 mod position;
 mod refusals;
 mod sets;
 
+use counts::{choose, deals};
 pub use drawn::{DrawnState, GoofspielDrawn, drawn_position_has_one_game, keeps_drawn_rules};
 use hands::{hands_key, play};
 pub use position::position_has_one_game;
@@ -188,6 +190,18 @@ impl Game for Goofspiel {
     #[inline]
     fn key(&self, s: State) -> u64 {
         hands_key(s).0
+    }
+
+    /// With so many cards left, each side has one of the sets of so many of its cards, and the score differs from the
+    /// first one by no more than the prizes that are gone.
+    fn most_states(&self) -> u64 {
+        let count = self.setting.count;
+        let mut most = 0;
+        for left in 0..count + 1 {
+            let gone = prize_sum(&self.setting.prizes[..(count - left) as usize]);
+            most += deals(choose(count as u32, left as u32), gone);
+        }
+        most
     }
 
     #[inline]

@@ -98,20 +98,21 @@ where
     gather(alloc, g, board, &enough, lead, done)
 }
 
-/// What is asked, of a board of no more rows than the game can need: one for each key, and one that stays free. A key
-/// below the number of rows has a home of its own, as on a larger board, so nothing else changes.
+/// What is asked, of a board of no more rows than the game has states and one or two that stay free, so that it is never
+/// full and nothing else changes. The number is odd: keys are packed fields, and an even number would bring those that
+/// differ in high fields alone to few rows.
 fn with_rows_for<G: Game>(g: G, ask: &Ask) -> Ask
     requires { IsAskInRange ask.now }
     ensures same { AnswersToo (G.model g) result ask.now }
     ensures weight { result.weight ≡ ask.now.weight }
     ensures in_range { IsAskInRange result }
 {
-    let limit = g.key_limit();
-    if limit >= ask.rows as u64 {
+    let most = g.most_states();
+    if most >= ask.rows as u64 - 1 {
         return *ask;
     }
     let mut enough = *ask;
-    enough.rows = limit as u32 + 1;
+    enough.rows = most as u32 + 1 + most as u32 % 2;
     enough
 }
 

@@ -12,7 +12,7 @@ use crate::ends::{SearchEnd, Stop};
 use crate::gate::Gate;
 use crate::worker::Setup;
 use bounds_board::{Bounds, Enclosure, Row};
-use sim_game::{Game, Side, opening_bound, resolution};
+use sim_game::{Game, SCALE, resolution};
 
 /// How far the bounds at the state are apart, read anew.
 pub(crate) fn gap_at<G: Game, B: Bounds<G>>(g: G, s: G::State, row: Row, board: &mut B) -> i64
@@ -116,20 +116,17 @@ fn left_gap<G: Game>(g: G, s: G::State, total: u32) -> i64
 }
 
 /// The gap, in millionths of a payoff, at which a state is left to another worker with linear stages: what these leave,
-/// a few millionths and a sixteenth of the range over the weight with each rank, and no more than with regret matching.
+/// a few millionths and a sixteenth of the range over the weight with each rank, which is less than with regret matching.
 pub(crate) fn linear_left_gap<G: Game>(g: G, s: G::State, total: u32) -> i64
     requires reachable { Reachable (G.model g) s }
-    requires goes_on { 1 ≤ (G.model g).rank s }
     requires low { 8192 ≤ total }
     requires high { total ≤ 1048576 }
     ensures least { pos 0 ≤ℤ result }
     ensures left { IsLeftBelow (G.model g) total s result }
 {
-    let range = opening_bound(g, Side::Two).saturating_sub(opening_bound(g, Side::One));
-    let each = (range / (16 * total as i64)).saturating_add(2);
-    left_gap(g, s, total)
-        .min((g.rank(s) as i64).saturating_mul(each))
-        .max(0)
+    let range = (g.high() - g.low()).unsigned_abs() as u64;
+    let each = range * SCALE as u64 / (16 * total as u64) + 2 * range.min(1);
+    (g.rank(s) as u64 * each) as i64
 }
 
 /// How the search of a state ends before its first turn, if it does: its gap is at most the target, or it is left to

@@ -208,7 +208,7 @@ impl Game for OshiZumo {
         put(put(place, s.one as u64, 5), s.two as u64, 5).0
     }
 
-    fn key_limit(&self) -> u64 {
+    fn most_states(&self) -> u64 {
         1 << 15
     }
 

@@ -212,7 +212,7 @@ impl Game for Pursuit {
         put(put(rounds, s.one as u64, 5), s.two as u64, 5).0
     }
 
-    fn key_limit(&self) -> u64 {
+    fn most_states(&self) -> u64 {
         1 << 16
     }
 

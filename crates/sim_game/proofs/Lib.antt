@@ -1,3 +1,4 @@
 pub mod ReachLemmas
 pub mod ResolutionLemmas
 pub mod SideLemmas
+pub mod StateLemmas

@@ -76,10 +76,6 @@ pub record HasAtMost {S : Type 0} (m : GameModel S) (most : ℕ) : Type 0 where
 abbrev pub IsEnd : {S : Type 0} → GameModel S → S → Type 0
 IsEnd m s = m.rank s ≡ 0
 
--- each reachable state has a key below the limit
-abbrev pub AreKeysBelow : {S : Type 0} → GameModel S → ℕ → Type 0
-AreKeysBelow m limit = (s : _) → Reachable m s → m.key s < limit
-
 -- what every game promises
 pub record IsGame {S : Type 0} (m : GameModel S) : Type 0 where
   pub width_low : 1 ≤ m.width

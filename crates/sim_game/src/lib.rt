@@ -2,7 +2,7 @@
 #![tactic(auto)]
 
 ghost use Rattle.std.specs.Prelude.{◌≡◌, ℕ, ◌<◌, ◌≤◌, pos, ◌≤ℤ◌};
-ghost use Rattle.sim_game.specs.Model.{GameModel, IsGame, IsEnd, Reachable, AreKeysBelow};
+ghost use Rattle.sim_game.specs.Model.{GameModel, IsGame, IsEnd, HasAtMost, Reachable};
 ghost use Rattle.sim_game.specs.Resolution.{IsLeastGap, IsResolution};
 
 mod sides;
@@ -79,9 +79,9 @@ pub trait Game: Copy {
         requires { Reachable (model self.now) s }
         ensures { result ≡ (model self.now).key s };
 
-    /// A number above each key. A board needs no more rows than that: each key then has a row of its own.
-    fn key_limit(&self) -> u64
-        ensures { AreKeysBelow (model self.now) result }
+    /// A number that the states, ends included, are no more than. A board of more rows is never full.
+    fn most_states(&self) -> u64
+        ensures { HasAtMost (model self.now) result }
     {
         1 << 63
     }

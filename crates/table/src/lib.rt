@@ -188,7 +188,7 @@ impl Game for Table<'_> {
         s.number as u64
     }
 
-    fn key_limit(&self) -> u64 {
+    fn most_states(&self) -> u64 {
         self.setting.ranks.len() as u64
     }
 

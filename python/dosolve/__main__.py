@@ -5,22 +5,22 @@ import argparse
 import json
 import os
 import sys
-from collections.abc import Iterator
+from collections.abc import Iterable, Iterator, Sequence
 from contextlib import closing, contextmanager
-from dataclasses import replace
+from functools import partial
 from pathlib import Path
 from typing import Any
 
 from . import __version__, pictures
-from .errors import DosolveError, InvalidError, ProgramMissingError
-from .game import SCALE, SIDES, Side
+from .errors import DosolveError, InputRefusedError, InvalidError, ProgramMissingError
+from .game import SCALE, SIDES, Field, Side
 from .measuring import load_player, load_table, measure, plan_of, solved_text
 from .positions import ASKED, Position
-from .program import Solver, find_program
+from .program import Solver, find_program, require_match
 from .progress import read_progress
-from .reports import Report
+from .reports import Report, scale_notes
 from .sweeps import Swept, read_positions, sweep
-from .table import Table, read_matrix
+from .table import Table, names_file, read_matrix
 from .tournaments import tournament
 from .values import as_points
 
@@ -28,6 +28,9 @@ INTERRUPTED, PIPE_CLOSED = 130, 141
 
 _GAMES = (".csv", ".nfg", ".efg", ".py")
 """The endings of files that tell a game, and ask for nothing."""
+
+_NO_GAMES = (".json", ".jsonl", ".report")
+"""The endings of files of which one knows what they are."""
 
 _POSITION = "a position (.json), or a game: a matrix (.csv), a Gambit file, a Python file"
 
@@ -48,19 +51,36 @@ def _print_record(record: Any) -> None:
     print(json.dumps(record))
 
 
+def _print_notes(notes: Iterable[str]) -> None:
+    for note in notes:
+        print(f"note {note}")
+
+
 def _solver(words: argparse.Namespace) -> Solver:
     return Solver(words.program)
 
 
-def _position(words: argparse.Namespace) -> Position:
-    """The position of a file, with what the options ask for in place of what the file asks."""
-    return _asked(words, _loaded(words.position))
-
-
-def _loaded(path: Path) -> Position:
-    """The position of a file; of a file that tells a game, the one with the package's defaults."""
+def _position(words: argparse.Namespace, path: Path) -> Position:
+    """The position of a file, with what the options ask for in place of what the file asks or
+    leaves out; of a file that tells a game, the one with the package's defaults."""
+    asked = _asked(words)
     with _naming(path):
-        return Position(_read_table(path, None)) if path.suffix in _GAMES else Position.load(path)
+        if path.suffix.lower() not in _GAMES:
+            return _loaded(path, asked)
+        found = Position(_read_table(path, None), **asked)
+        found.text()  # refused here where it is too long
+    return found
+
+
+def _loaded(path: Path, asked: dict[str, Any]) -> Position:
+    """The position of a file of JSON."""
+    try:
+        return Position.load(path, asked)
+    except InputRefusedError as refusal:
+        if refusal.code != 10 or path.suffix.lower() in _NO_GAMES:
+            raise
+        raise InputRefusedError(refusal.text, f"{refusal.hint}; a game is read where the file ends "
+                                              f"with {', '.join(_GAMES)}") from None
 
 
 @contextmanager
@@ -68,10 +88,38 @@ def _naming(path: Path) -> Iterator[None]:
     """Has a refusal of what is in a file name the file."""
     try:
         yield
-    except DosolveError as fault:
+    except (DosolveError, UnicodeDecodeError) as fault:
         if str(path) not in str(fault):
             fault.add_note(str(path))
         raise
+
+
+def _require_output(output: Path | None, *sources: Path) -> None:
+    """Refuses an output that is also read or cannot be written, before anything is done for it."""
+    if output is None:
+        return
+    _require_other(output, *sources)
+    if output == names_file(output):
+        raise InvalidError(f"{output} ends as the file of names beside it would: name another "
+                           f"output")
+    if output.exists() and not output.is_file() and not output.is_dir():
+        return  # a pipe would be ended by a try
+    is_new = not output.exists()
+    with output.open("ab"):
+        pass
+    if is_new:
+        output.resolve().unlink()
+
+
+def _require_other(output: Path | None, *sources: Path) -> None:
+    """Refuses an output that is one of the files that are read, with their names beside them."""
+    read = [*sources, *map(names_file, sources)]
+    if output is not None and any(_is_same(output, file) for file in read):
+        raise InvalidError(f"{output} is read, and would be written over: name another output")
+
+
+def _is_same(one: Path, other: Path) -> bool:
+    return one.exists() and other.exists() and one.samefile(other)
 
 
 def _report(path: Path) -> Report:
@@ -80,18 +128,28 @@ def _report(path: Path) -> Report:
         return Report.load(path)
 
 
-def _asked(words: argparse.Namespace, position: Position) -> Position:
-    """A position with what the options ask for."""
-    asked = {field.name: getattr(words, field.name) for field in ASKED
-             if getattr(words, field.name, None) is not None}
-    return replace(position, **asked)
+def _asked(words: argparse.Namespace) -> dict[str, Any]:
+    """What the options ask for."""
+    asked = {}
+    for field in ASKED:
+        if getattr(words, field.name, None) is not None:
+            asked[field.name] = getattr(words, field.name)
+            field.refuse(asked[field.name])
+    return asked
 
 
 def _solve(words: argparse.Namespace) -> None:
-    position = _position(words)
+    position = _position(words, words.position)
+    _require_output(words.output, words.position)
     report = _solver(words).solve(position, words.seconds, progress=sys.stderr.isatty())
-    if words.output:
-        report.save(words.output)
+    try:
+        if words.output:
+            report.save(words.output)
+    finally:
+        _print_solved(words, report)
+
+
+def _print_solved(words: argparse.Namespace, report: Report) -> None:
     if words.report:
         print(report.text(), end="")
     elif words.json:
@@ -101,56 +159,82 @@ def _solve(words: argparse.Namespace) -> None:
 
 
 def _check(words: argparse.Namespace) -> None:
+    notes = _scale_beside(words.report)
     with _naming(words.report):
         found = _solver(words).check(words.report.read_bytes())
     if words.json:
-        _print_record({"lower": found.lower, "upper": found.upper, "outcome": found.outcome})
-    else:
-        print(f"accepted lower {as_points(found.lower)} upper {as_points(found.upper)} "
-              f"{found.outcome}")
+        _print_record({"lower": found.lower, "upper": found.upper, "outcome": found.outcome,
+                       "notes": list(notes)})
+        return
+    print(f"accepted lower {as_points(found.lower)} upper {as_points(found.upper)} "
+          f"{found.outcome}")
+    _print_notes(notes)
+
+
+def _scale_beside(path: Path) -> tuple[str, ...]:
+    """The note on the payoffs of a report, where names beside it tell of any. The report is read
+    only then, and what is wrong with either is not told."""
+    try:
+        return scale_notes(Report.load(path).game) if names_file(path).is_file() else ()
+    except DosolveError:
+        return ()
 
 
 def _exploit(words: argparse.Namespace) -> None:
-    report, solver = words.report.read_bytes(), _solver(words)
+    report, solver = _report(words.report), _solver(words)
     sides: tuple[Side, ...] = (words.side,) if words.side else SIDES
     with _naming(words.report):
-        found = [solver.exploit(report, side) for side in sides]
+        found = {side: solver.exploit(report, side) for side in sides}
+    both = {}
+    if len(found) == len(SIDES):
+        both["nash_conv"] = float(found["two"].payoff - found["one"].payoff)
+    scaled = scale_notes(report.game)
     if words.json:
-        _print_record([{"side": worst.side, "guarantees": worst.guaranteed / SCALE,
+        _print_record([{"side": side, "guarantees": worst.guaranteed / SCALE,
                         "low": float(worst.low / SCALE), "high": float(worst.high / SCALE),
                         "exact": worst.is_exact,
-                        "fraction": str(worst.payoff) if worst.is_exact else None}
-                       for worst in found])
+                        "fraction": str(worst.payoff) if worst.is_exact else None,
+                        "notes": [*scaled, *report.row_notes(side)]} | both
+                       for side, worst in found.items()])
         return
-    for worst in found:
-        print(f"player {worst.side} guarantees {as_points(worst.guaranteed)}")
-    if len(found) == len(SIDES):
-        print(f"nash_conv {float(found[1].payoff - found[0].payoff):z.6f}")
+    for side, worst in found.items():
+        print(f"player {side} guarantees {as_points(worst.guaranteed)}")
+    for name, payoff in both.items():
+        print(f"{name} {payoff:z.6f}")
+    _print_notes(scaled)
+    for side in sides:
+        _print_notes(report.row_notes(side))
 
 
 def _measure(words: argparse.Namespace) -> None:
-    position, player = _position(words), load_player(words.player)
+    require_match(words.games, words.seed)
+    position, player = _position(words, words.position), load_player(words.player)
     solver, shown = _solver(words), sys.stderr.isatty()
     sides: tuple[Side, ...] = (words.side,) if words.side else SIDES
+    kept = {side: words.keep / f"{side}.report" for side in sides} if words.keep else {}
+    for file in kept.values():
+        file.parent.mkdir(parents=True, exist_ok=True)
+        _require_output(file, words.position, words.player)
     # First the player, so that its faults are found before a long search.
     plans = {side: plan_of(position, player, side, progress=shown) for side in sides}
     solved = solver.solve(position, words.seconds, progress=shown)
     if not words.json:
         print(solved_text(solved), end="")
-    records = []
+    found = {}
     for side, mine in plans.items():
-        found = measure(position, mine, side, solved, words.games, words.seed, words.program)
-        records.append(found.record())
+        found[side] = measure(position, mine, side, solved, words.games, words.seed,
+                              words.program)
         if not words.json:
-            print(found.text(), end="")
-        if words.keep:
-            words.keep.mkdir(parents=True, exist_ok=True)
-            found.report.save(words.keep / f"{side}.report")
+            print(found[side].text(), end="")
     if words.json:
-        _print_record({"solver": solved.record(), "player": records})
+        _print_record({"solver": solved.record(),
+                       "player": [measured.record() for measured in found.values()]})
+    for side, file in kept.items():
+        found[side].report.save(file)
 
 
 def _show(words: argparse.Namespace) -> None:
+    _require_output(words.output, words.report)
     pictures.save(_picture(words), words.output)
     if words.json:
         _print_record({"output": str(words.output)})
@@ -169,16 +253,29 @@ def _picture(words: argparse.Namespace) -> Any:
 
 
 def _sweep(words: argparse.Namespace) -> None:
-    failed = 0
-    results = sweep(read_positions(words.positions), None, words.output, _solver(words),
+    failed = old = 0
+    _require_other(words.output, words.positions)
+    results = sweep(_positions(words.positions), None, words.output, _solver(words),
                     words.seconds)
     with closing(results):
         for found in results:
             failed += found.report is None
+            old += found.is_old
             print(json.dumps({"number": found.number} | found.record()) if words.json
                   else _swept_line(found), flush=True)
+    if old:
+        print(f"dosolve: results taken from {words.output}: {old}", file=sys.stderr)
     if failed:
         raise DosolveError(f"{failed} positions failed; a second call tries them again")
+
+
+def _positions(path: Path) -> Sequence[Position | str]:
+    """The positions of a file; a single one has the names beside it."""
+    lines = read_positions(path)
+    if path.suffix.lower() != ".json":
+        return lines
+    with _naming(path):
+        return [Position.load(path)]
 
 
 def _swept_line(found: Swept) -> str:
@@ -196,21 +293,25 @@ def _match(words: argparse.Namespace) -> None:
     report = _report(words.report)
     found = _solver(words).match(report, words.games, words.seed)
     told = found.told(report.game)
+    notes = [*scale_notes(report.game), *report.row_notes("one"), *report.row_notes("two")]
     if words.json:
         _print_record({"turns": told, "payoff": found.payoff, "games": found.games,
                        "mean": float(found.mean), "error": found.error, "least": found.least,
-                       "most": found.most})
+                       "most": found.most, "notes": notes})
         return
     for line in told:
         print(f"turn {line}")
     print(f"payoff {found.payoff}\ngames {found.games} mean {float(found.mean):z.6f} error "
           f"{found.error or 0:z.6f} least {found.least} most {found.most}")
+    _print_notes(notes)
 
 
 def _table(words: argparse.Namespace) -> None:
+    asked = _asked(words)
+    _require_output(words.output, words.source)
     with _naming(words.source):
         table = _read_table(words.source, words.rounds)
-    _asked(words, Position(table)).save(words.output)
+        Position(table, **asked).save(words.output)
     if words.json:
         _print_record({"states": len(table.listing), "scale": str(table.scale)})
     else:
@@ -220,11 +321,12 @@ def _table(words: argparse.Namespace) -> None:
 
 def _read_table(source: Path, rounds: int | None) -> Table:
     """The table of a file, by its ending."""
-    if rounds is not None and source.suffix not in (".json", ".csv"):
+    ending = source.suffix.lower()
+    if rounds is not None and ending not in (".json", ".csv"):
         raise InvalidError(f"{source} is no matrix that is played for some rounds")
-    if source.suffix == ".py":
+    if ending == ".py":
         return load_table(source)
-    if source.suffix in (".nfg", ".efg"):
+    if ending in (".nfg", ".efg"):
         return Table.from_gambit(source)
     matrix, one, two = read_matrix(source)
     if rounds is None:
@@ -233,14 +335,33 @@ def _read_table(source: Path, rounds: int | None) -> Table:
 
 
 def _tournament(words: argparse.Namespace) -> None:
-    players = {path.stem: load_player(path) for path in words.players}
-    positions = [_loaded(path) for path in words.position]
+    names = _player_names(words.players)
+    players = {name: load_player(path) for name, path in zip(names, words.players)}
+    positions = [_position(words, path) for path in words.position]
     found = tournament(players, positions, None if words.no_solver else _solver(words),
-                       words.games, words.seed)
+                       words.games, words.seed, words.seconds)
     if words.json:
         print(found.json(), end="")
+    elif words.csv:
+        print(found.csv(), end="")
+        for note in found.notes:
+            print(f"dosolve: note {note}", file=sys.stderr)
     else:
-        print(found.csv() if words.csv else found.markdown(), end="")
+        print(found.markdown(), end="")
+
+
+def _player_names(paths: Sequence[Path]) -> list[str]:
+    """A name for each file of a player: its stem, and before that as many of its folders as tell
+    it from the others."""
+    full = [(*path.parent.resolve().parts, path.stem) for path in paths]
+    names = []
+    for path, parts in zip(paths, full):
+        count = next((count for count in range(1, len(parts) + 1)
+                      if [other[-count:] for other in full].count(parts[-count:]) == 1), 0)
+        if count == 0:
+            raise InvalidError(f"{path} is given twice")
+        names.append("/".join(parts[-count:]))
+    return names
 
 
 class _Version(argparse.Action):
@@ -264,6 +385,14 @@ def _seconds(word: str) -> float:
     if not seconds >= 0:
         raise argparse.ArgumentTypeError(f"{word!r} has to be a number from 0, or inf")
     return seconds
+
+
+def _number(field: Field, word: str) -> int:
+    """A whole number; its range is refused as that of a position is."""
+    try:
+        return int(word)
+    except ValueError:
+        raise argparse.ArgumentTypeError(field.told(word)) from None
 
 
 def _parser() -> argparse.ArgumentParser:
@@ -294,14 +423,16 @@ def _add_seconds(parser: argparse.ArgumentParser, each: str = ", or at Ctrl-C") 
                              f"seconds{each}; `inf` goes on to the end")
 
 
-def _add_asked(parser: argparse.ArgumentParser) -> None:
-    group = parser.add_argument_group("in place of what the position asks")
+def _add_asked(parser: argparse.ArgumentParser,
+               title: str = "in place of what the position asks") -> None:
+    group = parser.add_argument_group(title)
     for field in ASKED:
         if field.choices:
             group.add_argument(f"--{field.name}", choices=field.choices)
         else:
-            group.add_argument(f"--{field.name}", type=int, metavar="N",
-                               help=f"{field.low} to {field.high}")
+            about = f", {field.about}" if field.about else ""
+            group.add_argument(f"--{field.name}", type=partial(_number, field), metavar="N",
+                               help=f"{field.low} to {field.high}{about}")
 
 
 def _add_games(parser: argparse.ArgumentParser) -> None:
@@ -371,6 +502,8 @@ def _add_tournament(commands: Any) -> None:
     parser.add_argument("--no-solver", action="store_true", help="without the solver's plans")
     parser.add_argument("--csv", action="store_true", help="print the meetings as CSV")
     _add_games(parser)
+    _add_seconds(parser, " for each position")
+    _add_asked(parser, "in place of what the positions ask")
 
 
 def _add_show(commands: Any) -> None:
@@ -395,10 +528,10 @@ def _add_show(commands: Any) -> None:
 def _add_sweep(commands: Any) -> None:
     parser = _added(commands, "sweep", _sweep, "solve many positions on all processors")
     parser.add_argument("positions", type=Path, metavar="FILE.jsonl",
-                        help="one position on each line")
+                        help="one position on each line; or one position (.json)")
     parser.add_argument("-o", "--output", type=Path, metavar="RESULTS.jsonl",
                         help="write results, and go on where an earlier call stopped, by Ctrl-C "
-                             "too")
+                             "too, or was cut short by fewer seconds")
     _add_seconds(parser, " for each position")
 
 
@@ -420,7 +553,7 @@ def main(arguments: list[str] | None = None) -> int:
         told = str(fault)
         if isinstance(fault, OSError) and fault.filename is not None:
             told = f"{fault.filename}: {fault.strerror}"
-        print(f"dosolve: {where}{told}", file=sys.stderr)
+        print(f"dosolve: {' '.join(f'{where}{told}'.splitlines())}", file=sys.stderr)
         return 1
     return 0
 

@@ -57,12 +57,14 @@ Expand = Callable[[Any], End | Turn]
 @dataclass(frozen=True)
 class Built:
     """A table: its states as a position has them, the node of each (None where a state only deals
-    out chances), the names of moves (none at an end), and what payoffs were multiplied by."""
+    out chances), the names of moves (none at an end), what payoffs were multiplied by, and which
+    states only deal out chances."""
 
     listing: tuple[Any, ...]
     nodes: tuple[Any, ...]
     names: tuple[Names, ...]
     scale: Fraction
+    deals: frozenset[int]
 
 
 def exact(number: Any, what: str = "payoff") -> Fraction:
@@ -197,6 +199,7 @@ class _Walk:
 
     expand: Expand
     rounded: bool
+    advice: str
     told: dict[Hashable, Told] = field(default_factory=dict)
     names: dict[Hashable, Names] = field(default_factory=dict)
     done: dict[Hashable, None] = field(default_factory=dict)
@@ -215,7 +218,11 @@ class _Walk:
             elif node not in self.done:
                 on_way.add(node)
                 waiting.append((node, True))
-                waiting += [(after, False) for after in reversed(self.look(node))
+                behind = self.look(node)
+                if behind and len(on_way) > MOST_RANK and not isinstance(node, Deal):
+                    raise NoTableError(f"the game goes on for more than {MOST_RANK} turns, at "
+                                       f"{shorten(node)}: {self.advice}")
+                waiting += [(after, False) for after in reversed(behind)
                             if after not in self.done]
 
     def look(self, node: Hashable) -> list[Hashable]:
@@ -249,9 +256,11 @@ class _Walk:
                                f"{shorten(node)}") from None
 
 
-def build(root: Hashable, expand: Expand, rounded: bool = False) -> Built:
-    """The table of the game that begins at a node."""
-    walk = _Walk(expand, rounded)
+def build(root: Hashable, expand: Expand, rounded: bool = False,
+          advice: str = "a table has to end before") -> Built:
+    """The table of the game that begins at a node. `advice` says what to do about one that goes on
+    for too long."""
+    walk = _Walk(expand, rounded, advice)
     walk.walk(root)
     inner = [node for node in reversed(walk.done) if not isinstance(walk.told[node], Fraction)]
     payoffs = {node: value for node, value in walk.told.items() if isinstance(value, Fraction)}
@@ -268,7 +277,8 @@ def build(root: Hashable, expand: Expand, rounded: bool = False) -> Built:
     nodes = [None if isinstance(node, Deal) else node for node in inner]
     nodes += [ends[payoff] for payoff in falling]
     names = [walk.names[node] for node in inner] + [((), ()) for _ in falling]
-    return Built((*rows, *falling), tuple(nodes), tuple(names), scale)
+    deals = frozenset(place for place, node in enumerate(inner) if isinstance(node, Deal))
+    return Built((*rows, *falling), tuple(nodes), tuple(names), scale, deals)
 
 
 def _scale(payoffs: Iterable[Fraction]) -> Fraction:
@@ -392,7 +402,7 @@ def of_functions(root: Hashable, moves: Callable[[Any], Any], after: Callable[..
         rows = [[_outcomes(after(node, one, two)) for two in twos] for one in ones]
         return Turn(rows, (unique(ones), unique(twos)))
 
-    return build(_hashed(root), expand, rounded)
+    return build(_hashed(root), expand, rounded, "let moves return None where it ends")
 
 
 def _payoff(node: Hashable, found: Any) -> Fraction:

@@ -132,6 +132,8 @@ def _explained(words: list[str]) -> str:
         return f"the report's bound of {words[2]} is not that of its plan"
     if words[:2] == ["refused", "resolution"] and len(words) == 3:
         return f"the game's resolution is {words[2]}"
+    if words == ["refused", "outcome"]:
+        return "the gap, the gap asked, the resolution and the turns do not allow the outcome"
     return ""
 
 

@@ -11,7 +11,7 @@ from __future__ import annotations
 
 import math
 from abc import ABC, abstractmethod
-from collections.abc import Iterable, Iterator, Set
+from collections.abc import Collection, Iterable, Iterator, Sequence, Set
 from dataclasses import dataclass
 from fractions import Fraction
 from typing import Any, ClassVar, Final, Literal, NewType, Self, cast
@@ -75,12 +75,12 @@ class Field:
         if not good:
             fault = "range" if kind else "kind"
             raise InputRefusedError(f"input {15 if kind else 14} {fault} of {self.name}",
-                                    self._told(value))
+                                    self.told(value))
 
     def _is_in(self, number: int) -> bool:
         return self.low <= number <= self.high
 
-    def _told(self, value: object) -> str:
+    def told(self, value: object) -> str:
         """What is wrong with a value, and what it has to be."""
         if self.choices:
             wanted = " or ".join(map(repr, self.choices))
@@ -123,6 +123,17 @@ def sign(number: int) -> int:
     return (number > 0) - (number < 0)
 
 
+def require_clear(given: Collection[Any], labels: Sequence[int], names: Sequence[str]) -> None:
+    """Refuses labels that could as well be meant as names, and of other moves then."""
+    if not all(str(label) in names for label in given):
+        return
+    for label in given:
+        numbered = names[labels.index(label)] if label in labels else str(label)
+        if numbered != str(label):
+            raise InvalidError(f"{label} is the number of the move {numbered!r} and the name of "
+                               f"another: write a name as a word, '{label}' or {numbered!r}")
+
+
 class State(ABC):
     """A state of a game: all that the rest of the game depends on."""
 
@@ -160,7 +171,13 @@ class State(ABC):
 
     def move(self, side: Side, label: int | str) -> Move:
         """The number of the move with this label, or with this name; a label as a text will do
-        where no move has that name."""
+        where no move has that name. A label that is the name of another move is refused."""
+        if not isinstance(label, str):
+            require_clear((label,), self.moves(side), self.names(side))
+        return self._move(side, label)
+
+    def _move(self, side: Side, label: int | str) -> Move:
+        """The number of the move with this label, whatever the names are, or with this name."""
         known: tuple[int | str, ...] = self.moves(side)
         if isinstance(label, str):
             names = self.names(side)
@@ -169,8 +186,9 @@ class State(ABC):
             else:
                 label = int(label)
         if label not in known:
+            named = f", and one named '{label}'" if str(label) in self.names(side) else ""
             raise InvalidError(f"player {side} has no move {shorten(label)} in {self}, whose moves "
-                               f"are {known}")
+                               f"are {known}{named}")
         return Move(known.index(label))
 
     def play(self, *, one: int | str, two: int | str, draw: int = 0) -> Self:

@@ -4,7 +4,7 @@ from __future__ import annotations
 import math
 from abc import abstractmethod
 from collections.abc import Sequence
-from dataclasses import dataclass, field
+from dataclasses import dataclass, field, fields
 from functools import lru_cache
 
 from .game import CHANCE, Field, Game, Side, State, members, packed, sign, unpacked
@@ -102,7 +102,7 @@ class _Goofspiel(Game):
         return (hands[0], hands[1], found) if held and equal and near else None
 
 
-@dataclass(frozen=True)
+@dataclass(frozen=True, repr=False)
 class _Hands(State):
     """The cards left to each player, rising, and One's prizes so far less Two's."""
 
@@ -110,6 +110,12 @@ class _Hands(State):
     one: tuple[int, ...]
     two: tuple[int, ...]
     score: int
+
+    def __repr__(self) -> str:
+        shown = {each.name: getattr(self, each.name) for each in fields(self) if each.repr}
+        shown |= {} if self.is_end else {"prize": self.prize}
+        told = ", ".join(f"{name}={value!r}" for name, value in shown.items())
+        return f"{type(self).__name__}({told})"
 
     @property
     @abstractmethod
@@ -139,7 +145,7 @@ class _Hands(State):
         return _without(self.one, one), _without(self.two, two), score
 
 
-@dataclass(frozen=True)
+@dataclass(frozen=True, repr=False)
 class GoofspielState(_Hands):
     """A state of Goofspiel: the cards left to each player, rising, and the score."""
 
@@ -188,7 +194,7 @@ class Goofspiel(_Goofspiel):
         return GoofspielState(self, *found) if found else None
 
 
-@dataclass(frozen=True)
+@dataclass(frozen=True, repr=False)
 class GoofspielDrawnState(_Hands):
     """A state of Goofspiel with drawn prizes: the hands, the score, the places of the prizes not
     yet drawn, rising, and the place of the prize that is bid for (0 at an end)."""

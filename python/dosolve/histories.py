@@ -9,7 +9,7 @@ from dataclasses import dataclass
 from typing import Any
 
 from .errors import InvalidError
-from .game import SIDES, Game, Side, State, side_of
+from .game import SIDES, Game, Move, Side, State, side_of
 from .limits import MOST_WEIGHT
 from .plans import Sheet, chosen
 from .program import Match, Turn
@@ -50,8 +50,7 @@ def live_match(game: Game, one: Contender, two: Contender, games: int = 1000,
                seed: int = 0) -> Match:
     """Games between any two players, plans among them, in Python, with the standard error of
     their mean. Draws are made from `seed`; a player that draws for itself is not bound by it."""
-    games = as_field(games)
-    require_range("games", games, 2, 1_000_000_000)
+    games = require_games(games)
     source = random.Random(f"dosolve live match {seed}")
     asks = [_asking(player, side) for player, side in zip((one, two), SIDES)]
     payoffs, first = [], None
@@ -63,6 +62,13 @@ def live_match(game: Game, one: Contender, two: Contender, games: int = 1000,
     mean = sum(payoffs) / games
     error = math.sqrt(sum((payoff - mean)**2 for payoff in payoffs) / (games - 1) / games)
     return Match(*first, games, sum(payoffs), min(payoffs), max(payoffs), error)
+
+
+def require_games(games: Any) -> int:
+    """The number of games of a live match, refused where it is out of range."""
+    games = as_field(games)
+    require_range("games", games, 2, 1_000_000_000)
+    return int(games)
 
 
 Ask = Callable[[State, Sequence[Turn]], Sequence[int]]
@@ -93,10 +99,10 @@ def _one_game(game: Game, asks: Sequence[Ask],
     state = game.root()
     turns: list[Turn] = []
     while not state.is_end:
-        one, two = (source.choices(state.moves(side), ask(state, tuple(turns)))[0]
-                    for ask, side in zip(asks, SIDES))
-        chances = state._chances(one, two)
+        weights = [ask(state, tuple(turns)) for ask in asks]
+        one, two = (Move(source.choices(range(len(each)), each)[0]) for each in weights)
+        chances = state.chances(one, two)
         draw = source.choices(range(len(chances)), chances)[0]
-        turns.append(Turn(one, two, draw))
-        state = state.play(one=one, two=two, draw=draw)
+        turns.append(Turn(state.moves("one")[one], state.moves("two")[two], draw))
+        state = state.after(one, two, draw)
     return tuple(turns), state.payoff

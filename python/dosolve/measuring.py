@@ -3,11 +3,14 @@ solver's plan."""
 from __future__ import annotations
 
 import importlib.util
+import os
 import sys
+import zlib
 from collections.abc import Callable
 from dataclasses import dataclass
 from fractions import Fraction
 from functools import partial
+from importlib.machinery import SourceFileLoader
 from pathlib import Path
 from typing import Any
 
@@ -17,11 +20,14 @@ from .game import SIDES, Side, other, side_of
 from .histories import HistoryPlayer, takes_history
 from .plans import ASKED_AGAIN, NO_PLAN, Sheet, fault_place, plan
 from .positions import Position, require_position
-from .program import Match, Solver, WorstCase
+from .program import Match, Solver, WorstCase, require_match
 from .progress import EitherListener, PlanListener
 from .reports import Report
 from .table import Table
 from .values import FilePath, as_points, shorten
+
+_ENTERED: set[Path] = set()
+"""The folders of which files were loaded."""
 
 Player = Callable[[Side, Any], Any]
 """A function from a side and a state to one probability or weight for each of
@@ -103,7 +109,7 @@ def load_table(path: FilePath) -> Table:
         made = make()
     except DosolveError:
         raise
-    except Exception as fault:
+    except (Exception, SystemExit) as fault:
         raise InvalidError(f"table() of {path} raised {type(fault).__name__}: {fault}"
                            f"{fault_place(fault)}") from fault
     if not isinstance(made, Table):
@@ -116,22 +122,39 @@ def _loaded(path: FilePath, function: str, called: str) -> Any:
     file = Path(path).resolve()
     if not file.is_file():
         raise InvalidError(f"{path} is no file")
-    name = f"dosolve_{function}_{file.stem}"
-    spec = importlib.util.spec_from_file_location(name, file)
+    # Files of one stem are modules of their own.
+    name = f"dosolve_{function}_{file.stem}_{zlib.crc32(os.fsencode(file)):08x}"
+    loader = SourceFileLoader(name, str(file)) if file.suffix.lower() == ".py" else None
+    spec = importlib.util.spec_from_file_location(name, file, loader=loader)
     if spec is None or spec.loader is None:
         raise InvalidError(f"{path} is no Python file")
-    if str(file.parent) not in sys.path:
-        sys.path.insert(0, str(file.parent))
+    _enter(file.parent)
     module = importlib.util.module_from_spec(spec)
     sys.modules[name] = module
     try:
         spec.loader.exec_module(module)
-    except Exception as fault:
+    except (Exception, SystemExit) as fault:
         raise PlayerError(f"{path} raised {type(fault).__name__}: {fault}") from fault
     found = getattr(module, function, None)
     if not callable(found):
         raise InvalidError(f"{path} defines no function {called}")
     return found
+
+
+def _enter(folder: Path) -> None:
+    """Has the files of a folder import their own neighbours, also where one of another folder was
+    imported under the same name."""
+    if str(folder) in sys.path:
+        sys.path.remove(str(folder))
+    sys.path.insert(0, str(folder))
+    own = {file.stem for file in folder.glob("*.py")}
+    own |= {file.parent.name for file in folder.glob("*/__init__.py")}
+    own -= {"__main__", __name__.split(".")[0]}
+    for name in [name for name in sys.modules if name.split(".")[0] in own]:
+        folders = Path(getattr(sys.modules[name], "__file__", None) or name).parents
+        if folder not in folders and not _ENTERED.isdisjoint(folders):
+            del sys.modules[name]
+    _ENTERED.add(folder)
 
 
 def plan_of(position: Position, player: Player | Sheet, side: Side,
@@ -158,6 +181,7 @@ def measure(position: Position, player: Player | Sheet, side: Side, solved: Repo
     with each step of making the plan (`PlanProgress`) and of the search (`Progress`), or True for
     a line on the terminal."""
     require_position(position, "measure")
+    require_match(games, seed)
     solver = Solver(program)
     mine = plan_of(position, player, side_of(side), progress=progress)
     found = solved or solver.solve(position, progress=progress)

@@ -19,7 +19,7 @@ from collections.abc import Mapping, Sequence
 from typing import Any, Protocol
 
 from .errors import InvalidError
-from .game import CHANCE, SIDES, Game, Side, State
+from .game import CHANCE, SIDES, Game, Move, Side, State
 from .goofspiel import Goofspiel
 from .limits import MOST_WEIGHT
 from .oshi_zumo import OshiZumo
@@ -34,7 +34,7 @@ class PlayState:
 
     def __init__(self, state: State) -> None:
         self.state = state
-        self._chosen: tuple[int, int] | None = None
+        self._chosen: tuple[Move, Move] | None = None
         self._history: list[int] = []
 
     def __str__(self) -> str:
@@ -78,7 +78,7 @@ class PlayState:
         """Each draw with its probability."""
         if self._chosen is None:
             raise InvalidError(f"no draw is to be made in {self.state}")
-        chances = self.state._chances(*self._chosen)
+        chances = self.state.chances(*self._chosen)
         return [(draw, chance / CHANCE) for draw, chance in enumerate(chances)]
 
     def apply_actions(self, actions: Sequence[int]) -> None:
@@ -86,21 +86,19 @@ class PlayState:
         if self.is_chance_node() or len(actions) != len(SIDES):
             raise InvalidError("apply_actions takes the label of One's move and that of Two's")
         one, two = (int(action) for action in actions)
-        for side, label in zip(SIDES, (one, two)):
-            self.state.move(side, label)
+        moves = self.state._move("one", one), self.state._move("two", two)
         self._history += [one, two]
-        if len(self.state._chances(one, two)) > 1:
-            self._chosen = one, two
+        if len(self.state.chances(*moves)) > 1:
+            self._chosen = moves
         else:
-            self.state = self.state.play(one=one, two=two)
+            self.state = self.state.after(*moves)
 
     def apply_action(self, action: int) -> None:
         """Makes a draw."""
         if self._chosen is None:
             raise InvalidError("apply_action makes a draw, and none is to be made; both players' "
                                "moves are made by apply_actions")
-        one, two = self._chosen
-        self.state = self.state.play(one=one, two=two, draw=int(action))
+        self.state = self.state.after(*self._chosen, int(action))
         self._history.append(int(action))
         self._chosen = None
 
@@ -122,7 +120,7 @@ class PlayState:
     def action_to_string(self, player: int, action: int) -> str:
         """A label as a word."""
         side = _side(player)
-        return self.state.names(side)[self.state.move(side, action)]
+        return self.state.names(side)[self.state._move(side, action)]
 
     def num_players(self) -> int:
         """Two."""
@@ -227,8 +225,12 @@ def plan_of_policy(game: Game, side: Side, policy: Policy, weight: int = MOST_WE
     """The plan of a policy whose states are `PlayState` and whose actions are labels."""
     player = SIDES.index(side)
 
-    def choose(state: State) -> Mapping[int, float]:
-        return policy.action_probabilities(PlayState(state), player)
+    def choose(state: State) -> list[float]:
+        shares, labels = policy.action_probabilities(PlayState(state), player), state.moves(side)
+        unknown = [action for action in shares if action not in labels]
+        if unknown:
+            raise InvalidError(f"{unknown[0]!r} is no label of a move")
+        return [shares.get(label, 0.0) for label in labels]
 
     return plan(game, side, choose, weight, ask_again)
 

@@ -16,6 +16,7 @@ from typing import Any
 
 from .errors import DosolveError, InvalidError
 from .game import CHANCE, SCALE, SIDES, Move, Side, State
+from .goofspiel import GoofspielDrawnState, GoofspielState
 from .plans import Sheet
 from .progress import Progress
 from .pursuit import PursuitState
@@ -128,8 +129,10 @@ def _told(state: State) -> str:
     """A state in words: its name in a table, else its fields."""
     if isinstance(state, TableState) or not is_dataclass(state):
         return " ".join(str(state).split())
-    return ", ".join(f"{each.name} {_shown(getattr(state, each.name))}"
-                     for each in fields(state) if each.name != "game")
+    names = [each.name for each in fields(state) if each.name != "game"]
+    if isinstance(state, (GoofspielState, GoofspielDrawnState)) and not state.is_end:
+        names.append("prize")
+    return ", ".join(f"{name} {_shown(getattr(state, name))}" for name in names)
 
 
 def _shown(value: Any) -> str:
@@ -192,7 +195,9 @@ def _axis(axes: Any, report: Report, state: State, is_root: bool, zoom: bool) ->
     axes.set_yticks([])
     for spine in ("top", "left", "right"):
         axes.spines[spine].set_visible(False)
-    axes.set_xlabel("payoff of player one", fontsize=9)
+    scale = report.game.scale
+    times = f", that of the rules times {scale}" if scale != 1 else ""
+    axes.set_xlabel(f"payoff of player one{times}", fontsize=9)
     axes.axvspan(*ends, ymin=0.02, ymax=0.5, color="#c9c9c9", linewidth=0)
     for (side, word), at in zip(_BOUNDS, ends):
         # One above the other, so that both are seen where they meet.

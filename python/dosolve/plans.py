@@ -12,7 +12,7 @@ from numbers import Integral, Rational, Real
 from typing import Any, Protocol
 
 from .errors import InvalidError, PlayerError
-from .game import CHANCE, SCALE, Game, Move, Side, State, other, side_of
+from .game import CHANCE, SCALE, Game, Move, Side, State, other, require_clear, side_of
 from .graph import Cell, Graph, walk
 from .limits import (
     LEAST_WEIGHT, MOST_BOUND, MOST_KEY, MOST_MOVES, MOST_ROWS, MOST_WEIGHT, SUM_ERROR,
@@ -117,6 +117,18 @@ class Sheet:
         if row is not None and len(row.weights) == count and sum(row.weights) == self.total:
             return tuple(row.weights)
         return (self.total,) + (0,) * (count - 1)
+
+    def unplayed(self) -> Iterator[State]:
+        """The states whose rows are not played, since they have not one weight for each move, or
+        another sum than the total."""
+        for row in self.rows:
+            try:
+                state: State = self.game.state(row.key)
+            except InvalidError:
+                continue
+            count = len(state.moves(self.side))
+            if count and (len(row.weights) != count or sum(row.weights) != self.total):
+                yield state
 
     def probabilities(self, state: State) -> dict[int, Fraction]:
         """What the plan plays in a state that is no end: the probability of each label."""
@@ -237,6 +249,8 @@ def _listed(values: Any, labels: Sequence[int] | None, names: Sequence[str]) -> 
         unknown = [label for label in values if as_plain(label) not in known]
         if unknown:
             raise InvalidError(f"{shorten(unknown[0])} is no label of a move")
+        if not by_name:
+            require_clear([as_plain(label) for label in values], labels, names)
         return [values.get(label, 0) for label in known]
     if isinstance(values, Set):
         raise InvalidError(f"{shorten(values)} has no order, so it is no list of weights")
@@ -315,7 +329,7 @@ def chosen(choose: Choice, state: State, side: Side, weight: int,
     before = random.getstate() if watched else None
     try:
         answer = choose(state)
-    except Exception as fault:
+    except (Exception, SystemExit) as fault:
         raise PlayerError(f"player {side} raised {type(fault).__name__}: {fault}: in {state}, "
                           f"whose moves are {state.moves(side)}{fault_place(fault)}") from fault
     if watched and random.getstate() != before:
@@ -336,7 +350,7 @@ def _named(state: State, side: Side) -> str:
     return "" if names == tuple(map(str, state.moves(side))) else f", named {names}"
 
 
-def fault_place(fault: Exception) -> str:
+def fault_place(fault: BaseException) -> str:
     """The file and line where a player's exception was raised."""
     trace = fault.__traceback__
     while trace is not None and trace.tb_next is not None:

@@ -5,6 +5,7 @@ from __future__ import annotations
 import json
 import math
 import os
+from collections.abc import Mapping
 from dataclasses import dataclass, replace
 from pathlib import Path
 from typing import Any, cast
@@ -95,9 +96,10 @@ class Position:
         return text
 
     @classmethod
-    def read(cls, data: bytes | str) -> Position:
-        """The position of a text, refused as the program refuses it; `load` reads a file."""
-        entries = _entries(data)
+    def read(cls, data: bytes | str, asked: Mapping[str, Any] | None = None) -> Position:
+        """The position of a text, refused as the program refuses it; `load` reads a file. What is
+        in `asked` takes the place of what the text asks, and of what it leaves out."""
+        entries = _entries(data) | dict(asked or {})
         game = _game(entries)
         unknown = sorted(set(entries) - {"game"} - {each.name for each in (*game.settings, *ASKED)})
         if unknown:
@@ -109,16 +111,16 @@ class Position:
             if field.name in entries:
                 field.refuse(entries[field.name])
             elif field.absent is None:
-                raise InputRefusedError(f"input 12 missing {field.name}")
+                raise InputRefusedError(f"input 12 missing {field.name}", _missing(game, entries))
         settings = [entries[field.name] for field in game.settings]
         asked = {field.name: entries.get(field.name, field.absent) for field in ASKED}
         return cls(game(*settings), **asked)
 
     @classmethod
-    def load(cls, path: FilePath) -> Position:
-        """The position of a file; a table with the names of a file beside it that ends with
-        `.names`."""
-        found = cls.read(Path(path).read_bytes())
+    def load(cls, path: FilePath, asked: Mapping[str, Any] | None = None) -> Position:
+        """The position of a file, as `read` gives it; a table with the names of a file beside it
+        that ends with `.names`."""
+        found = cls.read(Path(path).read_bytes(), asked)
         return replace(found, game=with_names(found.game, path))
 
     def save(self, path: FilePath) -> None:
@@ -164,6 +166,15 @@ def _game(entries: dict[str, Any]) -> type[Game]:
     return GAMES[name]
 
 
+def _missing(game: type[Game], entries: Mapping[str, Any]) -> str:
+    """Which fields a position lacks, and where some that serve are found."""
+    lacking = [each for each in (*game.settings, *ASKED)
+               if each.absent is None and each.name not in entries]
+    names = ", ".join(each.name for each in lacking)
+    start = "; docs/CHOOSING.md has a line to start with" if lacking[-1] in ASKED else ""
+    return f"the position lacks {names}{start}"
+
+
 def _entries(data: bytes | str) -> dict[str, Any]:
     """The fields of the JSON object that the program sees in these bytes."""
     if not isinstance(data, (bytes, str)):
@@ -198,7 +209,9 @@ def _syntax(data: bytes | str, encoded: bytes, fault: Exception) -> str:
     if looks_like_path(data):
         return f"{shorten(data)} looks like the name of a file, which Position.load reads"
     if isinstance(fault, json.JSONDecodeError):
-        return f"{fault.msg} at line {fault.lineno}, column {fault.colno}"
+        hint = ("; the command `sweep` takes a file with one position on each line"
+                if fault.msg == "Extra data" else "")
+        return f"{fault.msg} at line {fault.lineno}, column {fault.colno}{hint}"
     return cut(str(fault), 80)
 
 

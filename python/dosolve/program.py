@@ -26,7 +26,7 @@ from .limits import MOST_GAMES, MOST_SEED
 from .plans import Sheet
 from .positions import Position, require_position
 from .progress import Bar, Follower, Listener
-from .reports import Report, explained, head_fault
+from .reports import Report, explained
 from .values import FilePath, as_field, cut, require_range, shorten
 
 BLOCKS = 40
@@ -128,7 +128,7 @@ class Match:
         state: State = game.root()
         lines = []
         for turn in self.turns:
-            one, two = state.move("one", turn.one), state.move("two", turn.two)
+            one, two = state._move("one", turn.one), state._move("two", turn.two)
             drawn = f", draw {turn.draw}" if len(state.chances(one, two)) > 1 else ""
             names = state.names("one")[one], state.names("two")[two]
             lines.append(f"{state}: {names[0]} - {names[1]}{drawn}")
@@ -176,15 +176,16 @@ class Solver:
             left = seconds - (time.monotonic() - since)
             try:
                 if left <= 0:
-                    return best
+                    return _stopped(best, "time")
                 found = self._solved(replace(position, turns=turns), listener,
                                      None if math.isinf(left) else left, since, best)
-            except (ProgramTimeoutError, KeyboardInterrupt):
-                return best
-            if found.gap < best.gap or best.is_vacuous:
+            except ProgramTimeoutError:
+                return _stopped(best, "time")
+            except KeyboardInterrupt:
+                return _stopped(best, "interrupt")
+            if found.gap <= best.gap or best.is_vacuous:
                 best = found
-            more = turns == 0 or "turns" in found.used_up
-            if not more or found.gap <= position.gap or turns == position.turns:
+            if is_last(found, position):
                 return best
             turns = min(max(_FIRST_TURNS, _MORE_TURNS * turns), position.turns)
 
@@ -204,10 +205,7 @@ class Solver:
     def check(self, report: Report | bytes | str) -> Accepted:
         """What `check` says of a right report; any other is refused with the first fault. Takes
         any bytes too."""
-        try:
-            text = self._answer(["check"], report, {0})
-        except ReportRefusedError as refusal:
-            raise explained(refusal, report) from None
+        text = self._answer(["check"], report, {0})
         found = self._matched(r"accepted (-?\d+) (-?\d+) (\w+)\n", text)
         return Accepted(int(found[1]), int(found[2]), found[3])
 
@@ -246,9 +244,7 @@ class Solver:
     def match(self, report: Report | bytes | str, games: int = 1000, seed: int = 0) -> Match:
         """Games between both plans of a report, with the standard error of their mean: blocks of
         games, each of a seed that a hash makes of `seed` and the block's number."""
-        games, seed = as_field(games), as_field(seed)
-        require_range("games", games, 2, BLOCKS * MOST_GAMES)
-        require_range("seed", seed, 0, MOST_SEED)
+        games, seed = require_match(games, seed)
         blocks = min(BLOCKS, games)
         sizes = [games // blocks + (block < games % blocks) for block in range(blocks)]
         found = [self.play(report, size, _hashed(seed, block)) for block, size in enumerate(sizes)]
@@ -309,7 +305,7 @@ class Solver:
                                                "not know the game")
             return InputRefusedError(text)
         if status == 9 and text.startswith(("report ", "refused ")):
-            return ReportRefusedError(text, head_fault(given) if text == "report head" else "")
+            return explained(ReportRefusedError(text), given)
         if status in (4, 5) and re.fullmatch(r"visits spent \w+|board full|states full", text):
             return LimitReachedError(text)
         if status == 1 and text.startswith("usage: dosolve "):
@@ -332,6 +328,25 @@ class Solver:
         shown = f": {text[:200]!r}" if text else ", nothing at all"
         return ProgramFailedError(f"{find_program(self.program)} gave {what}{shown}; is it "
                                   f"dosolve?", 0)
+
+
+def is_last(report: Report, position: Position) -> bool:
+    """Whether a search within seconds ends with this report of one of its steps."""
+    more = report.turns == 0 or "turns" in report.used_up
+    return not more or report.gap <= position.gap or report.turns == position.turns
+
+
+def _stopped(report: Report, what: str) -> Report:
+    """The report of a search that this ended; the same where the search was done."""
+    return report if report.gap <= report.asked else replace(report, stopped=what)
+
+
+def require_match(games: Any, seed: Any) -> tuple[int, int]:
+    """The number of games and the seed of a match, refused where they are out of range."""
+    games, seed = as_field(games), as_field(seed)
+    require_range("games", games, 2, BLOCKS * MOST_GAMES)
+    require_range("seed", seed, 0, MOST_SEED)
+    return games, seed
 
 
 def _hashed(seed: int, block: int) -> int:

@@ -4,7 +4,7 @@ from __future__ import annotations
 import html
 import re
 from collections.abc import Iterator, Sequence
-from dataclasses import dataclass, replace
+from dataclasses import dataclass, field, replace
 from fractions import Fraction
 from pathlib import Path
 from typing import Any
@@ -22,6 +22,9 @@ from .values import FilePath, as_points, cut, require_range, shorten
 
 OUTCOMES = ("closed", "settled", "spent", "full")
 
+_STOPPED = {"time": "the time was up", "interrupt": "the search was interrupted"}
+"""What can end a search before its own end, in words."""
+
 _HEADS = {b"dosolve report %d\n" % version: version for version in (1, 2)}
 _NUMBER = re.compile(rb"0|-?[1-9][0-9]*")
 
@@ -30,6 +33,13 @@ def outcome_of(gap: int, asked: int, resolution: int) -> str:
     """The outcome of these numbers, in millionths; `spent` where the gap is wider than both
     others."""
     return "closed" if gap <= asked else "settled" if gap <= resolution else "spent"
+
+
+def scale_notes(game: Game) -> tuple[str, ...]:
+    """What a reader of payoffs has to know where these are not those of the rules."""
+    if game.scale == 1:
+        return ()
+    return (f"payoffs and bounds are those of the rules times {game.scale}",)
 
 
 @dataclass(frozen=True, repr=False)
@@ -41,6 +51,9 @@ class Report:
     The outcome says how wide the gap is, not how the search ended: `closed` is at most the gap
     asked, `settled` at most the resolution, which can be wider than all payoffs. `notes()` and
     `is_vacuous` say what the numbers are worth.
+
+    `stopped` is what ended a search within seconds before its own end, `time` or `interrupt`; it
+    is no part of the text, and equal reports can differ in it.
     """
 
     game: Game
@@ -54,6 +67,7 @@ class Report:
     spent: Sequence[int]
     one: Sheet
     two: Sheet
+    stopped: str = field(default="", compare=False)
 
     def __post_init__(self) -> None:
         object.__setattr__(self, "spent", tuple(self.spent))
@@ -66,6 +80,9 @@ class Report:
         if self.outcome not in OUTCOMES:
             raise InvalidError(f"outcome is {self.outcome!r}, and has to be one of "
                                f"{', '.join(OUTCOMES)}")
+        if self.stopped and self.stopped not in _STOPPED:
+            raise InvalidError(f"stopped is {shorten(self.stopped)}, and has to be empty or one "
+                               f"of {', '.join(_STOPPED)}")
         if not 1 <= len(self.spent) <= MOST_WORKERS:
             raise InvalidError(f"spent has {len(self.spent)} numbers, and has to have one for each "
                                f"of 1 to {MOST_WORKERS} workers")
@@ -98,6 +115,12 @@ class Report:
         return "closed" if self.gap <= self.asked else f"asked {as_points(self.asked)}"
 
     @property
+    def _ending(self) -> str:
+        """The outcome, and where the gap is wider than asked, what was asked."""
+        asked = "" if self.gap <= self.asked else f", {self.closeness}"
+        return f"{self.outcome}{asked}"
+
+    @property
     def is_vacuous(self) -> bool:
         """Whether the bounds are no better than the range of payoffs, so that nothing is known."""
         return self.gap >= self.span > 0
@@ -114,22 +137,33 @@ class Report:
         found = []
         if self.is_vacuous:
             found.append("the bounds are no better than the range of payoffs: nothing is known yet")
-        if "turns" in self.used_up:
-            found.append("every worker used up its turns: more turns can narrow the gap")
+        if self.stopped:
+            found.append(f"{_STOPPED[self.stopped]}: more seconds can narrow the gap")
+        elif "turns" in self.used_up:
+            found.append("every worker used up its turns: more turns may narrow the gap")
+        elif self.turns == 0 and self.gap > self.asked:
+            found.append("no turns were allowed: the bounds are those of pure plans, or of plans "
+                         "of players")
         if "rows" in self.used_up:
             found.append("the board had no row left: more rows can narrow the gap")
-        if self.turns == 0 and self.gap > self.asked:
-            found.append("no turn was spent: a search without turns or time, or plans of players")
-        if self.game.scale != 1:
-            found.append(f"payoffs and bounds are those of the rules times {self.game.scale}")
-        return tuple(found)
+        return (*found, *scale_notes(self.game))
+
+    def row_notes(self, side: Side) -> tuple[str, ...]:
+        """What a reader of games and worst cases has to know: that a plan does not play what its
+        rows say."""
+        states = list(self.sheet(side).unplayed())
+        if not states:
+            return ()
+        rows = f"{len(states)} such row{'s' if len(states) > 1 else ''}"
+        return (f"the row of player {side} in {states[0]} has not one weight for each move with "
+                f"the sum {self.weight}: the first move is played there ({rows})",)
 
     def summary(self) -> str:
         """A few lines that tell what was found, in payoffs, with notes."""
         share = f" ({100 * self.gap / self.span:.3g}% of the range)" if self.span else ""
         lines = [f"game   {cut(self.game.title(), 90)}",
                  f"value  from {as_points(self.lower)} to {as_points(self.upper)}, payoff of One",
-                 f"gap    {as_points(self.gap)}{share}, {self.closeness}",
+                 f"gap    {as_points(self.gap)}{share}, {self._ending}",
                  f"turns  {sum(self.spent)} spent by {len(self.spent)} "
                  f"worker{'s' if len(self.spent) > 1 else ''}"]
         lines += [self._root_line(side) for side in SIDES if not self.game.root().is_end]
@@ -255,13 +289,44 @@ class Report:
 
 
 def explained(refusal: ReportRefusedError, given: Report | bytes | str) -> ReportRefusedError:
-    """What `check` says of a report; of a row whose weights prove less than its bound, with the
-    state and the moves in words."""
+    """A refusal of the program with what is wrong, as far as the report tells it."""
+    if refusal.words[0] == "report":
+        return _read_again(refusal, given)
+    if refusal.words[:2] == ["refused", "bound"] and refusal.key is not None:
+        return _bound_explained(refusal, refusal.key, _as_report(given))
+    if refusal.text == "refused outcome":
+        return ReportRefusedError(refusal.text, _outcome_fault(_as_report(given)))
+    return refusal
+
+
+def _as_report(given: Report | bytes | str) -> Report:
+    return given if isinstance(given, Report) else Report.read(given)
+
+
+def _read_again(refusal: ReportRefusedError, given: Report | bytes | str) -> ReportRefusedError:
+    """The same refusal of what is no report, by the package's own reader."""
+    try:
+        _as_report(given)
+    except ReportRefusedError as found:
+        return found if found.text == refusal.text else refusal
+    return refusal
+
+
+def _outcome_fault(report: Report) -> str:
+    """Why the numbers of a report do not allow its outcome."""
+    wanted = outcome_of(report.gap, report.asked, report.resolution)
+    if wanted == "spent":
+        spent = all(turns == report.turns for turns in report.spent)
+        wanted = "spent or full" if spent else "full, since turns are left"
+    return (f"the gap is {as_points(report.gap)}, asked was {as_points(report.asked)}, and the "
+            f"resolution is {as_points(report.resolution)}: the outcome has to be {wanted}")
+
+
+def _bound_explained(refusal: ReportRefusedError, key: int, report: Report) -> ReportRefusedError:
+    """A refusal of a row whose weights prove less than its bound, with the state and the moves in
+    words."""
     words = refusal.words
-    if words[:2] != ["refused", "bound"] or refusal.key is None:
-        return refusal
-    report = given if isinstance(given, Report) else Report.read(given)
-    side, state = side_of(words[2]), report.game.state(refusal.key)
+    side, state = side_of(words[2]), report.game.state(key)
     reply, found, needed = map(int, words[4:])
     sign = 1 if side == "one" else -1
     yields = sign * (sign * found // report.weight)
@@ -334,16 +399,16 @@ class _Reader:
             raise ReportRefusedError(f"report line {line.number}",
                                      f"version {version} has no such game")
         given = list(zip(kind.line_settings or kind.settings, line.fields[2:]))
-        for field, word in given:
-            line.require(not field.choices or word.decode("ascii", "replace") in field.choices)
+        for each, word in given:
+            line.require(not each.choices or word.decode("ascii", "replace") in each.choices)
         settings: list[Any] = []
-        for field, word in given:
-            if field.choices:
+        for each, word in given:
+            if each.choices:
                 settings.append(word.decode())
-            elif field.most is None:
-                settings.append(line.spelled(word, field.low, field.high))
+            elif each.most is None:
+                settings.append(line.spelled(word, each.low, each.high))
             else:
-                settings.append(line.listed(word, field.low, field.high, field.most))
+                settings.append(line.listed(word, each.low, each.high, each.most))
         return kind, settings
 
     def outcome(self) -> str:

@@ -3,7 +3,6 @@ from __future__ import annotations
 
 import io
 import json
-import os
 import time
 from collections.abc import Generator, Iterable, Iterator
 from concurrent.futures import FIRST_COMPLETED, BrokenExecutor, Executor, Future, wait
@@ -15,7 +14,7 @@ from typing import Any
 from .errors import DosolveError, InvalidError
 from .positions import Position, processors, require_position
 from .processes import Processes
-from .program import Solver
+from .program import Solver, is_last
 from .reports import Report
 from .values import FilePath
 
@@ -27,14 +26,17 @@ _TRIES = 3
 
 @dataclass(frozen=True, repr=False)
 class Swept:
-    """One position of a sweep: its number from 0 and its text, the report or the error, and the
-    seconds that the search took."""
+    """One position of a sweep: its number from 0 and its text, the report or the error, the
+    seconds that the search took, those that it was given where it was cut short, and whether the
+    result was in the output file before."""
 
     number: int
     text: str
     report: Report | None
     error: str | None
     seconds: float
+    limit: float | None = None
+    is_old: bool = False
 
     def __repr__(self) -> str:
         return f"<Swept {self.number}: {self.error or repr(self.report)}, {self.seconds:.1f} s>"
@@ -47,6 +49,8 @@ class Swept:
     def record(self) -> dict[str, Any]:
         """The line of the output file, without the position's number."""
         found: dict[str, Any] = {"position": self.text.strip(), "seconds": round(self.seconds, 3)}
+        if self.limit is not None:
+            found["limit"] = self.limit
         if self.report is None:
             return found | {"error": self.error}
         return found | self.report.record() | {"report": self.report.text()}
@@ -65,15 +69,17 @@ def sweep(positions: Iterable[Position | str], executor: Executor | None = None,
     `mpi4py.futures.MPIPoolExecutor`; without one, processes of this machine, as many as there are
     processors for the workers of a position. A position whose search fails gives a result with
     `error`, and the sweep goes on. With `output`, each result is a line of JSON in that file, and
-    what is already there is not solved again, except failures; so a sweep that was stopped
-    goes on where it was when it is started once more. Positions can be texts too.
+    what is already there is not solved again, except failures, and searches that were cut short
+    where there are more seconds now; so a sweep that was stopped goes on where it was when it is
+    started once more. Positions can be texts too.
 
     At Ctrl-C, or where the results are closed, what waits is cancelled, and processes of this
     machine end with what they run; other executors are left to end what they have begun.
     """
     given = list(positions)
     texts = [_text(position) for position in given]
-    known = _read_output(output) if output is not None and Path(output).exists() else {}
+    old = _read_output(output) if output is not None and Path(output).exists() else {}
+    known = {text: swept for text, swept in old.items() if _suffices(swept, seconds)}
     todo = [number for number, text in enumerate(texts) if text.strip() not in known]
     jobs = {number: (texts[number], solver or Solver(), seconds) for number in todo}
     return _in_order(given, texts, known, _solved(jobs, executor), output)
@@ -100,7 +106,7 @@ def _in_order(given: list[Position | str], texts: list[str], known: dict[str, Sw
         for number, text in enumerate(texts):
             old = known.get(text.strip())
             if old is not None:
-                yield _named(Swept(number, text, old.report, None, old.seconds), given[number])
+                yield _named(replace(old, number=number, text=text), given[number])
                 continue
             while number not in ready:
                 new = next(found)
@@ -136,11 +142,21 @@ def _read_output(output: FilePath) -> dict[str, Swept]:
     for line in Path(output).read_text(encoding="utf-8").splitlines():
         try:
             entry = json.loads(line)
-            report = Report.read(entry["report"])
-            found[entry["position"]] = Swept(0, entry["position"], report, None, entry["seconds"])
+            text, report, took = entry["position"], Report.read(entry["report"]), entry["seconds"]
+            if not is_last(report, Position.read(text)):
+                report = replace(report, stopped="time")
+            # Files of earlier versions tell what a search took, and not what it was given.
+            limit = float(entry.get("limit", took)) if report.stopped else None
+            found[text] = Swept(0, text, report, None, float(took), limit, True)
         except (ValueError, KeyError, TypeError, DosolveError):
             continue
     return found
+
+
+def _suffices(old: Swept, seconds: float | None) -> bool:
+    """Whether a result need not be searched again within so many seconds: its search ended by
+    itself, or had as many."""
+    return old.limit is None or (seconds is not None and seconds <= old.limit)
 
 
 @dataclass
@@ -215,16 +231,26 @@ def _size(jobs: dict[int, tuple[str, Solver, float | None]]) -> int:
 def _solve(number: int, text: str, solver: Solver, seconds: float | None) -> Swept:
     """Solves one position; what an executor runs."""
     since = time.monotonic()
-    report, error = None, None
+    report, error, limit = None, None, None
     try:
         report = solver.solve(Position.read(text), seconds)
     except (DosolveError, OSError) as fault:
         error = f"{type(fault).__name__}: {fault}"
-    return Swept(number, text, report, error, time.monotonic() - since)
+    took = time.monotonic() - since
+    if seconds is not None and report is not None and report.stopped:
+        limit = min(seconds, took)
+    return Swept(number, text, report, error, took, limit)
 
 
 def read_positions(path: FilePath) -> list[str]:
-    """The lines of a file, each one a position as JSON; empty lines are left out."""
-    if os.fspath(path).endswith(".json"):
-        raise InvalidError(f"{path} has to be a file with one position on each line (.jsonl)")
-    return [line for line in Path(path).read_text(encoding="utf-8").splitlines() if line.strip()]
+    """The lines of a file, each one a position as JSON; empty lines are left out. A file that ends
+    with `.json` has one position, on however many lines."""
+    text = Path(path).read_text(encoding="utf-8")
+    if Path(path).suffix.lower() != ".json":
+        return [line for line in text.splitlines() if line.strip()]
+    try:
+        json.loads(text)
+    except ValueError:
+        raise InvalidError(f"{path} is no JSON of one position; a file with one position on each "
+                           f"line has to end with .jsonl") from None
+    return [" ".join(text.splitlines())]

@@ -14,7 +14,6 @@ table is refused by a `NoTableError` with the reason.
 """
 from __future__ import annotations
 
-import csv
 import hashlib
 import json
 from collections.abc import Callable, Hashable, Iterator, Sequence
@@ -24,7 +23,8 @@ from functools import cached_property
 from pathlib import Path
 from typing import Any, Self
 
-from .building import Built, exact, of_functions, of_game, of_matrix
+from .building import Built, of_functions, of_game, of_matrix
+from .csv_matrices import read_csv
 from .errors import InputRefusedError, InvalidError, NoTableError
 from .gambit import of_gambit, save_gambit
 from .game import CHANCE, Field, Game, Side, State, side_of
@@ -34,6 +34,9 @@ from .values import FilePath, as_field, cut, shorten
 
 NAMES = ".names"
 """The ending of the file of a table's names, beside that of a position or a report."""
+
+_DEALT = "chance"
+"""The name of a state that only deals out chances."""
 
 MoveNames = tuple[Sequence[str], Sequence[str]]
 """The names of both players' moves in a state."""
@@ -225,7 +228,8 @@ class Table(Game):
 
     @cached_property
     def _numbers(self) -> dict[Any, int]:
-        return {node: number for number, node in enumerate(self.nodes) if node is not None}
+        return {node: number for number, node in enumerate(self.nodes)
+                if node is not None or self.state_names[number:number + 1] != (_DEALT,)}
 
     @cached_property
     def _payoffs(self) -> list[int]:
@@ -294,8 +298,8 @@ class Table(Game):
         """The table that was built, its states named by their nodes."""
         kept = built.nodes if nodes is None else nodes
         names = [f"payoff {state / built.scale}" if isinstance(state, int) else
-                 "chance" if node is None else name(node)
-                 for state, node in zip(built.listing, kept)]
+                 _DEALT if number in built.deals else name(node)
+                 for number, (state, node) in enumerate(zip(built.listing, kept))]
         return cls(built.listing, tuple(names), built.names, tuple(kept), built.scale)
 
     @classmethod
@@ -358,7 +362,7 @@ class Table(Game):
     def from_gambit(cls, path: FilePath) -> Table:
         """The game of a file of Gambit: a strategic form (.nfg), or an extensive form (.efg) whose
         players see each other's earlier moves."""
-        return cls._of(*of_gambit(Path(path).read_text(encoding="utf-8")))
+        return cls._of(*of_gambit(Path(path).read_text(encoding="utf-8-sig")))
 
     def to_gambit(self, path: FilePath) -> None:
         """Writes the table as an extensive form of Gambit (.efg), with the payoffs of its rules;
@@ -376,12 +380,16 @@ def _frozen(value: Any) -> Any:
 def read_matrix(path: FilePath) -> tuple[list[list[Any]], list[str] | None, list[str] | None]:
     """The matrix of a file, with the names of the moves of One and of Two where it has any.
 
-    A JSON file has a list of rows; a CSV file a row on each line, the names of Two's moves in the
-    first line and those of One's in the first column, where these are no numbers.
+    A JSON file has a list of rows. A CSV file has a row on each line. Where its first cell is
+    empty, the first line has the names of Two's moves and the first column those of One's; else
+    either has names where it has no number.
     """
     file = Path(path)
-    text = file.read_text(encoding="utf-8")
-    if file.suffix == ".json":
+    ending = file.suffix.lower()
+    if ending not in (".json", ".csv"):
+        raise NoTableError(f"{path} has to end with .csv, .json, .nfg, .efg or .py")
+    text = file.read_text(encoding="utf-8-sig")
+    if ending == ".json":
         try:
             matrix = json.loads(text)
         except ValueError as fault:
@@ -391,30 +399,16 @@ def read_matrix(path: FilePath) -> tuple[list[list[Any]], list[str] | None, list
                     if isinstance(matrix, dict) and "game" in matrix else "")
             raise NoTableError(f"{path} has to be a matrix, a list of rows of payoffs{hint}")
         return matrix, None, None
-    if file.suffix != ".csv":
-        raise NoTableError(f"{path} has to end with .csv, .json, .nfg, .efg or .py")
-    rows: list[list[Any]] = [row for row in csv.reader(text.splitlines()) if row]
-    if rows and all(len(row) == 1 and ";" in row[0] for row in rows):
-        raise NoTableError(f"{path} has semicolons, and commas have to stand between payoffs")
-    two = rows.pop(0) if rows and rows[0][1:] and not any(map(_is_number, rows[0][1:])) else None
-    one = None
-    if rows and not any(_is_number(row[0]) for row in rows):
-        one = [row.pop(0) for row in rows]
-        two = two[1:] if two else None
-    return rows, one, two
-
-
-def _is_number(word: str) -> bool:
     try:
-        exact(word)
-    except NoTableError:
-        return False
-    return True
+        return read_csv(text)
+    except NoTableError as fault:
+        raise NoTableError(f"{path} {fault}") from None
 
 
 def names_file(path: FilePath) -> Path:
     """The file of names beside that of a position or a report."""
-    return Path(path).with_suffix(NAMES)
+    file = Path(path)
+    return file.with_suffix(NAMES) if file.name else file / NAMES
 
 
 def save_names(game: Game, path: FilePath) -> None:

@@ -4,7 +4,7 @@ from __future__ import annotations
 import csv
 import io
 import json
-from collections.abc import Iterable, Mapping
+from collections.abc import Iterable, Mapping, Sequence
 from dataclasses import dataclass
 from fractions import Fraction
 from typing import Any
@@ -12,10 +12,11 @@ from typing import Any
 from .errors import InvalidError
 from .exact import expected_of
 from .game import SIDES, Side
-from .histories import Contender, live_match, takes_history
+from .histories import Contender, live_match, require_games, takes_history
 from .measuring import plan_of
 from .plans import Sheet
 from .positions import Position, require_position
+from .reports import scale_notes
 from .values import cut, html_table
 
 SOLVER = "solver"
@@ -41,9 +42,10 @@ class Pairing:
 
 @dataclass(frozen=True, repr=False)
 class Tournament:
-    """All meetings of a tournament."""
+    """All meetings of a tournament, and what to know of their payoffs."""
 
     pairings: tuple[Pairing, ...]
+    notes: tuple[str, ...] = ()
 
     def __repr__(self) -> str:
         return f"<Tournament of {len(self.standings())} players: {len(self.pairings)} meetings>"
@@ -70,8 +72,12 @@ class Tournament:
         return sorted(found, key=lambda standing: -float(standing["mean"]))
 
     def markdown(self) -> str:
-        """The standings and the meetings as tables of Markdown."""
-        return _markdown(self.standings()) + "\n" + _markdown(self.table())
+        """The standings and the meetings as tables of Markdown, then the notes."""
+        parts = [f"Mean payoffs to the player itself:\n\n{_markdown(self.standings())}",
+                 f"Meetings, with the payoff to One:\n\n{_markdown(self.table())}"]
+        if self.notes:
+            parts.append("".join(f"note {note}\n" for note in self.notes))
+        return "\n".join(parts)
 
     def _repr_html_(self) -> str:
         """The standings as a table, for notebooks."""
@@ -89,41 +95,61 @@ class Tournament:
         return text.getvalue()
 
     def json(self) -> str:
-        """The standings and the meetings as one object of JSON."""
-        return json.dumps({"standings": self.standings(), "meetings": self.table()}) + "\n"
+        """The standings, the meetings and the notes as one object of JSON."""
+        return json.dumps({"standings": self.standings(), "meetings": self.table(),
+                           "notes": list(self.notes)}) + "\n"
 
 
 def tournament(players: Mapping[str, Contender], positions: Iterable[Position],
-               solver: Any = None, games: int = 1000, seed: int = 0) -> Tournament:
-    """Each player against each, itself too, on each position.
+               solver: Any = None, games: int = 1000, seed: int = 0,
+               seconds: float | None = None) -> Tournament:
+    """Each player against each, itself too, on each position; positions of tables have to have
+    one `scale`.
 
     Two players of states meet in an exact expected payoff; where one is a player of histories, in
     `games` live games with a standard error. With `solver`, a `Solver`, the solver's own plans
-    take part under the name `solver`.
+    take part under the name `solver`; `seconds` is what it has for each position.
     """
     if solver is not None and SOLVER in players:
         raise InvalidError(f"no player can be named {SOLVER} where the solver takes part")
+    given = [require_position(position, "tournament") for position in positions]
+    notes = list(_shared_notes(given))
+    if any(_is_live(player) for player in players.values()):
+        require_games(games)
     found: list[Pairing] = []
-    for number, position in enumerate(positions):
-        require_position(position, "tournament")
+    for number, position in enumerate(given):
         ready = {name: {side: _ready(position, player, side) for side in SIDES}
                  for name, player in players.items()}
         if solver is not None:
-            report = solver.solve(position)
+            report = solver.solve(position, seconds)
             ready[SOLVER] = {"one": report.one, "two": report.two}
+            notes += [f"position {number}, the solver: {note}" for note in report.notes()
+                      if note not in notes]
         line = position.game.title()
         for one in ready:
             for two in ready:
                 met = _meet(position, ready[one]["one"], ready[two]["two"], games, seed)
                 found.append(Pairing(number, line, one, two, *met))
-    return Tournament(tuple(found))
+    return Tournament(tuple(found), tuple(notes))
+
+
+def _shared_notes(positions: Sequence[Position]) -> tuple[str, ...]:
+    """What to know of the payoffs of all positions, which are means over positions too."""
+    scales = dict.fromkeys(position.game.scale for position in positions)
+    if len(scales) > 1:
+        raise InvalidError(f"the payoffs of the positions are those of the rules times "
+                           f"{' and '.join(map(str, scales))}: there is no mean of them")
+    return scale_notes(positions[0].game) if positions else ()
+
+
+def _is_live(player: Contender) -> bool:
+    """Whether a player has no plan, and plays games."""
+    return not isinstance(player, Sheet) and takes_history(player)
 
 
 def _ready(position: Position, player: Contender, side: Side) -> Contender:
     """The player's plan where it has one."""
-    if isinstance(player, Sheet) or not takes_history(player):
-        return plan_of(position, player, side)
-    return player
+    return player if _is_live(player) else plan_of(position, player, side)
 
 
 def _meet(position: Position, one: Contender, two: Contender, games: int,

@@ -55,6 +55,23 @@ class Commands(unittest.TestCase):
         found = json.loads(run("exploit", REPORT, "two", "--json").stdout)
         self.assertEqual([(worst["side"], worst["guarantees"], worst["fraction"])
                           for worst in found], [("two", -0.5, "-1/2")])
+        self.assertNotIn("nash_conv", found[0])
+        found = json.loads(run("exploit", REPORT, "--json").stdout)
+        self.assertEqual([(worst["nash_conv"], worst["notes"]) for worst in found], [(0, [])] * 2)
+
+    def test_rows_that_are_not_played_are_told(self):
+        file, good = self.folder / "x.report", (TOP / REPORT).read_text()
+        file.write_text(good.replace("335595772 -500000 32768 32768", "335595772 -500000 1 1"))
+        notes = [f"the row of player {side} in GoofspielState(one=(1, 3), two=(2, 3), score=0, prize"
+                 f"=1) has not one weight for each move with the sum 65536: the first move is "
+                 f"played there (1 such row)" for side in dosolve.SIDES]
+        told = "".join(f"note {note}\n" for note in notes)
+        self.assertTrue(run("exploit", file).stdout.endswith(f"nash_conv 1.000000\n{told}"))
+        self.assertTrue(run("exploit", file, "two").stdout.endswith(f"\nnote {notes[1]}\n"))
+        self.assertTrue(run("match", file, "--games", 2).stdout.endswith(f"most -1\n{told}"))
+        found = json.loads(run("exploit", file, "--json").stdout)
+        self.assertEqual([worst["notes"] for worst in found], [[note] for note in notes])
+        self.assertEqual(json.loads(run("match", file, "--json").stdout)["notes"], notes)
 
     def test_measure_and_tournament(self):
         found = json.loads(run("measure", POSITION, "python/examples/even.py", "--json",
@@ -68,6 +85,26 @@ class Commands(unittest.TestCase):
         self.assertEqual(len(run(*words, "--csv", "--no-solver").stdout.splitlines()), 5)
         self.assertEqual(len(json.loads(run(*words, "--json").stdout)["meetings"]), 9)
 
+    def test_a_tournament_takes_players_of_one_name_and_what_solve_takes(self):
+        files = [self.folder / name / "player.py" for name in ("ann", "bob")]
+        for move, file in enumerate(files):
+            file.parent.mkdir()
+            file.write_text(f"def play(side, state):\n    return {{state.moves(side)[-{move}]: 1}}\n")
+        words = ("tournament", *files, "python/examples/even.py", "--position", POSITION)
+        found = json.loads(run(*words, "--json").stdout)
+        self.assertEqual({standing["player"] for standing in found["standings"]},
+                         {"ann/player", "bob/player", "even", "solver"})
+        self.assertEqual([meeting["payoff"] for meeting in found["meetings"]
+                          if (meeting["one"], meeting["two"]) == ("bob/player", "ann/player")], [0])
+        limited = run(*words, "--csv", "--seconds", 0, "--workers", 2)
+        self.assertEqual((limited.returncode, len(limited.stdout.splitlines())), (0, 17))
+        self.assertRegex(limited.stderr, "^dosolve: note position 0, the solver: the bounds are no "
+                         ".*\ndosolve: note position 0, the solver: the time was up.*\n$")
+        self.assertRegex(run(*words, "--seconds", 0).stdout, r"\n\nnote position 0.*\nnote .*\n$")
+        twice = run("tournament", files[0], files[0], "--position", POSITION)
+        self.assertEqual((twice.returncode, twice.stderr),
+                         (1, f"dosolve: {files[0]} is given twice\n"))
+
     def test_sweep_is_resumed(self):
         given, output = self.folder / "given.jsonl", self.folder / "out.jsonl"
         line = json.dumps(GOOD)
@@ -78,11 +115,16 @@ class Commands(unittest.TestCase):
             self.assertRegex(found.stdout, r"(?m)^0 goofspiel lower -0\.500000 .* closed seconds")
             self.assertRegex(found.stdout, r"(?m)^2 failed .*input 14 kind of game")
             self.assertIn("1 positions failed", found.stderr)
+        self.assertIn(f"dosolve: results taken from {output}: 2\n", found.stderr)
         self.assertEqual(len(output.read_text().splitlines()), 4)
         given.write_text(json.dumps(GOOD | {"turns": 0, "visits": 0}) + "\n")
         self.assertRegex(run("sweep", given).stdout, "seconds .* note .*range of payoffs: nothing")
         given.write_text(f'{line}\n\n{line.replace("1000,", "999,")}\n{{"game": 7}}\n')
         self.assertEqual(len(run("sweep", given, "--json").stdout.splitlines()), 3)
+        for seconds, times in ((0, 0), (9, 0), (9, 1)):
+            found = run("sweep", POSITION, "-o", self.folder / "one.jsonl", "--seconds", seconds)
+            self.assertEqual((found.returncode, found.stderr.count("results taken")), (0, times))
+            self.assertEqual("note" in found.stdout, seconds == 0, found.stdout)
 
     def test_help_and_version(self):
         self.assertIn("examples:", run("--help").stdout)
@@ -91,6 +133,12 @@ class Commands(unittest.TestCase):
                         "sweep", "table"):
             self.assertEqual(run(command, "--help").returncode, 0)
         self.assertEqual(run().returncode, 2)
+        self.assertIn("0 to 8000000000, millionths of a payoff",
+                      " ".join(run("solve", "--help").stdout.split()))
+        wrong = run("solve", POSITION, "--gap", "0.5")
+        self.assertEqual(wrong.returncode, 2)
+        self.assertIn("argument --gap: gap is '0.5', and has to be a whole number from 0 to "
+                      "8000000000 (millionths of a payoff)", wrong.stderr)
 
 
 class Messages(unittest.TestCase):
@@ -134,6 +182,95 @@ class Messages(unittest.TestCase):
             file.write_text(text)
             self.fails(text, pattern, "solve", file)
         self.fails("no file", "^dosolve: no.json: No such file or directory$", "solve", "no.json")
+
+    def test_options_fill_what_a_position_leaves_out(self):
+        file = self.folder / "position.json"
+        file.write_text(json.dumps({name: value for name, value in GOOD.items()
+                                    if name not in ("gap", "turns", "workers", "prizes")}))
+        self.fails("four", "missing prizes: the position lacks prizes, gap, turns, workers; "
+                   "docs/CHOOSING.md has a line to start with$", "solve", file)
+        file.write_text(json.dumps({name: value for name, value in GOOD.items()
+                                    if name not in ("gap", "turns", "workers")}))
+        self.fails("two", "input 12 missing gap: the position lacks gap, workers; docs/CHOOSING",
+                   "solve", file, "--turns", 1000)
+        filled = run("solve", file, "--gap", 1000, "--turns", 1000, "--workers", 1, "--report")
+        self.assertEqual((filled.returncode, filled.stdout), (0, (TOP / REPORT).read_text()))
+        file.write_text(json.dumps({name: value for name, value in GOOD.items() if name != "one"}))
+        self.fails("no cards", "missing one: the position lacks one$", "solve", file)
+        self.fails("an option", "^dosolve: input 15 range of weight: weight is 5", "solve", POSITION,
+                   "--weight", 5)
+
+    def test_files_that_are_no_position_of_their_own(self):
+        file = self.folder / "many.jsonl"
+        file.write_text(2 * (TOP / POSITION).read_text())
+        self.fails("several", "Extra data at line 2, column 1; the command `sweep` takes a file "
+                   "with one position on each line$", "solve", file)
+        for name in ("rock.txt", "rock"):
+            file = self.folder / name
+            file.write_text("0,1\n1,0\n")
+            self.fails(name, "not json: .*; a game is read where the file ends with .csv, .nfg, "
+                       ".efg, .py$", "solve", file)
+        (self.folder / "rock.CSV").write_text("0,1\n1,0\n")
+        self.assertEqual(run("solve", self.folder / "rock.CSV").returncode, 0)
+        (self.folder / "wide.csv").write_bytes(",a\nb,1\n".encode("utf-16"))
+        self.fails("UTF-16", "^dosolve: .*wide.csv: .*can't decode", "solve",
+                   self.folder / "wide.csv")
+
+    def test_outputs_are_tried_before_the_search(self):
+        (self.folder / "file").write_text("")
+        player, new = "python/examples/even.py", self.folder / "new"
+        with mock.patch("dosolve.program.Solver.solve", side_effect=AssertionError):
+            for pattern, *words in (
+                    ("no/x: No such file", "solve", POSITION, "-o", self.folder / "no" / "x"),
+                    ("Is a directory", "solve", POSITION, "-o", self.folder),
+                    ("file: File exists", "measure", POSITION, player, "--keep",
+                     self.folder / "file"),
+                    ("games is 1, and has to", "measure", POSITION, player, "--games", 1),
+                    ("seed is -1, and has to", "measure", POSITION, player, "--seed", -1),
+                    ("no/x.svg: No such file", "show", REPORT, "-o", self.folder / "no" / "x.svg")):
+                self.fails(pattern, pattern, *words)
+        self.fails("a wrong program", "gave no report", "solve", POSITION, "-o", new, "--program",
+                   "/bin/true")
+        self.assertFalse(new.exists())
+        link = self.folder / "link"
+        link.symlink_to(new)
+        self.assertEqual(run("solve", POSITION, "-o", link).returncode, 0)
+        self.assertEqual(new.read_text(), (TOP / REPORT).read_text())
+
+    def test_what_was_found_is_printed_where_it_cannot_be_saved(self):
+        full = OSError(28, "No space left on device", "x")
+        for words, wanted in ((("solve", POSITION, "-o", self.folder / "x"), "^game   goofspiel"),
+                              (("measure", POSITION, "python/examples/even.py", "--json", "--keep",
+                                self.folder), '"guarantees": -0.5')):
+            shown = io.StringIO()
+            with (mock.patch("dosolve.reports.Report.save", side_effect=full),
+                  contextlib.chdir(TOP), contextlib.redirect_stdout(shown),
+                  contextlib.redirect_stderr(io.StringIO()) as told):
+                self.assertEqual(main([str(word) for word in words]), 1)
+            self.assertRegex(shown.getvalue(), wanted)
+            self.assertEqual(told.getvalue(), "dosolve: x: No space left on device\n")
+
+    def test_no_source_is_written_over(self):
+        position, player = self.folder / "one.report", self.folder / "player.py"
+        position.write_text((TOP / POSITION).read_text())
+        player.write_text("def play(side, state): return [1] * len(state.moves(side))\n")
+        matrix, report = self.folder / "m.csv", self.folder / "r.report"
+        matrix.write_text(",a,b\nc,1,0\nd,0,1\n")
+        report.write_text((TOP / REPORT).read_text())
+        self.assertEqual(run("table", matrix, "-o", self.folder / "m.json").returncode, 0)
+        before = {file.name: file.read_text() for file in self.folder.iterdir()}
+        for words in (("solve", position, "-o", position), ("solve", matrix, "-o", matrix),
+                      ("solve", position, "-o", self.folder / "x" / ".." / "one.report"),
+                      ("solve", self.folder / "m.json", "-o", self.folder / "m.names"),
+                      ("table", matrix, "-o", matrix), ("sweep", position, "-o", position),
+                      ("measure", position, player, "--side", "one", "--keep", self.folder),
+                      ("show", report, "-o", report)):
+            (self.folder / "x").mkdir(exist_ok=True)
+            self.fails(words, "is read, and would be written over: name another output", *words)
+        (self.folder / "x").rmdir()
+        self.fails("names", "new.names ends as the file of names beside it would", "table", matrix,
+                   "-o", self.folder / "new.names")
+        self.assertEqual({file.name: file.read_text() for file in self.folder.iterdir()}, before)
 
     def test_reports(self):
         file, good = self.folder / "x.report", (TOP / REPORT).read_text()
@@ -181,12 +318,15 @@ class Messages(unittest.TestCase):
                  "must not be negative"),
                 ("import random\ndef play(side, state):\n    card = random.choice(state.moves("
                  "side))\n    return {card: 1}", "drew random numbers in Goofspiel"),
+                ("import sys\ndef play(side, state): sys.exit(0)", "one raised SystemExit: 0: in G"),
+                ("import sys\nsys.exit()", "player.py raised SystemExit"),
+                ("def play(side, state): raise ValueError('two\\nlines')", "ValueError: two lines:"),
                 ("def play(side, state, history): return [1]", "has no plan by states")):
             player.write_text(text)
             self.fails(text, pattern, "measure", POSITION, player)
         for words in (("show", REPORT, "-o", self.folder / "x.txt"),
                       ("show", REPORT, "-o", self.folder / "x.svg", "--key", "7"),
-                      ("sweep", POSITION), ("solve", POSITION, "-o", self.folder / "no" / "x")):
+                      ("solve", POSITION, "-o", self.folder / "no" / "x")):
             found = run(*words)
             self.assertEqual((found.returncode, found.stderr.count("\n")), (1, 1), found.stderr)
         self.assertEqual(run("solve", POSITION, "--seconds", "-1").returncode, 2)

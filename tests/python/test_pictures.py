@@ -120,6 +120,15 @@ class Pictures(unittest.TestCase):
             titles = [pictures._title(report, state, state.key) for state in states]
             self.assertFalse([title for title in titles if "State(" in title])
             self.assertTrue(not titles or any(words in title for title in titles), titles)
+        report = dosolve.Report.load(EXAMPLES[0])
+        root = report.game.root()
+        self.assertTrue(pictures._title(report, root, root.key).endswith("score 0, prize 1"))
+
+    def test_payoffs_that_are_multiplied_are_told(self):
+        table = dosolve.Table.from_matrix([[0.5, 0], [0, 1]], ["a", "b"], ["c", "d"])
+        for given, words in ((table, "payoff of player one, that of the rules times 2"),
+                             (dosolve.Table(table.listing), "payoff of player one")):
+            self.look(pictures.figure(made(given, random.Random(1))), words)
 
     def test_bounds_over_time(self):
         lines = [f"worker 0 turns {100 * at} seconds {at}" for at in range(1, 9)]

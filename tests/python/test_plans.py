@@ -64,8 +64,8 @@ class Sheets(unittest.TestCase):
         sheet = dosolve.plan(GAME, "one", lambda state: [1 for _ in state.moves("one")])
         shown = sheet._repr_html_()
         self.assertIn("&lt;Sheet of player one", shown)
-        self.assertIn("</tr><tr><td>GoofspielState(one=(1, 3), two=(2, 3), score=0)</td><td>-0.500000</td><td>1 50.0%, 3 50.0%</td>",
-                      shown)
+        self.assertIn("</tr><tr><td>GoofspielState(one=(1, 3), two=(2, 3), score=0, prize=1)</td><td>-0.500000</td>"
+                      "<td>1 50.0%, 3 50.0%</td>", shown)
         self.assertEqual(shown.count("<tr>"), 1 + len(sheet.rows))
         over = dosolve.Sheet(dosolve.Goofspiel([], [], []), "one", 8192)
         self.assertEqual(over._repr_html_().count("<tr>"), 1)
@@ -77,6 +77,16 @@ class Sheets(unittest.TestCase):
         self.assertEqual(Sheet(GAME, "one", 8192, [Row(ROOT, 0, (0, 8192))]).weights(root), (0, 8192))
         self.assertEqual(Sheet(GAME, "one", 8192).weights(root), (8192, 0))
         self.assertEqual(Sheet(GAME, "one", 8192).root_bound, -2_000_000)
+
+    def test_rows_that_are_not_played_are_told(self):
+        rows = [Row(1, 0, (8192,)), Row(67127548, 0, (8192,)), Row(67143933, 0, (8192, 0)), Row(ROOT, 0, (4096, 4095))]
+        good, bad = (Sheet(GAME, "one", 8192, given) for given in (rows[:2], rows))
+        self.assertEqual([state.key for state in bad.unplayed()], [67143933, ROOT])
+        report = dosolve.Report.of(bad, Sheet(GAME, "two", 8192))
+        self.assertEqual(report.row_notes("one"), (
+            "the row of player one in GoofspielState(one=(1,), two=(3,), score=1, prize=1) has not one weight for each move "
+            "with the sum 8192: the first move is played there (2 such rows)",))
+        self.assertEqual((list(good.unplayed()), report.row_notes("two")), ([], ()))
 
     def test_a_state_of_another_game_is_refused(self):
         other = dataclasses.replace(GAME, prizes=(1, 2)).root()
@@ -110,6 +120,14 @@ class Sheets(unittest.TestCase):
 
 
 class States(unittest.TestCase):
+    def test_states_of_goofspiel_tell_the_prize(self):
+        state = dosolve.Goofspiel([1, 3], [2, 3], [5, 7]).root()
+        self.assertEqual(str(state), "GoofspielState(one=(1, 3), two=(2, 3), score=0, prize=5)")
+        self.assertTrue(str(state.after(0, 0)).endswith("score=-5, prize=7)"))
+        self.assertEqual(str(state.after(0, 0).after(0, 0)), "GoofspielState(one=(), two=(), score=-5)")
+        drawn = dosolve.GoofspielDrawn([1, 2, 3], [1, 2, 3], [5, 7, 9]).root()
+        self.assertTrue(str(drawn.after(0, 0, 1)).endswith("undrawn=(1,), place=2, prize=9)"))
+
     def test_labels_and_numbers_are_told_apart(self):
         root = GAME.root()
         self.assertEqual(root.play(one=3, two=2), root.after(1, 0))

@@ -53,6 +53,45 @@ class Answers(unittest.TestCase):
         with self.assertRaisesRegex(dosolve.PlayerError, "'up' is no .*named .'east', 'south'"):
             dosolve.plan(tron, "one", lambda state: {"up": 1})
 
+    def test_a_number_that_is_the_name_of_another_move_is_refused(self):
+        table = dosolve.Table.from_matrix([[5, 6], [7, 8]], [1, 2], ["1", "2"])
+        root, words = table.root(), "1 is the number of the move '2' and the name of another: write"
+        for call in (lambda: root.play(one=1, two="1"), lambda: table.state_after([("1", 1)]),
+                     lambda: dosolve.plan(table, "one", lambda state: {1: 1.0}),
+                     lambda: dosolve.live_match(table, lambda side, state: {1: 1}, even, 2)):
+            with self.assertRaisesRegex(dosolve.InvalidError, f"{words} a name as a word, '1' or"):
+                call()
+        with self.assertRaisesRegex(dosolve.InvalidError, "has no move 2 .* and one named '2'"):
+            root.play(one=2, two="1")
+        self.assertEqual(root.play(one="1", two="2").payoff, 6)
+        self.assertEqual(root.play(one=0, two=0).payoff, 5)
+        self.assertEqual(table.state_after([("2", "1")]).payoff, 7)
+        for answer, named in (({"1": 0.25, "2": 0.75}, (0.25, 0.75)), ({"2": 1}, (0, 1)),
+                              ({0: 0.25, 1: 0.75}, (0.25, 0.75)), ([0, 1], (0, 1))):
+            plan = dosolve.plan(table, "one", lambda state, answer=answer: answer)
+            self.assertEqual(tuple(plan.named(root).values()), named)
+        agreeing = dosolve.Table.from_matrix([[5, 6], [7, 8]]).root()
+        self.assertEqual((agreeing.play(one=1, two=1).payoff, agreeing.move("one", 1)), (8, 1))
+
+    def test_labels_that_the_package_takes_itself_are_no_names(self):
+        table = dosolve.Table.from_game(GAME)
+        match = dosolve.live_match(table, even, even, 20, 1)
+        self.assertEqual(len(match.told(table)), 3)
+        state = dosolve.openspiel.new_initial_state(table)
+        state.apply_actions([1, 2])
+        self.assertEqual(state.state, table.root().after(1, 2))
+        self.assertEqual(state.action_to_string(0, 1), state.state.names("one")[1])
+        plan = dosolve.plan(table, "one", lambda state: [1] * len(state.moves("one")))
+        policy = dosolve.openspiel.policy_of(plan)
+        self.assertEqual(dosolve.openspiel.plan_of_policy(table, "one", policy), plan)
+
+        class Wrong:
+            def action_probabilities(self, state, player_id=None):
+                return {9: 1.0}
+
+        with self.assertRaisesRegex(dosolve.PlayerError, "9 is no label of a move"):
+            dosolve.openspiel.plan_of_policy(table, "one", Wrong())
+
     def test_making_a_plan_tells_how_far_it_is(self):
         steps = []
         with mock.patch("dosolve.progress.time.monotonic", itertools.count().__next__):
@@ -115,6 +154,16 @@ class Answers(unittest.TestCase):
             dosolve.plan(GAME, "two", fails)
         self.assertIsInstance(caught.exception.__cause__, AttributeError)
 
+    def test_a_player_that_ends_the_process_is_told(self):
+        def ends(side, state):
+            sys.exit(0)
+
+        words = "player one raised SystemExit: 0: in GoofspielState"
+        with self.assertRaisesRegex(dosolve.PlayerError, words):
+            dosolve.measure(POSITION, ends, "one")
+        with self.assertRaisesRegex(dosolve.PlayerError, words):
+            dosolve.live_match(GAME, ends, even, 2)
+
     def test_sources_of_numbers(self):
         sheet = dosolve.Sheet(GAME, "one", 8192)
         with self.assertRaisesRegex(dosolve.InvalidError, r"has a method random\(\)"):
@@ -140,15 +189,35 @@ class Files(unittest.TestCase):
         self.assertEqual(player("one", GAME.root()), [1, 2, 3])
         sys.path.remove(str(folder))
 
+    def test_players_of_one_name_are_apart_and_import_their_own_neighbours(self):
+        players, paths = [], list(sys.path)
+        for number in (1, 2):
+            folder = self.write(
+                player="from neighbour import CARD\nfrom nearby.inner import CARD as SAME\n\n\n"
+                       "def play(side, state):\n    assert CARD == SAME\n    return {CARD: 1}\n",
+                neighbour=f"CARD = {number}\n")
+            (folder / "nearby").mkdir()
+            (folder / "nearby" / "__init__.py").write_text("")
+            (folder / "nearby" / "inner.py").write_text(f"CARD = {number}\n")
+            players.append((folder, dosolve.load_player(folder / "player.py")))
+        self.assertEqual([player("one", None) for _, player in players], [{1: 1}, {2: 1}])
+        again = dosolve.load_player(players[0][0] / "player.py")
+        self.assertEqual(again("one", None), {1: 1})
+        self.assertEqual(len({player.__module__ for _, player in players}), 2)
+        sys.path[:] = paths
+
     def test_faults_of_files_are_said(self):
         folder = self.write(broken="def play(:\n", failing="1 / 0\n", empty="",
-                            narrow="def play(state): return [1]\n",
+                            narrow="def play(state): return [1]\n", ending="raise SystemExit(3)",
                             past="def play(side, state, history): return [1]\n")
         for name, words in (("broken", "SyntaxError"), ("failing", "ZeroDivisionError"),
                             ("empty", "defines no function"), ("no_such", "is no file"),
+                            ("ending", "ending.py raised SystemExit: 3"),
                             ("narrow", "is a function play")):
             with self.assertRaisesRegex(dosolve.InvalidError, words):
                 dosolve.load_player(folder / f"{name}.py")
+        (folder / "upper.PY").write_text("def play(side, state): return [1]\n")
+        self.assertEqual(dosolve.load_player(folder / "upper.PY")("one", None), [1])
         player = dosolve.load_player(folder / "past.py")
         self.assertIsInstance(player, dosolve.HistoryPlayer)
         with self.assertRaisesRegex(dosolve.InvalidError, "player of histories has no plan"):
@@ -198,6 +267,40 @@ class Matches(unittest.TestCase):
         self.assertEqual(str(found) + "\n", found.markdown())
         with self.assertRaisesRegex(dosolve.InvalidError, "named solver"):
             dosolve.tournament({"solver": even}, [POSITION], dosolve.Solver())
+
+    def test_a_tournament_refuses_what_it_cannot_do_before_it_solves(self):
+        asked = []
+
+        class Asked(dosolve.Solver):
+            def solve(self, position, *more):
+                asked.append(position)
+                return super().solve(position, *more)
+
+        halves, whole = (dosolve.Position(dosolve.Table.from_matrix([[0, win], [1, 0]]), workers=1)
+                         for win in (0.5, 1))
+        with self.assertRaisesRegex(dosolve.InvalidError, "are those of the rules times 2 and 1: "
+                                    "there is no mean of them"):
+            dosolve.tournament({"even": even}, [halves, whole], Asked())
+        past = {"past": lambda side, state, history: [1] * len(state.moves(side))}
+        with self.assertRaisesRegex(dosolve.InvalidError, "games is 1, and has to be a whole"):
+            dosolve.tournament(past, [whole], Asked(), games=1)
+        self.assertEqual(asked, [])
+
+    def test_a_tournament_has_notes_and_a_limit_of_time(self):
+        halves = dosolve.Position(dosolve.Table.from_matrix([[0, 0.5], [1, 0]]), workers=1)
+        found = dosolve.tournament({"even": even}, [halves, halves], dosolve.Solver(), seconds=0)
+        scaled, *rest = found.notes
+        self.assertEqual(scaled, "payoffs and bounds are those of the rules times 2")
+        self.assertEqual([note.split(":")[0] for note in rest],
+                         [f"position {number}, the solver" for number in (0, 0, 1, 1)])
+        self.assertIn("no better than the range of payoffs", rest[0])
+        self.assertIn("the time was up", rest[1])
+        self.assertTrue(found.markdown().endswith("".join(f"note {note}\n" for note in found.notes)))
+        self.assertEqual(json.loads(found.json())["notes"], list(found.notes))
+        self.assertRegex(found.markdown(), r"payoffs to the player itself:\n\n\| player \| as one "
+                         r"[^:]*payoff to One:\n\n\| position")
+        good = dosolve.tournament({"even": even}, [POSITION], dosolve.Solver(), seconds=20)
+        self.assertEqual(good.notes, ())
 
 
 class OpenSpiel(unittest.TestCase):

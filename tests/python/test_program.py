@@ -1,4 +1,5 @@
 """Calls of the program: every refusal and failure is an exception with the program's text."""
+import dataclasses
 import os
 import subprocess
 import sys
@@ -28,6 +29,27 @@ class Calls(unittest.TestCase):
                     with self.assertRaises(dosolve.ReportRefused) as caught:
                         dosolve.check(given)
                     self.assertEqual(caught.exception.text + "\n", out.decode())
+
+    def test_refusals_are_explained_by_every_call(self):
+        calls = (dosolve.check, lambda text: dosolve.exploit(text, "one"), lambda text: dosolve.play(text, 1))
+        for given, wanted, words in ((b"weight 65536", b"weight 6", "report number 3: '6' has to be a number from 8192"),
+                                     (b"\nend\n", b"\nend", "report short: line 23 does not end"),
+                                     (b"\nasked ", b"\nasked  ", "report line 5: the line is .asked  1000"),
+                                     (b"goofspiel 1,3", b"goofspiel 1,14", "report position 21: the card 14")):
+            for call in calls:
+                with self.subTest(words), self.assertRaisesRegex(dosolve.ReportRefused, words):
+                    call(EXAMPLE.replace(given, wanted))
+
+    def test_a_refused_outcome_is_explained(self):
+        wide = dosolve.Report.load(TOP / "python" / "examples" / "high_card_first.report")
+        one, two = (dosolve.Sheet(wide.game, side, 65536) for side in dosolve.SIDES)
+        for made, words in ((dosolve.Report.read(EXAMPLE.replace(b"outcome closed", b"outcome spent")),
+                             "gap is 0.000000, asked was 0.001000, and .* 0.062502: the outcome has to be closed"),
+                            (dataclasses.replace(dosolve.Report.of(one, two), outcome="settled"), "has to be spent or full"),
+                            (dataclasses.replace(dosolve.Report.of(one, two), turns=1), "has to be full, since turns are left")):
+            with self.assertRaisesRegex(dosolve.ReportRefused, f"^refused outcome: the .*{words}"):
+                dosolve.check(made)
+        self.assertIn("do not allow the outcome", str(dosolve.ReportRefused("refused outcome")))
 
     def test_bounds_gives_numbers_or_raises_what_stopped_it(self):
         for name, given, out, status in cases("bounds"):

@@ -52,31 +52,47 @@ class Time(Programs):
         found = dosolve.solve(POSITION, program, seconds=2, progress=steps.append)
         self.assertEqual(found, report)
         self.assertLess(time.monotonic() - since, 20)
-        self.assertEqual(found.used_up, ("turns",))
+        self.assertEqual((found.used_up, found.stopped), (("turns",), "time"))
+        self.assertEqual(found.notes(), ("the time was up: more seconds can narrow the gap",))
         self.assertEqual([(step.turns, step.lower, step.upper, step.gap) for step in steps],
                          [(5, report.lower, report.upper, report.gap), (9, -5, 7, 12)])
+
+    def test_of_equal_gaps_the_later_report_is_handed_back(self):
+        program, report = self.slow_program()
+        later = dataclasses.replace(report, lower=-2 * 10**6, one=dosolve.Sheet(GAME, "one", 8192))
+        Path(f"{program}.report").write_text(later.text())
+        found = dosolve.solve(POSITION, program, seconds=2)
+        self.assertEqual((found, found.turns, found.stopped), (later, 256, "time"))
+        self.assertNotIn("no turn", str(found))
 
     def test_with_no_time_there_is_the_report_of_no_search(self):
         found = dosolve.solve(POSITION, seconds=0)
         self.assertTrue(found.is_vacuous)
         self.assertEqual(dosolve.check(found).outcome, found.outcome)
+        self.assertEqual(found.notes()[1:], ("the time was up: more seconds can narrow the gap",))
+        wide = dosolve.solve(dataclasses.replace(POSITION, gap=4 * 10**6), seconds=0)
+        self.assertEqual((wide.outcome, wide.stopped), ("closed", ""))
 
     def test_a_search_that_ends_is_handed_back(self):
         found = dosolve.solve(POSITION, seconds=math.inf)
         self.assertEqual((found.lower, found.upper, found.used_up), (-500_000, -500_000, ()))
+        self.assertEqual(found.stopped, "")
+        few = dosolve.solve(dataclasses.replace(POSITION, turns=1), seconds=math.inf)
+        self.assertEqual((few.stopped, few.used_up), ("", ("turns",)))
 
     def test_interrupted_there_is_the_best_report(self):
         program, report = self.slow_program()
         words = (f"import dosolve, math; p = dosolve.Position.read({POSITION.text()!r}); "
-                 f"print(dosolve.solve(p, {str(program)!r}, seconds=math.inf, "
-                 f"progress=lambda step: print(step, flush=True)).text())")
+                 f"r = dosolve.solve(p, {str(program)!r}, seconds=math.inf, "
+                 f"progress=lambda step: print(step, flush=True)); print(r.text() + r.notes()[-1])")
         run = subprocess.Popen([sys.executable, "-c", words], stdout=subprocess.PIPE, text=True,
                                env=os.environ | {"PYTHONPATH": str(TOP / "python")})
         self.assertIn("5 turns", run.stdout.readline())
         run.send_signal(signal.SIGINT)
         answer, _ = run.communicate(timeout=20)
         self.assertEqual((run.returncode, answer[answer.index("dosolve"):].strip()),
-                         (0, report.text().strip()))
+                         (0, f"{report.text()}the search was interrupted: more seconds can narrow "
+                             f"the gap"))
 
     def test_a_limit_of_time_is_an_error_of_time(self):
         program = self.program("cat > /dev/null; exec sleep 30")
@@ -125,11 +141,16 @@ class Notes(unittest.TestCase):
         self.assertEqual((found.outcome, found.is_vacuous), ("settled", True))
         self.assertIn("no better than the range of payoffs", str(found))
         self.assertIn("gap 2.000000, which is the range of payoffs, asked", repr(found))
-        self.assertIn("no turn was spent", str(found))
+        self.assertIn("no turns were allowed: the bounds are those of pure plans, or of plans of "
+                      "players", str(found))
+        self.assertIn("gap    2.000000 (100% of the range), settled, asked 0.000000", str(found))
         few = dosolve.solve(dataclasses.replace(position, turns=10, visits=10**6))
         self.assertEqual(few.used_up, ("turns",))
-        self.assertIn("used up its turns", str(few))
+        self.assertIn("used up its turns: more turns may narrow the gap", str(few))
         good = dosolve.solve(POSITION)
+        self.assertIn("gap    0.000000 (0% of the range), closed\n", str(good))
+        with self.assertRaisesRegex(dosolve.InvalidError, "stopped is 'x', and has to be empty or"):
+            dataclasses.replace(good, stopped="x")
         self.assertEqual((good.notes(), good.is_vacuous, good.used_up), ((), False, ()))
         end = dosolve.solve(dataclasses.replace(POSITION, game=dosolve.Goofspiel([], [], [])))
         self.assertEqual((end.is_vacuous, end.notes(), end.span), (False, (), 0))

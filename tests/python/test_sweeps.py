@@ -84,6 +84,57 @@ class Sweeps(unittest.TestCase):
         for line in output.read_text().splitlines():
             self.assertTrue("cut o" in line or {"position", "seconds"} <= json.loads(line).keys())
 
+    def test_what_time_cut_short_is_searched_again_where_there_is_more(self):
+        position = dosolve.Position(dosolve.Goofspiel([1, 2, 3], [1, 2, 3], [2, 1, 3]), workers=1)
+        output = self.folder / "out.jsonl"
+
+        def swept(seconds, **more):
+            with concurrent.futures.ThreadPoolExecutor(1) as threads:
+                return next(dosolve.sweep([position], threads, output, seconds=seconds, **more))
+
+        first = swept(0)
+        self.assertEqual((first.report.stopped, first.limit, first.is_old), ("time", 0, False))
+        self.assertEqual(json.loads(output.read_text())["limit"], 0)
+        again = swept(0)
+        self.assertEqual((again.is_old, again.limit, again.report.notes()),
+                         (True, 0, first.report.notes()))
+        self.assertIn("the time was up: more seconds can narrow the gap", again.report.notes())
+        whole = output.read_text()
+        for seconds in (30, None):
+            output.write_text(whole)
+            better = swept(seconds)
+            self.assertEqual((better.is_old, better.limit, better.report.stopped),
+                             (False, None, ""))
+            self.assertLess(better.report.gap, 100)
+            self.assertNotIn('"limit"', output.read_text().splitlines()[1])
+            for later in (0, 60, None):
+                kept = swept(later, solver=dosolve.Solver("/no/such"))
+                self.assertEqual((kept.is_old, kept.report), (True, better.report))
+
+    def test_results_of_earlier_versions_are_read(self):
+        position = dosolve.Position(dosolve.Goofspiel([1, 2, 3], [1, 2, 3], [2, 1, 3]), workers=1)
+        output, done = self.folder / "out.jsonl", dosolve.solve(position)
+        cut = dosolve.solve(position, seconds=0)
+        for report, limits in ((done, {None: True, 1: True}), (cut, {None: False, 1: True, 3: False})):
+            for seconds, is_old in limits.items():
+                output.write_text(json.dumps({"position": position.text().strip(), "seconds": 2.01}
+                                             | report.record() | {"report": report.text()}) + "\n")
+                with concurrent.futures.ThreadPoolExecutor(1) as threads:
+                    found = next(dosolve.sweep([position], threads, output, seconds=seconds))
+                self.assertEqual((found.is_old, found.report == report), (is_old, is_old))
+
+    def test_files_of_positions(self):
+        file = self.folder / "one.json"
+        text = (TOP / "examples" / "goofspiel_mixed.json").read_text()
+        for given in (text, json.dumps(json.loads(text), indent=1)):
+            file.write_text(given)
+            self.assertEqual([dosolve.Position.read(line) for line in dosolve.read_positions(file)],
+                             [dosolve.Position.read(text)])
+        file.write_text(2 * text)
+        with self.assertRaisesRegex(dosolve.InvalidError, "one.json is no JSON of one position; a "
+                                    "file with one position on each line has to end with .jsonl"):
+            dosolve.read_positions(file)
+
     def test_a_killed_process_loses_nothing(self):
         given = positions(40, random.Random(3))
         solver = dosolve.Solver(self.slow_program(0.1))
@@ -286,7 +337,9 @@ class Stopped(unittest.TestCase):
                     position.text().strip() for position in self.given[:self.QUICK]))
         command = self.sweep()
         answer, told = command.communicate(timeout=60)
-        self.assertEqual((command.returncode, told, answer.count("\n")), (0, "", len(self.given)))
+        self.assertEqual((command.returncode, told, answer.count("\n")),
+                         (0, f"dosolve: results taken from {self.output}: {self.QUICK}\n",
+                          len(self.given)))
         self.assertEqual(self.lines()[:self.QUICK], kept)
         self.assertEqual(sorted(json.loads(line)["report"] for line in self.lines()),
                          sorted(dosolve.solve(position).text() for position in self.given))

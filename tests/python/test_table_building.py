@@ -208,6 +208,32 @@ class Making(unittest.TestCase):
         self.refused("rounds is 32, .* from 1 to 31", Table.repeated, [[1, -1], [-1, 1]], 32)
         self.refused("rounds is 0", Table.repeated, [[1]], 0)
 
+    def test_a_game_that_does_not_end_is_refused_at_once(self):
+        asked = []
+
+        def moves(node):
+            asked.append(node)
+            return "ab", "cd"
+
+        for after in (lambda node, one, two: node + 1, lambda node, one, two: (node, one, two),
+                      lambda node, one, two: {node + 1: 0.5, node + 2: 0.5},
+                      lambda node, one, two: [(node + draw, Fraction(1, 16))
+                                              for draw in range(1, 17)]):
+            asked.clear()
+            self.refused("goes on for more than 31 turns, at .*: let moves return None where it "
+                         "ends$", Table.from_functions, 0, moves, after, int)
+            self.assertLessEqual(len(asked), 32)
+
+        def counted(turns, step=lambda node, one: node + 1):
+            return Table.from_functions(0, lambda node: None if node >= turns else ("ab", "c"),
+                                        lambda node, one, two: step(node, one), lambda node: 0)
+
+        self.assertEqual(counted(31).root().rank, 31)
+        self.refused("more than 31 turns, at 31: let moves", counted, 32)
+        self.refused("takes up to 40 turns", counted, 40, lambda node, one: node + 1 + (one == "a"))
+        self.refused("more than 31 turns, at .*: a table has to end before", Table.from_openspiel,
+                     Nim(200))
+
     def test_chances_are_dealt_out(self):
         for count, levels in ((13, 1), (14, 2), (16, 2), (52, 2), (36, 2), (1001, 3), (784, 4)):
             ends = {node: node % 3 for node in range(count)}
@@ -260,6 +286,14 @@ class Making(unittest.TestCase):
             root.play(one="left", two="-")
         with self.assertRaisesRegex(dosolve.InvalidError, "no state of the table was made of"):
             table.at((7, 7))
+
+    def test_none_can_be_a_node(self):
+        share = Fraction(1, 17)
+        table = Table.from_functions(
+            None, lambda node: ("ab", "c") if node is None else None,
+            lambda node, one, two: dict.fromkeys(range(17), share), int, rounded=True)
+        self.assertEqual((table.root().name, table.at(None)), ("None", table.root()))
+        self.assertEqual(set(table.state_names[1:]) & {"None", "chance"}, {"chance"})
 
     def test_what_functions_cannot_tell(self):
         both = ([0], [0])
@@ -439,6 +473,11 @@ class CommandLine(unittest.TestCase):
                 ("f.json", '[["0", "-1/1"], [1, 0.0]]', ["--rounds", "2"],
                  Table.repeated([[0, -1], [1, 0]], 2)),
                 ("g.efg", efg, [], Table([[[1], [2]], 1, 0])),
+                ("g.EFG", f"\ufeff{efg}", [], Table([[[1], [2]], 1, 0])),
+                ("i.CSV", "\ufeff,rock,paper\nrock,0,-1\npaper,1,0\n", [], rps),
+                ("j.csv", "sign, rock, paper\nrock, 0, -1\npaper, 1, 0\n", [], rps),
+                ("k.csv", "paper\n0\n1\n", [], Table.from_matrix([[0], [1]])),
+                ("l.Json", "\ufeff[[0, -1], [1, 0]]", [], rps),
                 ("h.py", "import dosolve\ndef table(): return dosolve.Table([5])", [], Table([5]))):
             with self.subTest(name):
                 status, out, told = self.run_table(name, text, "--gap", "7", *words)
@@ -451,11 +490,33 @@ class CommandLine(unittest.TestCase):
         made = dosolve.Position.load(self.folder / "made.position").game
         self.assertEqual(made.root().names("two"), ("rock", "paper"))
 
+    def test_numbers_are_names_where_the_first_cell_is_empty(self):
+        for text, ones, twos, payoffs in (
+                (",low,high\n1,5,6\n2,7,-8", ("1", "2"), ("low", "high"), (5, 6, 7, -8)),
+                (",1,2\n1,5,6\n2,7,8", ("1", "2"), ("1", "2"), (5, 6, 7, 8)),
+                (',"1,5",b\nx,5,6\ny,7,8', ("x", "y"), ("1,5", "b"), (5, 6, 7, 8)),
+                ("1,2\n5,6", ("0", "1"), ("0", "1"), (1, 2, 5, 6))):
+            self.assertEqual(self.run_table("a.csv", text)[::2], (0, ""))
+            root = dosolve.Position.load(self.folder / "made.position").game.root()
+            self.assertEqual((root.names("one"), root.names("two")), (ones, twos))
+            self.assertEqual(tuple(root.after(one, two).payoff for one in range(2)
+                                   for two in range(2)), payoffs)
+
     def test_messages(self):
         for name, text, words, pattern in (
                 ("a.txt", "", [], "a.txt has to end with .csv, .json, .nfg, .efg or .py"),
                 ("a.json", "[", [], "a.json is no JSON: Expecting"), ("a.json", "5", [], "list of"),
-                ("a.csv", "0,x\n1,2\nz,3\n", [], "'z' is no payoff: in row 1, column 0"),
+                ("a.csv", "0,1\n1,2\nz,3\n", [], "'z' is no payoff: in row 2, column 0"),
+                ("a.csv", "1,x\n3,0\n", [], "a.csv begins with the number 1 and goes on with 'x'"),
+                ("a.csv", '"1,5","2,5"\n3,4\n', [], "a.csv has '1,5' with a comma, and numbers ha"),
+                ("a.csv", 'a,b\n3,"4,5"\n', [], "has '4,5' with a comma"),
+                ("a.csv", "low,high\n1,5,6\n", [], "has 2 names in its first line for 3 columns"),
+                ("a.csv", "low,high\nx,5,6\n", [], "has 1 names in its first line for 2 columns"),
+                ("a.csv", ",low,\n1,5,6\n", [], "has 1 names in its first line for 2 columns"),
+                ("a.csv", ",low\n,5\n", [], "has 0 names in its first column for 1 rows"),
+                ("a.csv", "0\t1\n1\t0\n", [], "a.csv has tabs, and commas have to"),
+                ("a.csv", "0 1\n1 0\n", [], "a.csv has blanks, and commas have to"),
+                ("a.csv", ";a;b\nx;1,5;2\n", [], "a.csv has semicolons, and commas have to"),
                 ("a.csv", ",a,b\nx,1,no\n", [], "'no' is no payoff: in row x, column b"),
                 ("a.csv", ",a,b\nx,1,2\ny,3\n", [], "row 1 .* has the length 1"),
                 ("a.csv", "0;1\n1;0\n", [], "a.csv has semicolons"),
@@ -470,6 +531,11 @@ class CommandLine(unittest.TestCase):
                 ("a.py", "x", ["--rounds", "2"], "no matrix that is played for some rounds"),
                 ("a.json", "[[1]]", ["--rounds", "0"], "rounds is 0"),
                 ("a.json", "[[1]]", ["--weight", "5"], "input 15 range of weight"),
+                ("a.py", "import sys\ndef table(): sys.exit('no')", [], "raised SystemExit: no .*2"),
+                ("a.py", "raise SystemExit", [], "a.py raised SystemExit"),
+                ("a.py", "import dosolve\ndef table(): return dosolve.Table([[[1] * 32] * 32] + "
+                         "[[[1025] * 32] * 32] * 300 + [0] * 725)", [],
+                 "a.py: input 50 too long: table of .* bytes, and 1048576 are possible"),
                 ("a.nfg", "5", [], "the file ends where a version")):
             with self.subTest(pattern):
                 status, out, told = self.run_table(name, text, *words)

@@ -236,7 +236,25 @@ class Names(unittest.TestCase):
             self.assertIn("payoffs and bounds are those of the rules times 2", solved.stdout)
             told = run("match", folder / "m.report", "--games", 10)
             self.assertIn("turn root: paper - paper\npayoff 0\n", told.stdout)
-            self.assertEqual(run("check", folder / "m.report").returncode, 0)
+            note = "note payoffs and bounds are those of the rules times 2"
+            even = folder / "even.py"
+            even.write_text("def play(side, state): return [1] * len(state.moves(side))\n")
+            for words in (("check", "m.report"), ("exploit", "m.report"), ("match", "m.report"),
+                          ("measure", "m.json", even), ("sweep", "m.json"),
+                          ("tournament", even, "--position", "m.json"), ("solve", "m.json")):
+                told = run(*(folder / word if str(word)[0] == "m" and "." in str(word) else word
+                             for word in words))
+                self.assertEqual((told.returncode, told.stderr), (0, ""))
+                self.assertEqual(" ".join(told.stdout.split()).count(note), 1, told.stdout)
+                if words[0] in ("check", "match", "tournament"):
+                    told = run(words[0], *(word if word in (even, "--position") else folder / word
+                                           for word in words[1:]), "--json")
+                    self.assertEqual(f"note {json.loads(told.stdout)['notes'][0]}", note)
+            (folder / "m.names").rename(folder / "kept")
+            (folder / "m.names").write_text("{}")
+            self.assertEqual(run("check", folder / "m.report").stdout.count("\n"), 1)
+            self.assertIn("these are no names", run("exploit", folder / "m.report").stderr)
+            (folder / "kept").rename(folder / "m.names")
             told = run("solve", folder / "m.csv", "--workers", 1, "-o", folder / "c.report")
             self.assertEqual((told.returncode, told.stdout), (0, solved.stdout))
             self.assertTrue((folder / "c.names").is_file())

@@ -10,9 +10,11 @@
  * there is room: where `*size` is more than `room`, the text is cut off. What stands in `output` behind the text stays as
  * it was, and no byte behind `room` is written. With status 8 neither `output` nor `*size` is written.
  *
- * What a caller owes: pointers that are not null, also where a length is 0; `input` with `count` bytes to read, which
- * nobody writes during the call; `output` with `room` bytes, and `*size`, apart from each other and from `input`, which
- * nobody else reads or writes during the call; and 1 MB of stack. There is no other duty: any bytes are answered.
+ * What a caller owes: pointers that are not null, also where a length is 0, and aligned as their type asks; `input` with
+ * `count` bytes to read, which nobody writes during the call; `output` with `room` bytes, `*size`, and what other calls
+ * write, apart from each other and from `input`, which nobody else reads or writes during the call; 1 MB of stack; and no
+ * call from a signal handler, or from the forked child of a process with threads. There is no other duty: any bytes are
+ * answered.
  *
  * Bounds, gaps and resolutions are millionths of a payoff, and payoffs are what One gets.
  */
@@ -70,17 +72,18 @@ uint32_t dosolve_sample(uint32_t number, uint8_t *output, size_t room, uint64_t 
  *
  * These calls read a position or a report too, and give numbers in place of a text. Statuses: those of `solve` for
  * dosolve_root; else DOSOLVE_DONE, DOSOLVE_USAGE (no such side, no such number of games), DOSOLVE_FULL (dosolve_replies and
- * dosolve_worst: a plan comes to more than 1048576 states), DOSOLVE_NO_MEMORY and DOSOLVE_REPORT (dosolve_check tells why). With
- * DOSOLVE_INPUT, and with each of the latter but DOSOLVE_DONE, nothing is written. Arrays are filled as far as there is room;
- * what stands behind stays as it was. A plan need not be lawful: dosolve_check tells whether it is. Each call reads the whole
- * report: dosolve_worst and dosolve_games ask many things of one reading. */
+ * dosolve_worst: a plan comes to more than 1048576 states), DOSOLVE_NO_MEMORY and DOSOLVE_REPORT. dosolve_root writes with
+ * DOSOLVE_DONE, DOSOLVE_SETTLED, DOSOLVE_SPENT and DOSOLVE_FULL, the other calls with DOSOLVE_DONE alone; else nothing is
+ * written. Why a position is refused dosolve_bounds tells, why a report dosolve_check. The room of an array is told in items;
+ * it is filled as far as there is room, and what stands behind stays as it was. A plan need not be lawful: dosolve_check tells
+ * whether it is. Each call reads the whole report: dosolve_worst and dosolve_games ask many things of one reading. */
 
 struct dosolve_root_bounds {
     int64_t lower, upper;
-    int64_t resolution; /* a gap that the search is certain to reach where turns and rows suffice */
+    int64_t resolution; /* where turns and rows suffice, the gap is certain to be at most this, or what was asked */
 };
 
-/* The bounds of the position of the input, as dosolve_solve finds them, without the plans. */
+/* The bounds of the position of the input, by the search of dosolve_solve, without the plans. */
 uint32_t dosolve_root(const uint8_t *input, size_t count, struct dosolve_root_bounds *root);
 
 struct dosolve_plan_row {
@@ -90,7 +93,9 @@ struct dosolve_plan_row {
 };
 
 /* The row of a side's plan of the report of the input at a key: weights of the moves, and the bound. Without a row `moves` and
- * `bound` are 0: such a plan makes its first move. The whole report is read: to look up many rows, use dosolve_plan. */
+ * `bound` are 0: such a plan makes its first move. So it does, for dosolve_exploit, dosolve_worst and the games, where the
+ * weights do not sum to the report's weight, or are not one for each move. The whole report is read: to look up many rows, use
+ * dosolve_plan. */
 uint32_t dosolve_row(uint32_t side, uint64_t key, const uint8_t *input, size_t count, uint32_t *weights, size_t room,
                      struct dosolve_plan_row *row);
 
@@ -105,7 +110,8 @@ uint32_t dosolve_plan(uint32_t side, const uint8_t *input, size_t count, struct 
                       uint32_t *weights, size_t weight_room, struct dosolve_plan_size *size);
 
 /* What One gets where the best replies are made to a plan. Where `exact` is 1 it is the sum, sum_high * 2^64 + sum_low,
- * divided by base^power; where it is 0, it lies from `low` to `high`. What is not told is 0. */
+ * divided by base^power, in payoffs; where it is 0, it lies from `low` to `high`, in millionths of a payoff. What is not told
+ * is 0. */
 struct dosolve_worst_payoff {
     uint64_t replies; /* how many states have a reply */
     uint32_t exact, power;
@@ -132,7 +138,8 @@ struct dosolve_match_payoffs {
 };
 
 /* Plays 1 to 100000 games of each seed between the two plans of the report of the input: a result for each seed that there is
- * room for, in the order of the seeds. Its numbers are those that dosolve_play prints behind the turns of the first game. */
+ * room for, in the order of the seeds, so as many as the lesser of `seed_count` and `result_room`. Its numbers are those that
+ * dosolve_play prints behind the turns of the first game. */
 uint32_t dosolve_games(uint32_t games, const uint64_t *seeds, size_t seed_count, const uint8_t *input, size_t count,
                        struct dosolve_match_payoffs *results, size_t result_room);
 
@@ -164,7 +171,7 @@ static inline struct dosolve_answer dosolve_ask(dosolve_call *call, const void *
     struct dosolve_answer answer = {DOSOLVE_NO_MEMORY, 0, NULL};
     for (;;) {
         uint64_t size = 0;
-        char *text = (char *)calloc(room + 1, 1);
+        char *text = room < SIZE_MAX ? (char *)calloc(room + 1, 1) : NULL;
         if (text == NULL) return answer;
         uint32_t status = call((const uint8_t *)input, count, (uint8_t *)text, room, &size);
         if (status != DOSOLVE_NO_MEMORY && size <= room) {

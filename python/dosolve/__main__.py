@@ -20,7 +20,7 @@ from .program import Solver, find_program, require_match
 from .progress import read_progress
 from .reports import Report, scale_notes
 from .sweeps import Swept, read_positions, sweep
-from .table import Table, names_file, read_matrix
+from .table import Table, names_file, read_matrix, require_names
 from .tournaments import tournament
 from .values import as_points
 
@@ -141,6 +141,8 @@ def _asked(words: argparse.Namespace) -> dict[str, Any]:
 def _solve(words: argparse.Namespace) -> None:
     position = _position(words, words.position)
     _require_output(words.output, words.position)
+    if words.output:
+        require_names(position.game, words.output)
     report = _solver(words).solve(position, words.seconds, progress=sys.stderr.isatty())
     try:
         if words.output:
@@ -215,6 +217,7 @@ def _measure(words: argparse.Namespace) -> None:
     for file in kept.values():
         file.parent.mkdir(parents=True, exist_ok=True)
         _require_output(file, words.position, words.player)
+        require_names(position.game, file)
     # First the player, so that its faults are found before a long search.
     plans = {side: plan_of(position, player, side, progress=shown) for side in sides}
     solved = solver.solve(position, words.seconds, progress=shown)

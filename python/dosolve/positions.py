@@ -19,7 +19,7 @@ from .limits import (
 )
 from .oshi_zumo import OshiZumo
 from .pursuit import Pursuit
-from .table import Table, save_names, with_names
+from .table import Table, require_names, save_names, with_names
 from .tron import Tron
 from .values import FilePath, as_field, cut, shorten
 
@@ -125,6 +125,7 @@ class Position:
 
     def save(self, path: FilePath) -> None:
         """Writes the position into a file, and the names of a table into one beside it."""
+        require_names(self.game, path)
         Path(path).write_text(self.text())
         save_names(self.game, path)
 

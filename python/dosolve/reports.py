@@ -17,7 +17,7 @@ from .limits import (
 )
 from .plans import Row, Sheet
 from .positions import GAMES, looks_like_path
-from .table import save_names, with_names
+from .table import require_names, save_names, with_names
 from .values import FilePath, as_points, cut, require_range, shorten
 
 OUTCOMES = ("closed", "settled", "spent", "full")
@@ -275,6 +275,7 @@ class Report:
 
     def save(self, path: FilePath) -> None:
         """Writes the report into a file, and the names of a table into one beside it."""
+        require_names(self.game, path)
         Path(path).write_text(self.text())
         save_names(self.game, path)
 

@@ -419,6 +419,24 @@ def save_names(game: Game, path: FilePath) -> None:
         file.write_text(game.names_text(), encoding="utf-8")
 
 
+def require_names(game: Game, path: FilePath) -> None:
+    """Refuses the position or report of a table where a file with something else stands in the
+    place of its names."""
+    file = names_file(path)
+    if isinstance(game, Table) and file.is_file() and not _are_names(file.read_bytes()):
+        raise InvalidError(f"{file} would be written over, and has no names of a table: name "
+                           f"another output")
+
+
+def _are_names(text: bytes) -> bool:
+    """Whether a file has what `Table.names_text` gave, of whichever table, or nothing."""
+    try:
+        found = json.loads(text or b"{}")
+    except ValueError:
+        return False
+    return isinstance(found, dict) and found.keys() <= {"table", "scale", "states", "moves"}
+
+
 def with_names(game: Game, path: FilePath) -> Game:
     """The table with the names that stand beside its position or report."""
     file = names_file(path)

@@ -271,6 +271,12 @@ class Messages(unittest.TestCase):
         self.fails("names", "new.names ends as the file of names beside it would", "table", matrix,
                    "-o", self.folder / "new.names")
         self.assertEqual({file.name: file.read_text() for file in self.folder.iterdir()}, before)
+        before["of.names"] = "names of my own\n"
+        (self.folder / "of.names").write_text(before["of.names"])
+        for words in (("solve", matrix, "-o", self.folder / "of.report"),
+                      ("table", matrix, "-o", self.folder / "of.json")):
+            self.fails(words, "of.names would be written over, and has no names of a table", *words)
+        self.assertEqual({file.name: file.read_text() for file in self.folder.iterdir()}, before)
 
     def test_reports(self):
         file, good = self.folder / "x.report", (TOP / REPORT).read_text()

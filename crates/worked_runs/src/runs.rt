@@ -1,3 +1,4 @@
+use crate::calls::{calls_for, moved};
 use commands::run::run;
 use oracle_search::OpenGate;
 use position::{MemorySink, MemorySource};
@@ -53,20 +54,27 @@ fn compare<'a, R: Threads + Abort + Sync>(
     Ok(())
 }
 
-// The plain run reads the input in one call and its end in another, and writes in so many calls.
+// The plain run reads the input in one call and its end in another, and writes its text in as many as that needs.
 fn fail_each_call<'a, R: Threads + Abort + Sync>(
     rt: &R,
     alloc: Global,
     case: Case<'a>,
-    writes: u32,
 ) -> Result<(), Fail> {
     for call in 0..2 {
         compare(rt, alloc, case, (&[call], &[]), (6, &[]))?;
     }
     let text = case.text.as_bytes();
+    let Ok(writes) = u32::try_from(calls_for(text, CHUNK)) else {
+        panic!(rt; "a text takes few calls");
+    };
     for call in 0..writes {
-        let front = &text[..text.len().min(CHUNK as usize * call as usize)];
-        compare(rt, alloc, case, (&[], &[call]), (7, front))?;
+        compare(
+            rt,
+            alloc,
+            case,
+            (&[], &[call]),
+            (7, moved(text, CHUNK, call)),
+        )?;
     }
     compare(rt, alloc, case, (&[2], &[writes]), (case.status, text))
 }
@@ -79,7 +87,7 @@ fn solve_over_failing_devices(rt: HostRuntime) -> Result<(), Fail> {
         status: 0,
         text: REPORT,
     };
-    fail_each_call(&rt, rt.alloc(), case, 10)
+    fail_each_call(&rt, rt.alloc(), case)
 }
 
 #[test]
@@ -90,7 +98,7 @@ fn check_over_failing_devices(rt: HostRuntime) -> Result<(), Fail> {
         status: 0,
         text: VERDICT,
     };
-    fail_each_call(&rt, rt.alloc(), case, 1)
+    fail_each_call(&rt, rt.alloc(), case)
 }
 
 #[test]
@@ -101,7 +109,7 @@ fn exploit_over_failing_devices(rt: HostRuntime) -> Result<(), Fail> {
         status: 0,
         text: WORST,
     };
-    fail_each_call(&rt, rt.alloc(), case, 1)
+    fail_each_call(&rt, rt.alloc(), case)
 }
 
 #[test]
@@ -112,7 +120,7 @@ fn play_over_failing_devices(rt: HostRuntime) -> Result<(), Fail> {
         status: 0,
         text: GAMES,
     };
-    fail_each_call(&rt, rt.alloc(), case, 2)
+    fail_each_call(&rt, rt.alloc(), case)
 }
 
 #[test]
@@ -134,7 +142,7 @@ fn an_end_in_the_middle_of_a_number(rt: HostRuntime) -> Result<(), Fail> {
             status,
             text,
         };
-        fail_each_call(&rt, rt.alloc(), case, 1)?;
+        fail_each_call(&rt, rt.alloc(), case)?;
     }
     Ok(())
 }

@@ -116,7 +116,7 @@ fn left_gap<G: Game>(g: G, s: G::State, total: u32) -> i64
 }
 
 /// The gap, in millionths of a payoff, at which a state is left to another worker with linear stages: what these leave,
-/// a few millionths and a sixteenth of the range over the weight with each rank, which is less than with regret matching.
+/// a few millionths and a sixteenth of the range over the weight with each rank, never more than with regret matching.
 pub(crate) fn linear_left_gap<G: Game>(g: G, s: G::State, total: u32) -> i64
     requires reachable { Reachable (G.model g) s }
     requires low { 8192 ≤ total }

@@ -1,78 +1,17 @@
 #!/usr/bin/env python3
 """backward_induction.py POSITION: the value of a game by backward induction, each state's matrix by a linear program.
 
-POSITION is a file with a position of Goofspiel, Oshi-Zumo or Tron, as `solve` is given it. Prints the value in millionths of
-a payoff (floating point), the matrices solved, and the seconds taken. Needs scipy; without it there is a message, and the
-status is 0. A game that is large takes very long: every reachable state is solved.
+POSITION is a file with a position of any game, as `solve` is given it; the rules are those of tests/random/true_value.py. Prints
+the value in millionths of a payoff (floating point), the matrices solved, and the seconds taken. Needs scipy; without it there
+is a message, and the status is 0. A game that is large takes very long: every reachable state is solved.
 """
 import json
 import sys
 import time
+from pathlib import Path
 
-
-def goofspiel(p):
-    prizes = p["prizes"]
-
-    def moves(state):
-        return state[0], state[1]
-
-    def after(state, a, b):
-        one, two, score = state
-        prize = prizes[len(prizes) - len(one)]
-        gain = prize if a > b else -prize if a < b else 0
-        return tuple(c for c in one if c != a), tuple(c for c in two if c != b), score + gain
-
-    def payoff(state):
-        if state[0]:
-            return None
-        return state[2] if p["pay"] == "margin" else (state[2] > 0) - (state[2] < 0)
-
-    return (tuple(sorted(p["one"])), tuple(sorted(p["two"])), p["score"]), moves, after, payoff
-
-
-def oshi_zumo(p):
-    size, least = p["size"], p["least"]
-
-    def bids(coins):
-        return range(least, coins + 1) if coins >= least else [0]
-
-    def moves(state):
-        return bids(state[1]), bids(state[2])
-
-    def after(state, a, b):
-        return state[0] + (a > b) - (a < b), state[1] - a, state[2] - b
-
-    def payoff(state):
-        place, one, two = state
-        over = abs(place) > size or (one < least and two < least)
-        return (place > 0) - (place < 0) if over else None
-
-    return (p["place"], p["one"], p["two"]), moves, after, payoff
-
-
-def tron(p):
-    height, width = p["height"], p["width"]
-
-    def free(taken, cell):
-        row, column = divmod(cell, width)
-        steps = ((row - 1, column), (row, column + 1), (row + 1, column), (row, column - 1))
-        cells = [r * width + c for r, c in steps if 0 <= r < height and 0 <= c < width]
-        return [c for c in cells if c not in taken]
-
-    def moves(state):
-        return free(state[0], state[1]), free(state[0], state[2])
-
-    def after(state, a, b):
-        return state[0] | {a, b}, a, b
-
-    def payoff(state):
-        taken, one, two = state
-        shut = not free(taken, one), not free(taken, two)
-        if one == two or all(shut):
-            return 0
-        return -1 if shut[0] else 1 if shut[1] else None
-
-    return (frozenset(p["walls"] + [p["one"], p["two"]]), p["one"], p["two"]), moves, after, payoff
+sys.path.insert(0, str(Path(__file__).resolve().parents[1] / "tests" / "random"))
+from true_value import RULES, mean  # noqa: E402
 
 
 def matrix_value(linprog, matrix):
@@ -87,7 +26,7 @@ def matrix_value(linprog, matrix):
     return -answer.fun
 
 
-def value(linprog, root, moves, after, payoff):
+def value(linprog, root, payoff, moves, after):
     """The root's value, and how many states have a matrix; the states are solved children first."""
     values, solved, stack = {}, 0, [root]
     while stack:
@@ -100,12 +39,12 @@ def value(linprog, root, moves, after, payoff):
             values[stack.pop()] = float(end)
             continue
         one, two = moves(state)
-        children = [[after(state, a, b) for b in two] for a in one]
-        missing = [child for row in children for child in row if child not in values]
+        cells = [[after(state, a, b) for b in two] for a in one]
+        missing = [child for row in cells for cell in row for child, _ in cell if child not in values]
         if missing:
             stack += missing
         else:
-            values[stack.pop()] = matrix_value(linprog, [[values[child] for child in row] for row in children])
+            values[stack.pop()] = matrix_value(linprog, [[mean(values, cell) for cell in row] for row in cells])
             solved += 1
     return values[root], solved
 
@@ -120,9 +59,8 @@ def main():
         return
     with open(sys.argv[1], "rb") as file:
         position = json.load(file)
-    game = {"goofspiel": goofspiel, "oshi_zumo": oshi_zumo, "tron": tron}[position["game"]](position)
     started = time.perf_counter()
-    found, solved = value(linprog, *game)
+    found, solved = value(linprog, *RULES[position["game"]](position))
     print(f"value {found * 1e6:.1f} matrices {solved} seconds {time.perf_counter() - started:.2f}")
 
 

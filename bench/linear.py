@@ -9,62 +9,32 @@ The positions are those that ask for gap 0 at weight 8192 with one worker and tu
 - a gap asked of a quarter and of a sixteenth of the range of payoffs, and half of the turns that gap 0 takes
 - two and four workers
 
-Each report is checked by PROGRAM. --only takes the files whose names hold WORD.
+Each report is checked by PROGRAM. --only takes the files whose names contain WORD.
 """
 import argparse
 import json
-import os
 import re
-import subprocess
-import tempfile
-import time
-from pathlib import Path
 
-HERE = Path(__file__).resolve().parent
+from timing import HERE, Table, least, megabytes, several
+
 MOST = 1 << 40
 
 
 def run(program, command, text, runs=1):
-    """The least wall seconds, the most megabytes, and the first answer."""
-    results = []
-    for _ in range(runs):
-        with tempfile.TemporaryFile() as source, tempfile.TemporaryFile() as sink:
-            source.write(text)
-            source.seek(0)
-            started = time.perf_counter()
-            child = subprocess.Popen([program, command], stdin=source, stdout=sink)
-            _, _, used = os.wait4(child.pid, 0)
-            wall = time.perf_counter() - started
-            sink.seek(0)
-            results.append((wall, used.ru_maxrss // 1024, sink.read()))
-    return min(wall for wall, _, _ in results), max(memory for _, memory, _ in results), results[0][2]
+    """The least wall seconds, the most memory, and the first answer."""
+    return least(several(program, [command], text, runs))
 
 
 def solve(program, position, runs, **changes):
-    """Wall seconds, megabytes, turns of each worker and gap of a solve, whose report is checked."""
-    asked = {**position, "weight": 1 << 20, "stages": "linear", **changes}
-    wall, memory, report = run(program, "solve", json.dumps(asked).encode(), runs)
-    verdict = run(program, "check", report)[2]
+    """The run of a solve, whose report is checked, the turns of each worker, and the gap."""
+    text = json.dumps({**position, "weight": 1 << 20, "stages": "linear", **changes}).encode()
+    made = run(program, "solve", text, runs)
+    verdict = run(program, "check", made.answer).answer
     if not verdict.startswith(b"accepted"):
         raise SystemExit(f"refused: {verdict!r}")
-    lower, upper = (int(re.search(rb"^" + word + rb" (-?\d+)$", report, re.M).group(1)) for word in (b"lower", b"upper"))
-    turns = [int(turns) for turns in re.search(rb"^spent (.*)$", report, re.M).group(1).split()]
-    return wall, memory, turns, upper - lower
-
-
-class Table:
-    """A Markdown table, whose head is printed with its first row."""
-
-    def __init__(self, *heads):
-        self.heads = heads
-        self.is_empty = True
-
-    def row(self, *cells):
-        if self.is_empty:
-            print("\n| " + " | ".join(self.heads) + " |\n|" + "---|" * len(self.heads))
-            self.is_empty = False
-        cells += ("",) * (len(self.heads) - len(cells))
-        print("| " + " | ".join(str(cell) for cell in cells) + " |", flush=True)
+    lower, upper = (int(re.search(rb"^" + word + rb" (-?\d+)$", made.answer, re.M).group(1)) for word in (b"lower", b"upper"))
+    turns = [int(turns) for turns in re.search(rb"^spent (.*)$", made.answer, re.M).group(1).split()]
+    return made.wall, megabytes(program, ["solve"], text, made.megabytes), turns, upper - lower
 
 
 def main():
@@ -88,7 +58,7 @@ def main():
         cells = []
         if asked.other:
             plain = json.dumps(position).encode()
-            other, value = run(asked.other, "solve", plain)[0], run(asked.other, "value", plain, asked.runs)[0]
+            other, value = run(asked.other, "solve", plain).wall, run(asked.other, "value", plain, asked.runs).wall
             cells = [f"{other:.2f}", f"{wall / other:.3f}", f"{value:.3f}", f"{wall / value:.1f}"]
         table.row(name, f"{wall:.3f}", memory, turns[0], gap, *cells)
 

@@ -11,14 +11,13 @@ import argparse
 import json
 import os
 import random
-import statistics
 import subprocess
 import sys
-import tempfile
-import time
 from pathlib import Path
 
-sys.path.insert(0, str(Path(__file__).resolve().parent.parent / "tests"))
+from timing import Table, median, several
+
+sys.path.insert(0, str(Path(__file__).resolve().parent.parent / "tests" / "random"))
 sys.dont_write_bytecode = True
 from tables import CHANCE  # noqa: E402
 from tables_of_games import table  # noqa: E402
@@ -72,21 +71,6 @@ def full(moves, drawn, ask):
     return text(low)
 
 
-def timed(program, words, text, runs):
-    """The status, the answer and the median of the seconds."""
-    seconds = []
-    for _ in range(runs):
-        with tempfile.TemporaryFile() as source, tempfile.TemporaryFile() as sink:
-            source.write(text)
-            source.seek(0)
-            started = time.perf_counter()
-            status = subprocess.run([program, *words], stdin=source, stdout=sink).returncode
-            seconds.append(time.perf_counter() - started)
-            sink.seek(0)
-            answer = sink.read()
-    return status, answer, statistics.median(seconds)
-
-
 def solved(program, position):
     text = subprocess.run([program, "solve"], input=json.dumps(position).encode(), capture_output=True).stdout
     checked = subprocess.run([program, "check"], input=text, capture_output=True).stdout.decode()
@@ -110,33 +94,34 @@ def steps(position, report, ask):
 def beside(program, runs, ask):
     """Each step of the game and of its table, and whether all keep the limit, reading left out."""
     games = [goofspiel(), dict(game="table", states=table(goofspiel())[0])]
-    print(f"The table has {len(games[1]['states'])} states and {len(json.dumps(games[1], separators=(',', ':')))} bytes.\n")
-    print("| step | goofspiel s | table s | times as long | reading left out |\n|---|---|---|---|---|")
+    print(f"The table has {len(games[1]['states'])} states and {len(json.dumps(games[1], separators=(',', ':')))} bytes.")
+    shown = Table("step", "goofspiel s", "table s", "times as long", "reading left out")
     kept = True
     for groups in zip(*(steps(game, solved(program, dict(game, **ask)), ask) for game in games)):
         read = None
         for (name, words, text), (_, _, other) in zip(*groups):
-            took = [timed(program, words, each, runs)[2] for each in (text, other)]
+            took = [median(several(program, words, each, runs)).wall for each in (text, other)]
             read = read or took
             net = [max(0.001, each - reading) for each, reading in zip(took, read)]
             left = "" if read is took else f"{net[1] / net[0]:.2f}"
             kept = kept and (read is took or net[1] <= MOST_TIMES * net[0] + NOISE)
-            print(f"| {name} | {took[0]:.3f} | {took[1]:.3f} | {took[1] / took[0]:.2f} | {left} |", flush=True)
+            shown.row(name, f"{took[0]:.3f}", f"{took[1]:.3f}", f"{took[1] / took[0]:.2f}", left)
     return kept
 
 
 def filled(program, runs, ask):
     """Full positions, and whether all keep the limit."""
-    print("\n| table | bytes | states | solve s | check s | together s | status | verdict |\n|---|---|---|---|---|---|---|---|")
+    shown = Table("table", "bytes", "states", "solve s", "check s", "together s", "status", "verdict")
     kept = True
     for moves, drawn in ((2, False), (3, False), (2, True)):
         text = full(moves, drawn, ask)
-        status, report, solve = timed(program, ["solve"], text.encode(), runs)
-        _, verdict, check = timed(program, ["check"], report, runs)
-        kept = kept and verdict.startswith(b"accepted") and solve + check <= MOST_SECONDS
+        solve = median(several(program, ["solve"], text.encode(), runs))
+        check = median(several(program, ["check"], solve.answer, runs))
+        seconds = solve.wall + check.wall
+        kept = kept and check.answer.startswith(b"accepted") and seconds <= MOST_SECONDS
         name = f"{moves} moves a side" + (", two draws a cell" if drawn else "")
-        print(f"| {name} | {len(text)} | {len(json.loads(text)['states'])} | {solve:.2f} | {check:.2f} | {solve + check:.2f} | {status} "
-              f"| {verdict.decode().strip()} |", flush=True)
+        shown.row(name, len(text), len(json.loads(text)["states"]), f"{solve.wall:.2f}", f"{check.wall:.2f}", f"{seconds:.2f}",
+                  solve.status, check.answer.decode().strip())
     return kept
 
 

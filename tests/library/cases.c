@@ -1,5 +1,5 @@
-/* library.c: compares the library with the cases of tests/vectors in one process, one thread and then several at once.
- *     library FOLDER THREADS < NAMES
+/* cases.c: compares the library with the cases of tests/vectors in one process, one thread and then several at once.
+ *     cases FOLDER THREADS < NAMES
  * The names are those of cases, COMMAND/NAME, one a line. A case whose words no call can say is left out, and counted. Each
  * answer is asked for with room to spare, and those of few bytes again with less room than they need: the same status and
  * length, the front of the text, and no byte written behind it. The last line is `N passed, M failed, K left out`.
@@ -156,7 +156,7 @@ static void read_case(const char *folder, const char *name) {
 }
 
 int main(int given, char **word) {
-    if (given != 3 || (threads = atoi(word[2])) < 1 || threads > MOST_THREADS) stop("usage", "library FOLDER THREADS < NAMES");
+    if (given != 3 || (threads = atoi(word[2])) < 1 || threads > MOST_THREADS) stop("usage", "cases FOLDER THREADS < NAMES");
     char line[256];
     while (fgets(line, sizeof line, stdin) != NULL) {
         line[strcspn(line, "\n")] = 0;

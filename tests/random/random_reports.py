@@ -13,7 +13,7 @@ import re
 import subprocess
 import sys
 
-from formats import Formats
+from pages import Formats
 from random_positions import named, position
 
 

@@ -10,7 +10,7 @@ import re
 import sys
 from pathlib import Path
 
-TOP = Path(__file__).resolve().parent.parent
+TOP = Path(__file__).resolve().parents[2]
 NUMBER = "(?:0|[1-9][0-9]*)"
 WHOLE = "(?:0|-?[1-9][0-9]*)"
 SPELLINGS = {

@@ -17,7 +17,7 @@ import subprocess
 import sys
 
 import tables
-from formats import Formats
+from pages import Formats
 
 SPOILT = [-1, 0, 1, 7, 255, 256, -129, 128, 1.5, -0.0, "x", "win", [], [1, 1], [300], [1, "a"], [1] * 256, None, True, {},
           2**63, 2**64, 8000000001, 1048577, 8191, 17, 1099511627777, -1000001]

@@ -19,7 +19,7 @@ import time
 from pathlib import Path
 
 import tables
-from formats import TOP, Formats
+from pages import TOP, Formats
 from random_positions import GAMES
 
 LIMIT = 20

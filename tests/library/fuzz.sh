@@ -1,12 +1,12 @@
 #!/usr/bin/env bash
-# fuzz_library.sh FOLDER PROGRAM [COUNT [SEED [JOBS]]]: builds tests/fuzz_library.c over the archive in the folder, with the
+# fuzz.sh FOLDER PROGRAM [COUNT [SEED [JOBS]]]: builds fuzz.c over the archive in the folder, with the
 # address sanitizer where the compiler has it, gives it COUNT inputs (100000) in JOBS processes at once (1), and compares each
 # hundredth answer, of more than a million inputs 10000 of them, with the program's and with docs/FORMATS.md. A report of several
 # workers is not compared with the program's, where it depends on the schedule. COUNT 0 prints what the inputs of the cases cost
 # and how often each is taken. Inputs at fault are kept in /tmp. The last line is `N passed, M failed, K left out`.
 set -u
 if [ $# -lt 2 ]; then
-    echo "usage: fuzz_library.sh FOLDER PROGRAM [COUNT [SEED [JOBS]]]" >&2
+    echo "usage: fuzz.sh FOLDER PROGRAM [COUNT [SEED [JOBS]]]" >&2
     exit 2
 fi
 folder=$(realpath "$1") || exit 2
@@ -15,11 +15,12 @@ count=${3:-100000}
 seed=${4:-1}
 jobs=${5:-1}
 every=$((count / 10000 > 100 ? count / 10000 : 100))
-top=$(dirname "$(dirname "$(realpath "$0")")")
+here=$(dirname "$(realpath "$0")")
+top=$(dirname "$(dirname "$here")")
 work=$(mktemp -d) || exit 2
 trap 'rm -rf "$work"' EXIT
 build() {
-    "${CC:-cc}" -std=c11 -O1 -I"$top/include" "$@" -o "$work/fuzz" "$top/tests/fuzz_library.c" "$folder/libdosolve.a"
+    "${CC:-cc}" -std=c11 -O1 -I"$top/include" "$@" -o "$work/fuzz" "$here/fuzz.c" "$folder/libdosolve.a"
 }
 if build -fsanitize=address 2> /dev/null; then
     echo "with the address sanitizer"
@@ -37,7 +38,7 @@ fi
 keep() { # files of a case
     local file
     for file in "$@"; do
-        cp "$file" "/tmp/fuzz_library_$seed.$(basename "$file")"
+        cp "$file" "/tmp/dosolve_fuzz_$seed.$(basename "$file")"
     done
 }
 if ! ./fuzz "$top/tests/vectors" "$count" "$seed" "$jobs" samples "$every" < names; then
@@ -48,7 +49,7 @@ fi
 passed=0
 failed=0
 left=0
-python3 "$top/tests/formats.py" samples > told || failed=1
+python3 "$top/tests/style/formats.py" samples > told || failed=1
 grep -v '^texts that no case has' told
 for args in samples/*/*.args; do
     case=${args%.args}
@@ -63,7 +64,7 @@ for args in samples/*/*.args; do
         passed=$((passed + 1))
     else
         failed=$((failed + 1))
-        echo "FAILED: ${words[*]} of an input that is kept as /tmp/fuzz_library_$seed.${case##*/}.in"
+        echo "FAILED: ${words[*]} of an input that is kept as /tmp/dosolve_fuzz_$seed.${case##*/}.in"
         keep "$case".*
     fi
 done

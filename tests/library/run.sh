@@ -1,15 +1,16 @@
 #!/usr/bin/env bash
-# library.sh FOLDER: compares the library in the folder, where tools/build_library.sh made libdosolve.a and libdosolve.so,
+# run.sh FOLDER: compares the library in the folder, where tools/build_library.sh made libdosolve.a and libdosolve.so,
 # with the cases of tests/vectors, in one process, from one thread and from eight at once; then builds the programs of
 # examples/c, with the archive or the shared library, and runs them. Needs a C and a C++ compiler, and tries the caller in
 # Rust where there is a rustc. The last line is `N passed, M failed`.
 set -u
 if [ $# -ne 1 ]; then
-    echo "usage: library.sh FOLDER" >&2
+    echo "usage: run.sh FOLDER" >&2
     exit 2
 fi
 folder=$(realpath "$1") || exit 2
-top=$(dirname "$(dirname "$(realpath "$0")")")
+here=$(dirname "$(realpath "$0")")
+top=$(dirname "$(dirname "$here")")
 work=$(mktemp -d) || exit 2
 trap 'rm -rf "$work"' EXIT
 warnings="-Wall -Wextra -Werror"
@@ -33,12 +34,12 @@ try() { # name, words that have to succeed
 # The cases.
 names=$(cd "$top/tests/vectors" && printf '%s\n' */*.args | sed 's/\.args$//')
 # shellcheck disable=SC2086
-try "vectors, build" "${CC:-cc}" -std=c11 -O1 $warnings -I"$top/include" -o "$work/library" "$top/tests/library.c" "$folder/libdosolve.a" -lpthread
-try "vectors" sh -c "printf '%s\n' '$names' | '$work/library' '$top/tests/vectors' 8"
+try "vectors, build" "${CC:-cc}" -std=c11 -O1 $warnings -I"$top/include" -o "$work/cases" "$here/cases.c" "$folder/libdosolve.a" -lpthread
+try "vectors" sh -c "printf '%s\n' '$names' | '$work/cases' '$top/tests/vectors' 8"
 
 # The calls that answer in numbers, against the same cases and the reports of the examples.
 # shellcheck disable=SC2086
-try "numbers, build" "${CC:-cc}" -std=c11 -O1 $warnings -I"$top/include" -o "$work/numbers" "$top/tests/library_numbers.c" "$folder/libdosolve.a"
+try "numbers, build" "${CC:-cc}" -std=c11 -O1 $warnings -I"$top/include" -o "$work/numbers" "$here/numbers.c" "$folder/libdosolve.a"
 names=$(cd "$top/tests/vectors" && printf '%s\n' solve/*.args exploit/*.args play/*.args | sed 's/\.args$//')
 try "numbers" sh -c "printf '%s\n' '$names' | '$work/numbers' '$top/tests/vectors' '$top'/examples/*.report"
 

@@ -1,20 +1,44 @@
 #!/usr/bin/env python3
-"""The rules of the house that a script can tell: no clause wider than 120 columns, no line of a proof wider than 200, no
-function of more than seven parameters or a body of more than 40 lines, no name of specs/ defined in two crates, at most
-ten wrong bodies a crate.
+"""The rules of the house that a script can check: no clause wider than 120 columns, no line of a proof wider than 200, no
+function of more than seven parameters, more than ten clauses or a body of more than 40 lines, no name of specs/ and no type
+of src/ defined in two crates, at most ten wrong bodies a crate.
 
-    tests/house.py            prints what breaks a rule, and ends with 1 where something does
+    tests/style/house.py      prints what breaks a rule, and ends with 1 if something does
+
+What broke a rule when it was made is listed below (FLAT, LONG, DOUBLE). These lists only shrink: an entry that the code no
+longer needs is a fault too, and is taken out.
 """
 import re
 import sys
 from collections import defaultdict
+from dataclasses import dataclass
 from pathlib import Path
 
-CRATES = Path(__file__).resolve().parent.parent / "crates"
-MOST_COLUMNS, MOST_PROOF_COLUMNS, MOST_PARAMETERS, MOST_LINES, MOST_EDITS = 120, 200, 7, 40, 10
+CRATES = Path(__file__).resolve().parents[2] / "crates"
+MOST_COLUMNS, MOST_PROOF_COLUMNS, MOST_PARAMETERS, MOST_CLAUSES, MOST_LINES, MOST_EDITS = 120, 200, 7, 10, 40, 10
 
 # Flat matches with one arm a game or field.
-FLAT = {"build", "add_position", "name", "try_clone", "values", "with_values"}
+FLAT = {"build", "try_clone", "values", "with_values"}
+# Contracts of more than ten clauses, with how many they have.
+LONG = {
+    "lazy_workers join_all": 12,
+    "matrix_game lane_reply": 11,
+    "matrix_game play": 12,
+    "matrix_game reply": 11,
+    "oracle_search search": 11,
+    "oracle_search take_turn": 14,
+    "position write": 13,
+    "restricted_game claim": 11,
+    "restricted_game post_both": 12,
+    "restricted_game post_plan": 11,
+    "restricted_game read_child": 11,
+    "restricted_game step": 21,
+    "restricted_game step_over": 20,
+    "serial_ab post_move": 11,
+    "shared_board claim_row": 12,
+}
+# Names of types that mean something else in another crate.
+DOUBLE = {"Cell", "Cells", "Line", "Reply", "Stop", "Table", "Task"}
 # Crates of tests alone, which have whole reports as literals.
 TESTS = {"worked_rows", "worked_runs"}
 # Names that mean one thing in each of several crates: every game has its own setting, rules and refusals, and a reader
@@ -24,10 +48,15 @@ SHARED = {
     "Gives", "Fails", "◌>>=◌",
 }
 
+# Types that each game has.
+OF_GAMES = {"State", "Setting"}
+
 WORDS = r"(?:(?:abbrev|unfoldable|ruleset) )*"
 DEFINED = re.compile(WORDS + r"pub " + WORDS + r"(?:(?:record|data) )?([^\s:{}().,]+)")
 OPENED = re.compile(WORDS + r"(?:pub )?(module|record|data) ")
 FUNCTION = re.compile(r"( *)(?:pub(?:\([a-z]+\))? )?(?:const )?fn (\w+)")
+CLAUSE = re.compile(r" *(?:requires|ensures)\b")
+TYPE = re.compile(r"(?: *(?:pub(?:\([a-z]+\))? )?(?:struct|enum|trait|union) |(?:pub )?type )(\w+)")
 
 
 def definitions(text):
@@ -69,26 +98,36 @@ def parameters(signature):
     return 0
 
 
+@dataclass
+class Function:
+    line: int
+    name: str
+    parameters: int
+    clauses: int
+    length: int  # lines of the body
+
+
 def functions(text):
-    """Each function of a source: its line, its name, its parameters, and how many lines its body has."""
+    """Each function of a source."""
     lines = text.splitlines()
     for number, line in enumerate(lines):
         head = FUNCTION.match(line)
         if not head:
             continue
         indent, name = head.groups()
-        signature, length, start = "", 0, None
+        signature, clauses, length, start = "", 0, 0, None
         for at in range(number, len(lines)):
             if at > number and FUNCTION.match(lines[at]):
                 break
             if start is None:
                 signature += lines[at].split("//")[0] + " "
+                clauses += CLAUSE.match(lines[at]) is not None
             if start is None and (lines[at] == indent + "{" or (at == number and line.endswith(" {"))):
                 start = at
             elif start is not None and lines[at] == indent + "}":
                 length = at - start - 1
                 break
-        yield number + 1, name, parameters(signature), length
+        yield Function(number + 1, name, parameters(signature), clauses, length)
 
 
 def wide(path, most, skipped):
@@ -98,18 +137,41 @@ def wide(path, most, skipped):
             yield f"{path.relative_to(CRATES)}:{number}: {len(line)} columns"
 
 
-def faults():
-    where = defaultdict(set)
+def faults_of_sources():
+    flat, long, where = set(), set(), defaultdict(set)
     for path in sorted(CRATES.glob("*/src/**/*.rt")):
         place = path.relative_to(CRATES)
-        if place.parts[0] in TESTS:
+        crate = place.parts[0]
+        if crate in TESTS:
             continue
         yield from wide(path, MOST_COLUMNS, ("ghost use", "//"))
-        for number, name, count, length in functions(path.read_text()):
-            if count > MOST_PARAMETERS:
-                yield f"{place}:{number}: {name} has {count} parameters"
-            if length > MOST_LINES and name not in FLAT:
-                yield f"{place}:{number}: the body of {name} has {length} lines"
+        text = path.read_text()
+        for line in text.splitlines():
+            found = TYPE.match(line)
+            if found:
+                where[found.group(1)].add(crate)
+        for f in functions(text):
+            if f.parameters > MOST_PARAMETERS:
+                yield f"{place}:{f.line}: {f.name} has {f.parameters} parameters"
+            if f.length > MOST_LINES:
+                flat.add(f.name)
+                if f.name not in FLAT:
+                    yield f"{place}:{f.line}: the body of {f.name} has {f.length} lines"
+            if f.clauses > MOST_CLAUSES:
+                key = f"{crate} {f.name}"
+                long.add(key)
+                if f.clauses > LONG.get(key, MOST_CLAUSES):
+                    yield f"{place}:{f.line}: the contract of {f.name} has {f.clauses} clauses"
+    double = {name for name, crates in where.items() if len(crates) > 1 and name not in OF_GAMES}
+    for name in sorted(double - DOUBLE):
+        yield f"the type {name} is defined in {', '.join(sorted(where[name]))}"
+    for word, listed, needed in (("FLAT", FLAT, flat), ("LONG", set(LONG), long), ("DOUBLE", DOUBLE, double)):
+        for name in sorted(listed - needed):
+            yield f"{word} no longer needs {name}: take it out of tests/style/house.py"
+
+
+def faults_of_proofs():
+    where = defaultdict(set)
     for folder in ("proofs", "specs"):
         for path in sorted(CRATES.glob(f"*/{folder}/**/*.antt")):
             yield from wide(path, MOST_PROOF_COLUMNS, ("use ", "pub use ", "unfoldable pub use "))
@@ -126,7 +188,7 @@ def faults():
 
 
 def main():
-    found = list(faults())
+    found = [*faults_of_sources(), *faults_of_proofs()]
     print("\n".join(found + [f"house: {len(found)} faults"]))
     return 1 if found else 0
 

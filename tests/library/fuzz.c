@@ -1,5 +1,5 @@
-/* fuzz_library.c: gives the library positions and reports that were changed at random.
- *     fuzz_library FOLDER COUNT SEED JOBS [SAMPLES EVERY] < NAMES
+/* fuzz.c: gives the library positions and reports that were changed at random.
+ *     fuzz FOLDER COUNT SEED JOBS [SAMPLES EVERY] < NAMES
  * The names are those of cases of FOLDER (tests/vectors), COMMAND/NAME, one a line. Their inputs, and the reports that `solve`
  * prints for them, are the bases. An input is a base with some changes: digits, words, bytes and pieces; items of lists, values,
  * fields and lines, taken out, doubled, exchanged or taken from other bases; lists at random; the end cut off. A quarter of the
@@ -895,7 +895,7 @@ static int wait_for(const pid_t *children, int many) {
 }
 
 int main(int given, char **word) {
-    if (given != 5 && given != 7) stop("usage", "fuzz_library FOLDER COUNT SEED JOBS [SAMPLES EVERY] < NAMES");
+    if (given != 5 && given != 7) stop("usage", "fuzz FOLDER COUNT SEED JOBS [SAMPLES EVERY] < NAMES");
     unsigned long long count = strtoull(word[2], NULL, 10), seed = strtoull(word[3], NULL, 10);
     unsigned long long every = given == 7 ? strtoull(word[6], NULL, 10) : 0;
     int many = atoi(word[4]);

@@ -1,5 +1,5 @@
-/* library_numbers.c: compares the calls that answer in numbers with texts.
- *     library_numbers FOLDER REPORT.. < NAMES
+/* numbers.c: compares the calls that answer in numbers with texts.
+ *     numbers FOLDER REPORT.. < NAMES
  * The names are those of cases of FOLDER (tests/vectors), solve/NAME, exploit/NAME or play/NAME, one a line. The bounds of a root
  * are those of the report that solve prints; what the best replies leave, to one plan or to both, is what exploit prints; games of
  * several seeds are what play prints of each. Of each report, of a case or a file, both plans as arrays, printed again, are the
@@ -256,7 +256,7 @@ static void try_replies(const char *folder, const char *name) {
 }
 
 int main(int count, char **word) {
-    if (count < 2) stop("usage", "library_numbers FOLDER REPORT.. < NAMES");
+    if (count < 2) stop("usage", "numbers FOLDER REPORT.. < NAMES");
     char line[256];
     while (fgets(line, sizeof line, stdin) != NULL) {
         line[strcspn(line, "\n")] = 0;

@@ -17,8 +17,8 @@ from fractions import Fraction
 from pathlib import Path
 
 import tables
+from pages import PAGE
 
-FORMATS = Path(__file__).resolve().parent.parent / "docs" / "FORMATS.md"
 SCALE = 1_000_000
 
 
@@ -239,7 +239,7 @@ def main():
         sys.exit("usage: true_value.py PROGRAM [COUNT [SEED]] [regret] [GAME ..]")
     program = str(Path(words[0]).resolve())
     count, seed = (int(word) for word in (words[1:] + ["100", "1"][len(words) - 1:]))
-    told = re.findall(r"`(\w+)`", re.search(r"^\| each \| `game` \| text \|([^|]*)\|", FORMATS.read_text(), re.M)[1])
+    told = re.findall(r"`(\w+)`", re.search(r"^\| each \| `game` \| text \|([^|]*)\|", PAGE.read_text(), re.M)[1])
     assert set(told) <= set(RULES), "rules are missing"
     told = named or told
     r, failed, tried, exact, mixed = random.Random(seed), 0, 0, 0, 0

@@ -1,7 +1,7 @@
 #!/usr/bin/env python3
 """The rules of the house that a script can check: no clause wider than 120 columns, no line of a proof wider than 200, no
 function of more than seven parameters, more than ten clauses or a body of more than 40 lines, no name of specs/ and no type
-of src/ defined in two crates, at most ten wrong bodies a crate.
+of src/ defined in two crates, at most ten wrong bodies a crate, each crate on the map and in the README.
 
     tests/style/house.py      prints what breaks a rule, and ends with 1 if something does
 
@@ -14,7 +14,8 @@ from collections import defaultdict
 from dataclasses import dataclass
 from pathlib import Path
 
-CRATES = Path(__file__).resolve().parents[2] / "crates"
+TOP = Path(__file__).resolve().parents[2]
+CRATES = TOP / "crates"
 MOST_COLUMNS, MOST_PROOF_COLUMNS, MOST_PARAMETERS, MOST_CLAUSES, MOST_LINES, MOST_EDITS = 120, 200, 7, 10, 40, 10
 
 # Flat matches with one arm a game or field.
@@ -187,8 +188,17 @@ def faults_of_proofs():
             yield f"{crate.parent.name} has {count} wrong bodies"
 
 
+def faults_of_pages():
+    crates = re.findall(r"^(\w+)[^:#]*:", (TOP / "crates.txt").read_text(), re.MULTILINE)
+    for page in ("docs/ARCHITECTURE.md", "README.md"):
+        text = (TOP / page).read_text()
+        for name in crates:
+            if f"`{name}`" not in text:
+                yield f"{page} does not name the crate {name}"
+
+
 def main():
-    found = [*faults_of_sources(), *faults_of_proofs()]
+    found = [*faults_of_sources(), *faults_of_proofs(), *faults_of_pages()]
     print("\n".join(found + [f"house: {len(found)} faults"]))
     return 1 if found else 0
 

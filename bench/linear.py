@@ -4,7 +4,7 @@
 The positions are those that ask for gap 0 at weight 8192 with one worker and turns; here they ask for linear stages at weight
 1048576. A time is the least wall time of N runs (3). The tables:
 
-- each position for gap 0; where OTHER is given, beside its `solve` of the position as it stands, and beside its `value`,
+- each position for gap 0; where OTHER is given, beside its `solve` of the position as it is, and beside its `value`,
   backward induction with a linear program for each state
 - a gap asked of a quarter and of a sixteenth of the range of payoffs, and half of the turns that gap 0 takes
 - two and four workers

@@ -2,8 +2,8 @@
 """make_report.py PROGRAM POSITION > REPORT: makes a lawful report with a row for each state.
 
 POSITION is a file with a position of Goofspiel, score 0 and the same cards in both hands. Each plan has a row for each state
-that is no end, mixes over all moves, and claims no more than the least (the greatest) payoff of all. The program tells the
-resolution. With eight cards and prizes that all sums tell apart there are 1,095,102 rows.
+that is no end, mixes over all moves, and claims no more than the least (the greatest) payoff of all. The resolution is
+the program's. With eight cards and prizes that all sums tell apart there are 1,095,102 rows.
 """
 import json
 import subprocess
@@ -17,8 +17,8 @@ with open(sys.argv[2], "rb") as file:
     position = json.load(file)
 position.update(gap=0, weight=WEIGHT, turns=0, visits=0, rows=1, workers=1)
 cards, prizes = position["one"], position["prizes"]
-told = subprocess.run([program, "solve"], input=json.dumps(position).encode(), capture_output=True).stdout.decode()
-head = dict(line.split(" ", 1) for line in told.splitlines()[1:6])
+answer = subprocess.run([program, "solve"], input=json.dumps(position).encode(), capture_output=True).stdout.decode()
+head = dict(line.split(" ", 1) for line in answer.splitlines()[1:6])
 
 full = sum(1 << (card - 1) for card in cards)
 level = {(full, full, 0)}

@@ -45,9 +45,9 @@ def megabytes(program: str, words: list[str], text: bytes, at_most: int) -> int:
     """The memory of the program, which is at most so much: by GNU time where that could be the memory of this script."""
     if TIME is None or at_most > resource.getrusage(resource.RUSAGE_SELF).ru_maxrss // 1024 + 1:
         return at_most
-    with tempfile.NamedTemporaryFile("r") as told:
-        subprocess.run([TIME, "-q", "-f", "%M", "-o", told.name, program, *words], input=text, stdout=subprocess.DEVNULL)
-        return int(told.read()) // 1024
+    with tempfile.NamedTemporaryFile("r") as file:
+        subprocess.run([TIME, "-q", "-f", "%M", "-o", file.name, program, *words], input=text, stdout=subprocess.DEVNULL)
+        return int(file.read()) // 1024
 
 
 def several(program: str, words: list[str], text: bytes, runs: int) -> list[Run]:

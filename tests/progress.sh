@@ -1,6 +1,6 @@
 #!/usr/bin/env bash
 # progress.sh PROGRAM: searches Goofspiel with the cards 1 to 8 for some seconds, without and with DOSOLVE_PROGRESS, and
-# looks whether the report is the same and whether standard error has what docs/FORMATS.md tells of it.
+# looks whether the report is the same and whether standard error has what docs/FORMATS.md says of it.
 set -u
 if [ $# -ne 1 ]; then
     echo "usage: progress.sh PROGRAM" >&2
@@ -24,14 +24,14 @@ search() {
     echo "{\"game\":\"goofspiel\",\"one\":$cards,\"two\":$cards,\"prizes\":$cards,\"score\":0,\"pay\":\"margin\",\"gap\":0," \
         "\"weight\":8192,\"turns\":$2,\"visits\":200000,\"rows\":1000000,\"workers\":$1,\"stages\":\"$stages\"}" > "$folder/position"
     from=$(date +%s%3N)
-    "$program" solve < "$folder/position" > "$folder/$3.report" 2> "${4:-$folder/$3.told}"
+    "$program" solve < "$folder/position" > "$folder/$3.report" 2> "${4:-$folder/$3.lines}"
     echo $? > "$folder/$3.status"
     took=$(($(date +%s%3N) - from))
 }
 
-# Whether each of WORKERS told at least LEAST lines, whose seconds rise and whose turns do not fall from line to line, and
+# Whether each of WORKERS printed at least LEAST lines, whose seconds rise and whose turns do not fall from line to line, and
 # whose bounds, once there are any, close and are as far apart as the line says.
-told() {
+are_right() {
     awk -v workers="$1" -v least="$2" -v most=$((took / 1000)) '
         !/^worker [0-9]+ turns [0-9]+ seconds [1-9][0-9]*( lower -?[0-9]+ upper -?[0-9]+ gap [0-9]+)?$/ { bad = 1 }
         NF == 6 && known[$2] { bad = 1 }
@@ -41,7 +41,7 @@ told() {
         }
         $2 >= workers || $4 < turns[$2] || $6 <= seconds[$2] || $6 > most { bad = 1 }
         { turns[$2] = $4; seconds[$2] = $6; lines[$2]++ }
-        END { for (worker = 0; worker < workers; worker++) if (lines[worker] < least || least && !known[worker]) bad = 1; exit bad }' "$folder/$3.told"
+        END { for (worker = 0; worker < workers; worker++) if (lines[worker] < least || least && !known[worker]) bad = 1; exit bad }' "$folder/$3.lines"
 }
 
 same() {
@@ -54,18 +54,18 @@ while [ "$took" -lt 3000 ]; do
     turns=$((2 * turns))
     search 1 "$turns" without
 done
-[ -s "$folder/without.told" ] && fails "standard error without the variable"
+[ -s "$folder/without.lines" ] && fails "standard error without the variable"
 
 DOSOLVE_PROGRESS= search 1 "$turns" with
 same with || fails "another report with the variable"
-told 1 $((took / 2000)) with || fails "what one worker tells in $took ms: $(cat "$folder/with.told")"
+are_right 1 $((took / 2000)) with || fails "what one worker prints in $took ms: $(cat "$folder/with.lines")"
 
 DOSOLVE_PROGRESS=1 search 2 "$turns" two
-told 2 1 two || fails "what two workers tell in $took ms: $(cat "$folder/two.told")"
+are_right 2 1 two || fails "what two workers print in $took ms: $(cat "$folder/two.lines")"
 
 stages=linear
 DOSOLVE_PROGRESS=1 search 1 1099511627776 linear
-told 1 $((took / 2000)) linear || fails "what a search with linear stages tells in $took ms: $(cat "$folder/linear.told")"
+are_right 1 $((took / 2000)) linear || fails "what a search with linear stages prints in $took ms: $(cat "$folder/linear.lines")"
 stages=regret
 
 DOSOLVE_PROGRESS=1 search 1 "$turns" refused /dev/full

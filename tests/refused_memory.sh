@@ -28,9 +28,9 @@ for command in check exploit play; do
 done
 table=$here/vectors/solve/table_two_stages_with_draws
 cp "$table.in" "$work/table.in"
-cp "$table.out" "$work/told.in"
+cp "$table.out" "$work/report.in"
 # The name of each case, and the words of its command.
-cases=("workers solve" "alone solve" "bounds bounds" "check check" "exploit exploit one" "play play 3 5" "table solve" "told check")
+cases=("workers solve" "alone solve" "bounds bounds" "check check" "exploit exploit one" "play play 3 5" "table solve" "report check")
 
 declare -A plain_status
 for case in "${cases[@]}"; do
@@ -86,7 +86,7 @@ for case in "${cases[@]}"; do
     passed=$((passed + empty + plain + threads))
     echo "$words ($command): $((empty + plain + threads)) refused, of which $empty ended with status 8, $plain did without room ahead," \
         "and $threads without a thread"
-    # Where most do without, want of memory is not told.
+    # If most do without, not one has to be out of memory.
     [ "$empty" -gt "$plain" ] || failed=$((failed + 1))
 done
 echo "$passed passed, $failed failed"

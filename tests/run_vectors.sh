@@ -1,6 +1,6 @@
 #!/usr/bin/env bash
 # run_vectors.sh PROGRAM [COMMAND/NAME ..]: runs the program on the cases of tests/vectors, or on those named, and compares
-# bytes and status. tests/vectors/README.md tells the files of a case. A case has 20 seconds. The last line is
+# bytes and status. tests/vectors/README.md has the files of a case. A case has 20 seconds. The last line is
 # `N passed, M failed`.
 set -u
 if [ $# -lt 1 ]; then

@@ -88,7 +88,7 @@ static bool call(const struct test_case *c, uint8_t *output, size_t room, uint64
 /* Whether the answer into so much room is that of the case. */
 static bool is_right(const struct test_case *c, size_t room) {
     uint8_t *output = malloc(room + GUARD);
-    if (output == NULL) stop("want of memory", c->name);
+    if (output == NULL) stop("out of memory", c->name);
     memset(output, MARK, room + GUARD);
     uint64_t size = UINT64_MAX;
     uint32_t status = 99;
@@ -143,7 +143,7 @@ static void read_case(const char *folder, const char *name) {
     if (c->input.length >= 8 && memcmp(c->input.at, "@spaces ", 8) == 0 && sscanf((char *)c->input.at, "@spaces %llu", &spaces) == 1) {
         free(c->input.at);
         c->input = (struct bytes){malloc((size_t)spaces + 1), (size_t)spaces};
-        if (c->input.at == NULL) stop("want of memory", name);
+        if (c->input.at == NULL) stop("out of memory", name);
         memset(c->input.at, ' ', (size_t)spaces);
     }
     uint32_t ignored;

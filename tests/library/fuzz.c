@@ -18,8 +18,8 @@
  *
  * The inputs are divided among JOBS processes that run at once. The number of an input and SEED make it again, where the bases
  * have the same chances. One that is answered wrongly, or at which a process dies, is kept in the working folder. Each job's
- * line tells the number of its inputs, what they took, the heap in use after the first thousand and at the end, which may be no
- * more, and the most memory that it held; tables tell the answers and the games of all jobs.
+ * line has the number of its inputs, what they took, the heap in use after the first thousand and at the end, which may be no
+ * more, and the most memory that it held; tables have the answers and the games of all jobs.
  */
 #define _GNU_SOURCE
 #include "dosolve.h"
@@ -60,7 +60,7 @@ struct bytes {
     size_t length;
 };
 
-/* An input of a case. Its group tells position or report, and which game, or that it is something else. */
+/* An input of a case. Its group says position or report, and which game, or that it is something else. */
 struct base {
     char name[256];
     struct bytes text;
@@ -266,7 +266,7 @@ static void change_bytes(struct bytes *b, const struct bytes *other) {
 }
 
 /* An item of a list of JSON, a value, a field with its name, a word of a line, and a line: behind which bytes one begins,
- * before which one ends, and what stands between two. */
+ * before which one ends, and what is between two. */
 enum { ITEM, VALUE, MEMBER, WORD, LINE, PIECES };
 static const char *const fronts[PIECES] = {"[", "[,:{ ", "{,", " \n", "\n"};
 static const char *const ends[PIECES] = {",", ",: \n", ", \n", " \n", "\n"};
@@ -347,7 +347,7 @@ static void take_named(struct bytes *b, const struct bytes *other, bool in_posit
     replace(b, at, piece_at(b, at, piece).length, value.at, value.length);
 }
 
-/* Lets the lines `one N` and `two N` of a report tell how many rows follow. */
+/* Lets the lines `one N` and `two N` of a report say how many rows follow. */
 static void mend_counts(struct bytes *b) {
     static const char *const words[] = {"\none ", "\ntwo ", "\nend"};
     for (int side = 0; side < 2; side++) {
@@ -464,7 +464,7 @@ static uint32_t call(const struct input *in, uint8_t *output, size_t room, uint6
 }
 
 /* Whether a command may answer so, by its status and by how the text begins and ends. */
-static bool is_told(int command, uint32_t status, const struct bytes *text) {
+static bool is_known(int command, uint32_t status, const struct bytes *text) {
     if (text->length < 4 || text->at[text->length - 1] != '\n') return false;
     bool of_position = command == SOLVE || command == BOUNDS;
     if (status == DOSOLVE_INPUT) return of_position && begins(text, "input ");
@@ -498,11 +498,11 @@ static void keep_input(const char *folder, unsigned long long number, const stru
 }
 
 static void keep(const char *folder, unsigned long long number, const struct input *in, uint32_t status, const struct bytes *text) {
-    char told[16];
-    int digits = snprintf(told, sizeof told, "%u\n", status);
+    char line[16];
+    int digits = snprintf(line, sizeof line, "%u\n", status);
     keep_input(folder, number, in);
     write_file(folder, number, ".out", text->at, text->length);
-    write_file(folder, number, ".status", told, (size_t)digits);
+    write_file(folder, number, ".status", line, (size_t)digits);
 }
 
 /* ---- Calls that answer in numbers. Each is made of inputs of some commands, and has to agree with the command's answer, whose
@@ -519,7 +519,7 @@ static void *some_room(int list, size_t size, size_t *room) {
     return at;
 }
 
-/* Whether what stands behind so many items is as it was. */
+/* Whether what is behind so many items is as it was. */
 static bool is_kept(int list, size_t size, size_t room, uint64_t count) {
     return count >= room || is_marked(items_end[list] - (room - count) * size, (room - count) * size);
 }
@@ -545,15 +545,15 @@ static uint32_t plan_status(uint32_t status, const char *text) {
 
 /* Whether a plan cut off at room for fewer items is the front of the whole one. */
 static bool plan_agrees(const struct input *in, uint32_t status, const char *text) {
-    uint32_t side = (uint32_t)below(2), told;
+    uint32_t side = (uint32_t)below(2), answered;
     struct dosolve_held whole = dosolve_hold(side, in->text.at, in->text.length);
     struct dosolve_plan_size size = {7, 7, 7};
     size_t row_room, weight_room;
     struct dosolve_plan_row *rows = some_room(0, sizeof *rows, &row_room);
     uint32_t *weights = some_room(1, sizeof *weights, &weight_room);
-    told = dosolve_plan(side, in->text.at, in->text.length, rows, row_room, weights, weight_room, &size);
-    bool right = told == plan_status(status, text) && whole.status == told;
-    if (right && told == DOSOLVE_DONE) {
+    answered = dosolve_plan(side, in->text.at, in->text.length, rows, row_room, weights, weight_room, &size);
+    bool right = answered == plan_status(status, text) && whole.status == answered;
+    if (right && answered == DOSOLVE_DONE) {
         right = size.rows == whole.size.rows && size.weights == whole.size.weights && size.total == whole.size.total &&
                 memcmp(rows, whole.rows, (size.rows < row_room ? size.rows : row_room) * sizeof *rows) == 0 &&
                 memcmp(weights, whole.weights, (size.weights < weight_room ? size.weights : weight_room) * sizeof *weights) == 0;
@@ -568,16 +568,16 @@ static bool plan_agrees(const struct input *in, uint32_t status, const char *tex
 
 /* Whether a row is that of the whole plan: of a key of the plan, or of one beside it. */
 static bool row_agrees(const struct input *in, uint32_t status, const char *text) {
-    uint32_t side = (uint32_t)below(2), told;
+    uint32_t side = (uint32_t)below(2), answered;
     struct dosolve_held whole = dosolve_hold(side, in->text.at, in->text.length);
     struct dosolve_plan_row row = {7, 7, 7};
     size_t room;
     uint32_t *weights = some_room(0, sizeof *weights, &room);
     uint64_t at = whole.size.rows > 0 ? below((size_t)whole.size.rows) : 0, moves = 0;
     uint64_t key = (whole.size.rows > 0 ? whole.rows[at].key : below(100)) + one_in(4);
-    told = dosolve_row(side, key, in->text.at, in->text.length, weights, room, &row);
-    bool right = told == plan_status(status, text) && whole.status == told;
-    if (right && told == DOSOLVE_DONE) {
+    answered = dosolve_row(side, key, in->text.at, in->text.length, weights, room, &row);
+    bool right = answered == plan_status(status, text) && whole.status == answered;
+    if (right && answered == DOSOLVE_DONE) {
         const uint32_t *found = dosolve_find(&whole, key, &moves);
         right = row.key == key && row.moves == moves && (moves > 0 || row.bound == 0) &&
                 (found == NULL || memcmp(weights, found, (moves < room ? moves : room) * sizeof *weights) == 0) &&
@@ -590,7 +590,7 @@ static bool row_agrees(const struct input *in, uint32_t status, const char *text
     return right;
 }
 
-/* Whether the text tells the base, the power and the lower half of the sum. */
+/* Whether the text has the base, the power and the lower half of the sum. */
 static bool is_exact(const char *text, const struct dosolve_worst_payoff *worst) {
     const char *at = strstr(text, " exact ");
     if (at == NULL) return false;
@@ -620,10 +620,10 @@ static bool replies_agree(const struct input *in, uint32_t status, const char *t
 static bool worst_agrees(const struct input *in, uint32_t status, const char *text) {
     int side = in->command == EXPLOIT_ONE ? 0 : 1;
     struct dosolve_worst_payoff worst[2] = {{0, 9, 0, 0, 0, 0, 0, 0}, {0, 9, 0, 0, 0, 0, 0, 0}};
-    uint32_t told = dosolve_worst(in->text.at, in->text.length, &worst[0], &worst[1]);
-    if (told == DOSOLVE_FULL && status == DOSOLVE_DONE) return worst[0].exact == 9 && worst[1].exact == 9;
-    if (told != status) return false;
-    if (told != DOSOLVE_DONE) return worst[0].exact == 9 && worst[1].exact == 9;
+    uint32_t answered = dosolve_worst(in->text.at, in->text.length, &worst[0], &worst[1]);
+    if (answered == DOSOLVE_FULL && status == DOSOLVE_DONE) return worst[0].exact == 9 && worst[1].exact == 9;
+    if (answered != status) return false;
+    if (answered != DOSOLVE_DONE) return worst[0].exact == 9 && worst[1].exact == 9;
     if (worst[side].exact == 0) return number_after(text, " between ") == worst[side].low;
     return worst[side].exact == 1 && is_exact(text, &worst[side]);
 }
@@ -632,12 +632,12 @@ static bool worst_agrees(const struct input *in, uint32_t status, const char *te
 static bool games_agree(const struct input *in, uint32_t status, const char *text) {
     const uint64_t seeds[2] = {in->seed + 1, in->seed};
     size_t room;
-    struct dosolve_match_payoffs *told = some_room(0, sizeof *told, &room);
-    if (dosolve_games(in->games, seeds, 2, in->text.at, in->text.length, told, room) != status) return false;
+    struct dosolve_match_payoffs *answered = some_room(0, sizeof *answered, &room);
+    if (dosolve_games(in->games, seeds, 2, in->text.at, in->text.length, answered, room) != status) return false;
     size_t count = status != DOSOLVE_DONE ? 0 : room < 2 ? room : 2;
-    if (!is_kept(0, sizeof *told, room, count)) return false;
-    return count < 2 || (told[1].games == in->games && told[1].sum == number_after(text, " sum ") &&
-                         told[1].least == number_after(text, " least ") && told[1].most == number_after(text, " most "));
+    if (!is_kept(0, sizeof *answered, room, count)) return false;
+    return count < 2 || (answered[1].games == in->games && answered[1].sum == number_after(text, " sum ") &&
+                         answered[1].least == number_after(text, " least ") && answered[1].most == number_after(text, " most "));
 }
 
 static const struct {
@@ -660,7 +660,7 @@ enum { CALLS = sizeof numbers / sizeof *numbers };
 struct job {
     struct input in;
     uint8_t *input_end;
-    unsigned long long number, told[COMMANDS][STATUSES], made[GROUPS], read[GROUPS], in_numbers[CALLS], samples;
+    unsigned long long number, answered[COMMANDS][STATUSES], made[GROUPS], read[GROUPS], in_numbers[CALLS], samples;
     double spent[COMMANDS], slowest;
     size_t heap_first, heap_last;
     int group;
@@ -739,7 +739,7 @@ static bool is_right(struct job *job, const char *samples) {
     struct bytes text = {output, front};
     bool right = status < REFUSED && memcmp(in->text.at, made.at, made.length) == 0 && size != UINT64_MAX;
     right = right && is_marked(output_end - ROOM, ROOM - room) && is_marked(output + front, room - front);
-    if (right && size <= room) right = is_told(in->command, status, &text);
+    if (right && size <= room) right = is_known(in->command, status, &text);
     if (job->is_solved && in->command == CHECK) right = right && status == DOSOLVE_DONE;
     if (right && samples != NULL && size <= room) {
         char place[1024];
@@ -761,7 +761,7 @@ static bool is_right(struct job *job, const char *samples) {
         return false;
     }
     bool is_refused = begins(&text, "refused ");
-    job->told[in->command][is_refused ? REFUSED : status]++;
+    job->answered[in->command][is_refused ? REFUSED : status]++;
     job->read[job->group] += is_refused || (status != DOSOLVE_INPUT && status != DOSOLVE_REPORT);
     memset(output, MARK, front);
     return true;
@@ -849,7 +849,7 @@ static void add_up(int many) {
     for (int at = 1; at < many; at++) {
         for (int command = 0; command < COMMANDS; command++) {
             jobs->spent[command] += jobs[at].spent[command];
-            for (int status = 0; status < STATUSES; status++) jobs->told[command][status] += jobs[at].told[command][status];
+            for (int status = 0; status < STATUSES; status++) jobs->answered[command][status] += jobs[at].answered[command][status];
         }
         for (int group = 0; group < GROUPS; group++) {
             jobs->made[group] += jobs[at].made[group];
@@ -866,8 +866,8 @@ static void print_counts(const struct job *all) {
         printf("| %s%s | %.0f |", folders[command], command == EXPLOIT_ONE ? " one" : command == EXPLOIT_TWO ? " two" : "", all->spent[command]);
         const char *between = " ";
         for (int status = 0; status < STATUSES; status++) {
-            if (all->told[command][status] == 0) continue;
-            printf("%s%s%d: %llu", between, status == REFUSED ? "refused " : "", status == REFUSED ? DOSOLVE_REPORT : status, all->told[command][status]);
+            if (all->answered[command][status] == 0) continue;
+            printf("%s%s%d: %llu", between, status == REFUSED ? "refused " : "", status == REFUSED ? DOSOLVE_REPORT : status, all->answered[command][status]);
             between = ", ";
         }
         printf(" |\n");
@@ -903,7 +903,7 @@ int main(int given, char **word) {
     if (many < 1 || many > MOST_JOBS) stop("jobs", word[4]);
     jobs = mmap(NULL, sizeof *jobs * MOST_JOBS, PROT_READ | PROT_WRITE, MAP_SHARED | MAP_ANONYMOUS, -1, 0);
     made.at = malloc(MOST_INPUT);
-    if (jobs == MAP_FAILED || made.at == NULL) stop("want of memory", "jobs");
+    if (jobs == MAP_FAILED || made.at == NULL) stop("out of memory", "jobs");
     for (int at = 0; at < many; at++) jobs[at].input_end = guarded(MOST_INPUT, MAP_SHARED);
     output_end = guarded(ROOM, MAP_PRIVATE);
     for (int list = 0; list < 2; list++) items_end[list] = guarded(MOST_ITEMS * sizeof(struct dosolve_plan_row), MAP_PRIVATE);

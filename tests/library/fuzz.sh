@@ -49,8 +49,8 @@ fi
 passed=0
 failed=0
 left=0
-python3 "$top/tests/style/formats.py" samples > told || failed=1
-grep -v '^texts that no case has' told
+python3 "$top/tests/style/formats.py" samples > documented || failed=1
+grep -v '^texts that no case has' documented
 for args in samples/*/*.args; do
     case=${args%.args}
     if [[ $case == samples/solve/* ]] && grep -q '^spent [0-9]* ' "$case.out"; then

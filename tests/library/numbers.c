@@ -99,7 +99,7 @@ static bool is_cut_off(uint32_t side, const struct bytes *report, const struct d
     size_t rows = (size_t)plan->size.rows / 2, weights = (size_t)plan->size.weights / 2;
     struct dosolve_plan_row *some = calloc(rows + 1, sizeof *some);
     uint32_t *few = calloc(weights + 1, sizeof *few);
-    if (some == NULL || few == NULL) stop("want of memory", "is_cut_off");
+    if (some == NULL || few == NULL) stop("out of memory", "is_cut_off");
     few[weights] = GUARD;
     some[rows].key = GUARD;
     struct dosolve_plan_size size = {0, 0, 0};
@@ -132,9 +132,9 @@ static void try_plans(const struct bytes *report, const char *name) {
 
 /* A case of solve. Statuses 2 and 8 leave the numbers. */
 static void try_root(const char *folder, const char *name) {
-    struct bytes in = read_part(folder, name, ".in"), out = read_part(folder, name, ".out"), told = read_part(folder, name, ".status");
+    struct bytes in = read_part(folder, name, ".in"), out = read_part(folder, name, ".out"), status_text = read_part(folder, name, ".status");
     struct bytes words = read_part(folder, name, ".args");
-    uint32_t wanted = (uint32_t)strtoul((char *)told.at, NULL, 10);
+    uint32_t wanted = (uint32_t)strtoul((char *)status_text.at, NULL, 10);
     if (strcmp((char *)words.at, "solve\n") == 0 && in.at[0] != '@') {
         struct dosolve_root_bounds root = {GUARD, GUARD, GUARD};
         uint32_t status = dosolve_root(in.at, in.length, &root);
@@ -147,7 +147,7 @@ static void try_root(const char *folder, const char *name) {
             try_plans(&out, name);
         }
     }
-    free(in.at), free(out.at), free(told.at), free(words.at);
+    free(in.at), free(out.at), free(status_text.at), free(words.at);
 }
 
 /* The line that exploit prints. */
@@ -173,8 +173,8 @@ static bool are_worst(const struct bytes *report) {
     for (uint32_t side = DOSOLVE_ONE; side <= DOSOLVE_TWO; side++) {
         char text[DOSOLVE_ROOM] = "", line[256];
         uint64_t size = 0;
-        uint32_t told = dosolve_exploit(side, report->at, report->length, (uint8_t *)text, sizeof text - 1, &size);
-        if (told != DOSOLVE_DONE) wanted = told;
+        uint32_t answered = dosolve_exploit(side, report->at, report->length, (uint8_t *)text, sizeof text - 1, &size);
+        if (answered != DOSOLVE_DONE) wanted = answered;
         print_worst(line, sizeof line, side, &worst[side]);
         right = right && (status == DOSOLVE_DONE ? strcmp(line, text) == 0 : worst[side].exact == 9);
     }
@@ -182,10 +182,10 @@ static bool are_worst(const struct bytes *report) {
 }
 
 /* Whether the text ends with the lines that play prints behind the turns. */
-static bool has_payoffs(const char *text, const struct dosolve_match_payoffs *told) {
+static bool has_payoffs(const char *text, const struct dosolve_match_payoffs *answered) {
     char lines[256];
     int length = snprintf(lines, sizeof lines, "payoff %" PRId32 "\ngames %" PRIu32 " sum %" PRId64 " least %" PRId32 " most %" PRId32 "\n",
-                          told->first, told->games, told->sum, told->least, told->most);
+                          answered->first, answered->games, answered->sum, answered->least, answered->most);
     size_t whole = strlen(text);
     return whole >= (size_t)length && strcmp(text + whole - (size_t)length, lines) == 0;
 }
@@ -194,16 +194,16 @@ static bool has_payoffs(const char *text, const struct dosolve_match_payoffs *to
 static bool are_games(uint32_t games, uint64_t first, const struct bytes *report) {
     const struct dosolve_match_payoffs mark = {9, 9, GUARD, 9, 9};
     const uint64_t seeds[4] = {first, first + 1, first ^ 0x9E3779B97F4A7C15u, first};
-    struct dosolve_match_payoffs told[4] = {mark, mark, mark, mark}, fewer[4] = {mark, mark, mark, mark};
-    uint32_t status = dosolve_games(games, seeds, 3, report->at, report->length, told, 4);
+    struct dosolve_match_payoffs answered[4] = {mark, mark, mark, mark}, fewer[4] = {mark, mark, mark, mark};
+    uint32_t status = dosolve_games(games, seeds, 3, report->at, report->length, answered, 4);
     bool right = dosolve_games(games, seeds, 4, report->at, report->length, fewer, 3) == status &&
-                 memcmp(told, fewer, sizeof told) == 0 && memcmp(&told[3], &mark, sizeof mark) == 0;
+                 memcmp(answered, fewer, sizeof answered) == 0 && memcmp(&answered[3], &mark, sizeof mark) == 0;
     for (int at = 0; at < 3; at++) {
         static char text[1 << 16];
         uint64_t size = 0;
         right = right && dosolve_play(games, seeds[at], report->at, report->length, (uint8_t *)text, sizeof text - 1, &size) == status;
         text[size < sizeof text ? size : 0] = 0;
-        right = right && (status == DOSOLVE_DONE ? has_payoffs(text, &told[at]) : memcmp(&told[at], &mark, sizeof mark) == 0);
+        right = right && (status == DOSOLVE_DONE ? has_payoffs(text, &answered[at]) : memcmp(&answered[at], &mark, sizeof mark) == 0);
     }
     const uint32_t wrong[2] = {0, 100001};
     for (int at = 0; at < 2; at++)
@@ -214,10 +214,10 @@ static bool are_games(uint32_t games, uint64_t first, const struct bytes *report
 
 /* A case of play. */
 static void try_games(const char *folder, const char *name) {
-    struct bytes in = read_part(folder, name, ".in"), out = read_part(folder, name, ".out"), told = read_part(folder, name, ".status");
+    struct bytes in = read_part(folder, name, ".in"), out = read_part(folder, name, ".out"), status_text = read_part(folder, name, ".status");
     struct bytes words = read_part(folder, name, ".args");
     char *next;
-    uint32_t wanted = (uint32_t)strtoul((char *)told.at, NULL, 10), games = (uint32_t)strtoul((char *)words.at + strlen("play\n"), &next, 10);
+    uint32_t wanted = (uint32_t)strtoul((char *)status_text.at, NULL, 10), games = (uint32_t)strtoul((char *)words.at + strlen("play\n"), &next, 10);
     uint64_t seed = strtoull(next, NULL, 10);
     if (in.at[0] != '@') {
         struct dosolve_match_payoffs payoffs = {9, 9, 9, 9, 9};
@@ -225,13 +225,13 @@ static void try_games(const char *folder, const char *name) {
         right = right && (wanted == DOSOLVE_DONE ? has_payoffs((char *)out.at, &payoffs) : payoffs.sum == 9);
         judge(right && are_games(games < 1000 ? games : 1000, seed, &in), "games", name);
     }
-    free(in.at), free(out.at), free(told.at), free(words.at);
+    free(in.at), free(out.at), free(status_text.at), free(words.at);
 }
 
 static void try_replies(const char *folder, const char *name) {
-    struct bytes in = read_part(folder, name, ".in"), out = read_part(folder, name, ".out"), told = read_part(folder, name, ".status");
+    struct bytes in = read_part(folder, name, ".in"), out = read_part(folder, name, ".out"), status_text = read_part(folder, name, ".status");
     struct bytes words = read_part(folder, name, ".args");
-    uint32_t wanted = (uint32_t)strtoul((char *)told.at, NULL, 10);
+    uint32_t wanted = (uint32_t)strtoul((char *)status_text.at, NULL, 10);
     bool is_one = strcmp((char *)words.at, "exploit\none\n") == 0, is_two = strcmp((char *)words.at, "exploit\ntwo\n") == 0;
     if ((is_one || is_two) && in.at[0] != '@') {
         enum { ROOM = 4096 };
@@ -252,7 +252,7 @@ static void try_replies(const char *folder, const char *name) {
         judge(right, "replies", name);
         judge(are_worst(&in), "worst", name);
     }
-    free(in.at), free(out.at), free(told.at), free(words.at);
+    free(in.at), free(out.at), free(status_text.at), free(words.at);
 }
 
 int main(int count, char **word) {

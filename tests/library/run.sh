@@ -19,15 +19,15 @@ failed=0
 try() { # name, words that have to succeed
     local name=$1 status
     shift
-    "$@" > "$work/told" 2>&1
+    "$@" > "$work/printed" 2>&1
     status=$?
     if [ "$status" -eq 0 ]; then
         passed=$((passed + 1))
-        echo "$name: $(tail -n 1 "$work/told")"
+        echo "$name: $(tail -n 1 "$work/printed")"
     else
         failed=$((failed + 1))
         echo "FAILED $name (status $status)"
-        tail -n 20 "$work/told"
+        tail -n 20 "$work/printed"
     fi
 }
 

@@ -3,9 +3,9 @@
 
 Positions and reports of tests/vectors, of all games or of the one that is named, and random tables are changed in bytes,
 numbers, fields, states, rows and lines, and given to `solve`, `bounds`, `check`, `exploit` and `play` for SECONDS (60). An answer
-is wrong where docs/FORMATS.md tells no such status or text, where it takes more than 20 seconds, or where it is not that of
+is wrong if docs/FORMATS.md has no such status or text, if it takes more than 20 seconds, or if it is not that of
 OTHER, any program with the same commands. Reports of several workers are not compared, since they depend on the schedule, nor
-are versions of a report that the page does not tell. Each wrong answer is shown and its input kept. One seed makes the same
+are versions of a report that the page does not have. Each wrong answer is shown and its input kept. One seed makes the same
 inputs again. The last line counts the inputs; no part of the gate.
 """
 import json

@@ -3,7 +3,7 @@
 
 Each of COUNT positions (500) of the games, or of those named, goes to `solve` and `bounds`, with few or ample turns, visits and
 rows, so that every outcome comes up, also with visits that end inside a search that was done before; every fourth is spoilt
-first, so that it is refused. Each answer has to be one that docs/FORMATS.md tells, `check` has to accept each report, the line
+first, so that it is refused. Each answer has to be one of docs/FORMATS.md, `check` has to accept each report, the line
 of a table has to be that of its states, and no lower bound may be above an upper one of either command. Where OTHER is given,
 any program with the same commands, bytes and status have to be those of OTHER. With the word `linear` each position asks for
 linear stages, which no other program has to print alike. With the word `verify` OTHER has a command of that name too, which ends
@@ -104,7 +104,7 @@ def answer(program, command, text):
 
 
 def ends(text):
-    """The lower and the upper bound that a text tells."""
+    """The lower and the upper bound of a text."""
     return [int(number) for word in ("lower", "upper") for number in re.findall(rf"^{word} (-?\d+)$", text.decode(), re.M)]
 
 
@@ -124,9 +124,9 @@ def fault(formats, program, other, verifier, text):
     """What is wrong with the answers to a position, or None."""
     solved, bounded = answer(program, "solve", text), answer(program, "bounds", text)
     for command, ours in (("solve", solved), ("bounds", bounded)):
-        told = formats.fault(command, *ours)
-        if told:
-            return f"{command}: {told}"
+        wrong = formats.fault(command, *ours)
+        if wrong:
+            return f"{command}: {wrong}"
         if other and answer(other, command, text) != ours:
             return f"{command}: {ours} here, {answer(other, command, text)} there"
     if solved[0] in (0, 3, 4, 5):

@@ -3,7 +3,7 @@
 
 Each of COUNT reports (500) is one that OTHER, any program with the same commands, or else PROGRAM prints for a random position
 of the games, or of those named: as it is, with rows dropped, with weights changed, or with the rows of both sides exchanged. It goes to `exploit one`,
-`exploit two` and `play`. Each answer has to be one that docs/FORMATS.md tells, and that of OTHER, byte for byte. The worst case
+`exploit two` and `play`. Each answer has to be one of docs/FORMATS.md, and that of OTHER, byte for byte. The worst case
 of a plan of a report as it is must be no worse than its bound, and the payoff of the first game lies between those of all. One
 seed makes the same reports again. No part of the gate.
 """
@@ -90,9 +90,9 @@ def fault(formats, r, program, other, text, lawful):
     games = str(r.choice([1, 2, 10, 1000]))
     for words in (["exploit", "one"], ["exploit", "two"], ["play", games, str(r.choice([0, 1, r.randrange(2**64)]))]):
         ours = run(program, words, text)
-        told = formats.fault(words[0], *ours)
-        if told:
-            return f"{words}: {told}"
+        wrong = formats.fault(words[0], *ours)
+        if wrong:
+            return f"{words}: {wrong}"
         if other and run(other, words, text) != ours:
             return f"{words}: {ours} here, {run(other, words, text)} there"
         if ours[0] != 0:

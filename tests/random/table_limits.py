@@ -101,23 +101,23 @@ def main():
         sys.exit("usage: table_limits.py PROGRAM")
     program, failed, tried = str(Path(sys.argv[1]).resolve()), 0, 0
 
-    def tell(name, text, command, took, right, answer):
+    def show(name, text, command, took, right, answer):
         nonlocal failed, tried
         tried, failed = tried + 1, failed + (not right)
         print(f"{'      ' if right else 'FAILED'} {command} {name}: {len(text)} bytes, {took:.2f} s", "" if right else answer[:200])
 
     for name, text, wanted in lists():
         status, answer, took = run(program, "check", text)
-        tell(name, text, "check", took, (status, answer) == wanted, answer)
+        show(name, text, "check", took, (status, answer) == wanted, answer)
     for name, text, status, beginning in positions():
         found, answer, took = run(program, "solve", text)
         right = found == status and answer.startswith(beginning)
         if status == 0 and right:
             right = answer.split("\n")[1] == tables.line(json.loads(text)["states"])
-        tell(name, text, "solve", took, right, answer)
+        show(name, text, "solve", took, right, answer)
         if status == 0:
             accepted, verdict, took = run(program, "check", answer)
-            tell(name, answer, "check", took, accepted == 0, verdict)
+            show(name, answer, "check", took, accepted == 0, verdict)
     print(f"{tried - failed} passed, {failed} failed")
     sys.exit(failed > 0)
 

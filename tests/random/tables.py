@@ -173,7 +173,7 @@ def five_lists(states):
 
 
 def line(states):
-    """The line of a report that tells these states."""
+    """The line of a report that has these states."""
     return " ".join(["game table"] + [",".join(map(str, numbers)) or "-" for numbers in five_lists(states)])
 
 

@@ -3,7 +3,7 @@
 
 The positions are those of true_value.py, of the games that have rules of their own; the table of a position has a state for each
 state of the game, made of the rules there. `bounds` has to print the same for both. Where the table has the range of payoffs,
-the width, the ranks and draws that docs/FORMATS.md tells of the game, the reports of `solve` have to have the same bounds,
+the width, the ranks and draws that docs/FORMATS.md has of the game, the reports of `solve` have to have the same bounds,
 resolution, outcome and turns; elsewhere no lower bound may be above an upper one. With the word `linear` linear stages are asked
 for too. One seed makes the same positions again.
 """
@@ -72,8 +72,8 @@ def has_shape(p, states, known):
         return False
     ends = [state for state in states if isinstance(state, int)]
     ranks, *_, draws = tables.five_lists(states)
-    told = min(ends), max(ends), tables.width(states)
-    return bool(draws) == drawn and all(shape_of_game(p, state) == (*told, rank) for state, rank in zip(known, ranks) if rank > 0)
+    shape = min(ends), max(ends), tables.width(states)
+    return bool(draws) == drawn and all(shape_of_game(p, state) == (*shape, rank) for state, rank in zip(known, ranks) if rank > 0)
 
 
 def numbers(report):
@@ -86,14 +86,14 @@ def fault(program, position, linear):
     """What differs between a position and its table, or None; and whether the reports had to be alike."""
     states, known = table(position)
     asked = {name: position[name] for name in ("gap", "weight", "turns", "visits", "rows", "workers")}
-    told = dict(game="table", states=states, **asked)
+    as_table = dict(game="table", states=states, **asked)
     ample = dict(visits=1000000, rows=100000)
-    bounds = [answer(program, "bounds", json.dumps(dict(p, **ample))) for p in (position, told)]
+    bounds = [answer(program, "bounds", json.dumps(dict(p, **ample))) for p in (position, as_table)]
     if bounds[0] != bounds[1] or bounds[0][0] != 0:
         return f"bounds: {bounds}", False
     alike = has_shape(position, states, known) and position["workers"] == 1
     for more in [{}] + [dict(stages="linear", weight=1048576)] * linear:
-        (status, game), (other, text) = (answer(program, "solve", json.dumps(dict(p, **more))) for p in (position, told))
+        (status, game), (other, text) = (answer(program, "solve", json.dumps(dict(p, **more))) for p in (position, as_table))
         if alike and (status, numbers(game)) != (other, numbers(text)):
             return f"solve: {status} {game} and {other} {text}", alike
         if max(number(game, "lower"), number(text, "lower")) > min(number(game, "upper"), number(text, "upper")):

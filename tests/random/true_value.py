@@ -5,7 +5,7 @@ The values come from here alone, and share nothing with the program or its packa
 over all states in exact fractions, each state's matrix game by a simplex whose answer is checked against both sides. The
 bounds that `solve` prints by regret matching and by linear programs, and those of `bounds`, have to enclose the value, those of
 a closed report whose gap is 0 have to equal it, and `check` has to accept each report.
-The positions are of the games that docs/FORMATS.md tells, or of those named. With the word `regret` no linear programs are asked
+The positions are of the games of docs/FORMATS.md, or of those named. With the word `regret` no linear programs are asked
 for. One seed makes the same positions again.
 """
 import json
@@ -124,7 +124,7 @@ def matrix_value(matrix):
     """The value of a matrix game, rows for the one who gets it: the columns' program by the simplex, least index first."""
     shift = 1 - min(map(min, matrix))
     rows, columns = len(matrix), len(matrix[0])
-    # Greatest sum of y with (matrix + shift) y <= 1; behind the columns stand a slack for each row, and the right side.
+    # Greatest sum of y with (matrix + shift) y <= 1; behind the columns are a slack for each row, and the right side.
     table = [[cell + shift for cell in row] + [Fraction(i == j) for j in range(rows)] + [Fraction(1)] for i, row in enumerate(matrix)]
     table.append([Fraction(-1)] * columns + [Fraction(0)] * (rows + 1))
     basis = [columns + i for i in range(rows)]
@@ -239,12 +239,12 @@ def main():
         sys.exit("usage: true_value.py PROGRAM [COUNT [SEED]] [regret] [GAME ..]")
     program = str(Path(words[0]).resolve())
     count, seed = (int(word) for word in (words[1:] + ["100", "1"][len(words) - 1:]))
-    told = re.findall(r"`(\w+)`", re.search(r"^\| each \| `game` \| text \|([^|]*)\|", PAGE.read_text(), re.M)[1])
-    assert set(told) <= set(RULES), "rules are missing"
-    told = named or told
+    games = re.findall(r"`(\w+)`", re.search(r"^\| each \| `game` \| text \|([^|]*)\|", PAGE.read_text(), re.M)[1])
+    assert set(games) <= set(RULES), "rules are missing"
+    games = named or games
     r, failed, tried, exact, mixed = random.Random(seed), 0, 0, 0, 0
     while tried < count:
-        position = tiny_position(r, told[tried % len(told)])
+        position = tiny_position(r, games[tried % len(games)])
         value = true_value(position)
         if value is None:
             continue

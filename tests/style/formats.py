@@ -1,10 +1,10 @@
 #!/usr/bin/env python3
-"""formats.py [FOLDER]: looks whether docs/FORMATS.md tells the status and the text of each case of tests/vectors.
+"""formats.py [FOLDER]: looks whether docs/FORMATS.md documents the status and the text of each case of tests/vectors.
 
 The regular expressions are made from that page: a table with the columns Status and Text has the texts of answers, one with
-Line and Form the lines of a report, one with Word and Spelling what the words in capitals stand for, one with Field the
+Line and Form the lines of a report, one with Word and Spelling what the words in capitals mean, one with Field the
 fields of a position, one with Words and Statuses the commands. Several lines in one cell follow each other; one that ends
-with ` ..` can come any number of times. Texts that no case has are told, and are no fault.
+with ` ..` can come any number of times. Texts that no case has are printed, and are no fault.
 """
 import re
 import sys
@@ -20,7 +20,7 @@ SPELLINGS = {
     "list": f"(?:-|{NUMBER}(?:,{NUMBER})*)",
     "whole list": f"(?:-|{WHOLE}(?:,{WHOLE})*)",
 }
-# Those of every command: standard input failed, standard output failed, want of memory.
+# Those of every command: standard input failed, standard output failed, out of memory.
 FAILED, CUT_OFF, NO_MEMORY = 6, 7, 8
 
 
@@ -50,10 +50,10 @@ def numbers(cell):
 
 class Formats:
     def __init__(self, page=TOP / "docs" / "FORMATS.md"):
-        told = list(tables(page.read_text()))
+        found = list(tables(page.read_text()))
         self.words = {}
-        fields = {name for names, rows in told if "Field" in names and "Kind" in names for row in rows for name in coded(row["Field"])}
-        for names, rows in told:
+        fields = {name for names, rows in found if "Field" in names and "Kind" in names for row in rows for name in coded(row["Field"])}
+        for names, rows in found:
             if "Spelling" in names:
                 for row in rows:
                     options = coded(row["Spelling"]) or sorted(fields)
@@ -61,7 +61,7 @@ class Formats:
                     self.words[coded(row["Word"])[0]] = SPELLINGS.get(row["Spelling"], either)
         # The statuses and the expression of each text, and the statuses of each command.
         self.texts, self.statuses, self.outcomes = [], {}, set()
-        for names, rows in told:
+        for names, rows in found:
             if "Text" in names:
                 self.texts += [(numbers(row["Status"]), self.expression(coded(row["Text"])), row["Text"]) for row in rows]
             if "Statuses" in names:
@@ -70,7 +70,7 @@ class Formats:
                     self.statuses[command] = numbers(row["Statuses"]) | {FAILED, CUT_OFF, NO_MEMORY}
             if "Outcome" in names:
                 self.outcomes |= {(coded(row["Outcome"])[0], int(row["Status"])) for row in rows}
-        self.report = self.report_expression([row for names, rows in told if "Form" in names for row in rows])
+        self.report = self.report_expression([row for names, rows in found if "Form" in names for row in rows])
 
     def line(self, text):
         if text.startswith("usage:"):
@@ -94,8 +94,8 @@ class Formats:
         self.head = re.compile(parts[0].encode())
         return re.compile("".join(parts).encode())
 
-    def told(self, status, text):
-        """What the page tells this answer by, or None: the cell of a text, or the name of an outcome of a report."""
+    def documented(self, status, text):
+        """Where the page has this answer, or None: the cell of a text, or the name of an outcome of a report."""
         if status in (FAILED, NO_MEMORY):
             return None if text else str(status)
         if status == CUT_OFF:
@@ -110,10 +110,10 @@ class Formats:
         return None
 
     def fault(self, command, status, text):
-        """Why this answer to a command is none that the page tells, or None."""
+        """Why this answer to a command is none that the page documents, or None."""
         if status not in self.statuses.get(command, self.statuses[""]):
             return f"status {status} of {command or 'no command'}"
-        return None if self.told(status, text) else f"text with status {status}: {text[:200]!r}"
+        return None if self.documented(status, text) else f"text with status {status}: {text[:200]!r}"
 
 
 def main():
@@ -127,10 +127,10 @@ def main():
         if fault:
             faults += 1
             print(f"FAILED {case.parent.name}/{case.stem}: {fault}")
-        used.add(formats.told(status, text))
+        used.add(formats.documented(status, text))
     missing = [cell for _, _, cell in formats.texts if cell not in used] + [name for name, _ in formats.outcomes if name not in used]
     print("texts that no case has:", "; ".join(missing) or "none")
-    print(f"{len(cases) - faults} told, {faults} not")
+    print(f"{len(cases) - faults} documented, {faults} not")
     return 1 if faults or not cases else 0
 
 

@@ -1,7 +1,8 @@
 #!/usr/bin/env python3
 """The rules of the house that a script can check: no clause wider than 120 columns, no line of a proof wider than 200, no
 function of more than seven parameters, more than ten clauses or a body of more than 40 lines, no name of specs/ and no type
-of src/ defined in two crates, at most ten wrong bodies a crate, each crate on the map and in the README.
+of src/ defined in two crates, at most ten wrong bodies a crate, each crate on the map and in the README, each name of
+docs/DEFINITIONS.md in the place that is given there.
 
     tests/style/house.py      prints what breaks a rule, and ends with 1 if something does
 
@@ -195,6 +196,26 @@ def faults_of_pages():
         for name in crates:
             if f"`{name}`" not in text:
                 yield f"{page} does not name the crate {name}"
+    for line in (TOP / "docs" / "DEFINITIONS.md").read_text().splitlines():
+        cells = line.strip("|").split(" | ")
+        if line.startswith("| ") and len(cells) == 3:
+            yield from faults_of_definition(re.findall(r"`([^`]+)`", cells[2]), set(crates))
+
+
+def faults_of_definition(words, crates):
+    """Names, and behind them their place: a file of specs/ as `plan_book/Plans`, or a crate whose src/ has the type."""
+    names = []
+    for word in words:
+        crate, _, file = word.partition("/")
+        if crate not in crates:
+            names.append(word)
+            continue
+        files = [CRATES / crate / "specs" / f"{file}.antt"] if file else sorted((CRATES / crate / "src").rglob("*.rt"))
+        text = "".join(path.read_text() for path in files if path.exists())
+        for name in names:
+            if not re.search(rf"(?<!\w){re.escape(name)}(?!\w)", text):
+                yield f"docs/DEFINITIONS.md: {name} is not in {word}"
+        names = []
 
 
 def main():

@@ -216,6 +216,8 @@ def faults_of_definition(words, crates):
             if not re.search(rf"(?<!\w){re.escape(name)}(?!\w)", text):
                 yield f"docs/DEFINITIONS.md: {name} is not in {word}"
         names = []
+    for name in names:
+        yield f"docs/DEFINITIONS.md: {name} has no place"
 
 
 def main():

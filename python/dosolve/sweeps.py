@@ -9,14 +9,13 @@ from concurrent.futures import FIRST_COMPLETED, BrokenExecutor, Executor, Future
 from contextlib import AbstractContextManager, closing, nullcontext
 from dataclasses import dataclass, field, replace
 from pathlib import Path
-from typing import Any
 
 from .errors import DosolveError, InvalidError
 from .positions import Position, processors, require_position
 from .processes import Processes
-from .program import Solver, is_last
 from .reports import Report
-from .values import FilePath
+from .solver.program import Solver, is_last
+from .values import FilePath, Record
 
 MOST_WAITING = 256
 """How many positions an executor is handed at once."""
@@ -46,9 +45,9 @@ class Swept:
         """The position; raises what is wrong with its text."""
         return Position.read(self.text)
 
-    def record(self) -> dict[str, Any]:
+    def record(self) -> Record:
         """The line of the output file, without the position's number."""
-        found: dict[str, Any] = {"position": self.text.strip(), "seconds": round(self.seconds, 3)}
+        found: Record = {"position": self.text.strip(), "seconds": round(self.seconds, 3)}
         if self.limit is not None:
             found["limit"] = self.limit
         if self.report is None:

@@ -94,14 +94,14 @@ class Answers(unittest.TestCase):
 
     def test_making_a_plan_tells_how_far_it_is(self):
         steps = []
-        with mock.patch("dosolve.progress.time.monotonic", itertools.count().__next__):
+        with mock.patch("dosolve.solver.progress.time.monotonic", itertools.count().__next__):
             dosolve.plan(GAME, "one", lambda state: [1] * len(state.moves("one")), 8192,
                          progress=steps.append)
         self.assertEqual([step.states for step in steps], list(range(1, len(steps) + 1)))
         self.assertIn("the player was asked in 1 states", str(steps[0]))
         self.assertGreater(len(steps), 10)
         told = []
-        with mock.patch("dosolve.progress.time.monotonic", itertools.count().__next__):
+        with mock.patch("dosolve.solver.progress.time.monotonic", itertools.count().__next__):
             dosolve.measure(POSITION, even, "two", games=40, progress=told.append)
         self.assertGreater(len([step for step in told if isinstance(step, dosolve.PlanProgress)]), 10)
 

@@ -13,7 +13,7 @@ from types import SimpleNamespace
 import dosolve
 from dosolve import NoTableError, Table, openspiel
 from dosolve.__main__ import main
-from dosolve.table_lists import listed, nested
+from dosolve.tables.lists import listed, nested
 from support import random_game, random_listing
 from table_support import STAGES, Bids, Nim
 from test_exact import Matching

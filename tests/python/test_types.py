@@ -71,7 +71,7 @@ class Types(unittest.TestCase):
         self.assertEqual((found.returncode, found.stdout), (0, ""))
 
     def test_lines_are_at_most_100_columns(self):
-        for file in (PACKAGE / "dosolve").glob("*.py"):
+        for file in (PACKAGE / "dosolve").rglob("*.py"):
             for number, line in enumerate(file.read_text().splitlines(), 1):
                 self.assertLessEqual(len(line), 100, f"{file.name}:{number}")
 

@@ -5,10 +5,14 @@ import os
 import subprocess
 import threading
 from collections.abc import Sequence
+from contextvars import ContextVar
 from typing import IO
 
 from ..errors import ProgramMissingError, ProgramTimeoutError
 from .progress import Follower
+
+GROUP: ContextVar[int | None] = ContextVar("group", default=None)
+"""The group of processes in which programs are started; None is that of this process."""
 
 
 def run(words: Sequence[str], data: bytes, follower: Follower | None,
@@ -23,7 +27,8 @@ def run(words: Sequence[str], data: bytes, follower: Follower | None,
     environment = os.environ | {"DOSOLVE_PROGRESS": "1"} if follower else None
     try:
         process = subprocess.Popen(words, stdin=subprocess.PIPE, stdout=subprocess.PIPE,
-                                   stderr=None if passed else subprocess.PIPE, env=environment)
+                                   stderr=None if passed else subprocess.PIPE, env=environment,
+                                   process_group=GROUP.get())
     except OSError as fault:
         raise ProgramMissingError(f"{words[0]} cannot be run: {fault}") from fault
     with process:

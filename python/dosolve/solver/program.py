@@ -23,7 +23,7 @@ from ..positions import Position, require_position
 from ..reports import Report, explained
 from ..values import FilePath, as_field, cut, require_range, shorten
 from .library import find_library
-from .process import run
+from .process import GROUP, run
 from .progress import Bar, Follower, Listener
 
 BLOCKS = 40
@@ -280,8 +280,9 @@ class Solver:
             raise InvalidError(f"{words[0]} takes a Report or its text, not {shorten(given)}")
         data = said.encode() if isinstance(said, str) else said
         limit = self.timeout if timeout is None else timeout
-        # A call of the library cannot be followed, and not be ended when time is up.
-        library = find_library() if (self.program, follower, limit) == (None, None, None) else None
+        # A call of the library cannot be followed, nor ended when time is up or with a sweep.
+        needs = self.program, follower, limit, GROUP.get()
+        library = find_library() if needs == (None,) * len(needs) else None
         if library is not None:
             status, text, told = *library.answer(words, data), ""
             answer = text.decode("utf-8", "replace")

@@ -16,6 +16,7 @@ import threading
 import time
 import unittest
 from pathlib import Path
+from unittest import mock
 
 import dosolve
 import guide
@@ -155,6 +156,12 @@ class Sweeps(unittest.TestCase):
         found = list(dosolve.sweep(positions(1, random.Random(3)), solver=dosolve.Solver(script)))
         self.assertRegex(found[0].error, "^BrokenExecutor: the program was killed: solve: .*-9$")
         self.assertEqual((self.folder / "runs").read_text(), "\n" * 3)
+
+    def test_it_runs_the_program_and_not_the_library_whose_calls_cannot_be_ended(self):
+        given = positions(4, random.Random(8))
+        with mock.patch("dosolve.solver.program.find_library", side_effect=AssertionError):
+            found = list(dosolve.sweep(given))
+        self.assertEqual([swept.error for swept in found], [None] * 4)
 
     def slow_program(self, seconds):
         script = self.folder / "slow"
@@ -348,13 +355,15 @@ class Stopped(unittest.TestCase):
         self.wait_until("the end of all", lambda: not self.running(), self.SOON)
 
     def test_where_a_script_ends_by_a_fault_its_programs_end(self):
-        script = (f"import dosolve\nfor found in dosolve.sweep(dosolve.read_positions({str(self.folder / 'given.jsonl')!r}),"
-                  f" solver=dosolve.Solver({self.program!r})):\n    if found.number == {self.QUICK - 1}:\n        raise ValueError\n")
-        (self.folder / "given.jsonl").write_text("".join(position.text() for position in self.given))
+        given = self.folder / "given.jsonl"
+        given.write_text("".join(position.text() for position in self.given))
+        script = (f"import dosolve\ngiven = dosolve.read_positions({str(given)!r})\n"
+                  f"for found in dosolve.sweep(given, solver=dosolve.Solver({self.program!r})):\n"
+                  f"    if found.number == {self.QUICK - 1}:\n        raise ValueError\n")
         environment = os.environ | {"PYTHONPATH": str(TOP / "python"), "SWEEP": str(self.folder)}
         since = time.monotonic()
-        ended = subprocess.run([sys.executable, "-c", script], env=environment, capture_output=True, text=True, timeout=60,
-                               check=False)
+        ended = subprocess.run([sys.executable, "-c", script], env=environment, text=True,
+                               capture_output=True, timeout=60, check=False)
         self.assertLess(time.monotonic() - since, 30)
         self.assertEqual((ended.returncode, ended.stderr.splitlines()[-1]), (1, "ValueError"))
         self.wait_until("the end of all", lambda: not self.running(), self.SOON)

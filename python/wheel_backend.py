@@ -27,6 +27,12 @@ def _metadata(project: dict[str, Any]) -> str:
     return "\n".join([*lines, "Description-Content-Type: text/markdown", "", readme])
 
 
+def _sources() -> list[Path]:
+    """The files of the package, those of its folders too."""
+    package = HERE / "dosolve"
+    return sorted([package / "py.typed", *package.glob("**/*.py")])
+
+
 def _record(name: str, data: bytes) -> str:
     digest = base64.urlsafe_b64encode(hashlib.sha256(data).digest()).rstrip(b"=").decode()
     return f"{name},sha256={digest},{len(data)}\n"
@@ -56,9 +62,8 @@ def _write_wheel(folder: str, files: dict[str, bytes]) -> str:
 def build_wheel(wheel_directory: str, config_settings: Any = None,
                 metadata_directory: str | None = None) -> str:
     """Writes the wheel into a folder, and gives its name."""
-    sources = sorted(file for file in (HERE / "dosolve").iterdir() if file.is_file())
     return _write_wheel(wheel_directory, {str(file.relative_to(HERE)): file.read_bytes()
-                                          for file in sources})
+                                          for file in _sources()})
 
 
 def build_editable(wheel_directory: str, config_settings: Any = None,
@@ -73,6 +78,6 @@ def build_sdist(sdist_directory: str, config_settings: Any = None) -> str:
     stem = f"{project['name']}-{project['version']}"
     with tarfile.open(Path(sdist_directory, f"{stem}.tar.gz"), "w:gz") as archive:
         for file in [HERE / "pyproject.toml", HERE / "README.md", Path(__file__),
-                     *sorted((HERE / "dosolve").glob("*.*"))]:
+                     *_sources()]:
             archive.add(file, f"{stem}/{file.relative_to(HERE)}")
     return f"{stem}.tar.gz"

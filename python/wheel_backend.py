@@ -32,6 +32,12 @@ def _record(name: str, data: bytes) -> str:
     return f"{name},sha256={digest},{len(data)}\n"
 
 
+def _sources() -> list[Path]:
+    """The files of the package, those of its pages too."""
+    return sorted(file for file in (HERE / "dosolve").rglob("*")
+                  if file.is_file() and file.suffix != ".pyc")
+
+
 def _write_wheel(folder: str, files: dict[str, bytes]) -> str:
     """Writes a wheel of these files into a folder, and gives its name."""
     project = _project()
@@ -56,9 +62,8 @@ def _write_wheel(folder: str, files: dict[str, bytes]) -> str:
 def build_wheel(wheel_directory: str, config_settings: Any = None,
                 metadata_directory: str | None = None) -> str:
     """Writes the wheel into a folder, and gives its name."""
-    sources = sorted(file for file in (HERE / "dosolve").iterdir() if file.is_file())
     return _write_wheel(wheel_directory, {str(file.relative_to(HERE)): file.read_bytes()
-                                          for file in sources})
+                                          for file in _sources()})
 
 
 def build_editable(wheel_directory: str, config_settings: Any = None,
@@ -73,6 +78,6 @@ def build_sdist(sdist_directory: str, config_settings: Any = None) -> str:
     stem = f"{project['name']}-{project['version']}"
     with tarfile.open(Path(sdist_directory, f"{stem}.tar.gz"), "w:gz") as archive:
         for file in [HERE / "pyproject.toml", HERE / "README.md", Path(__file__),
-                     *sorted((HERE / "dosolve").glob("*.*"))]:
+                     *_sources()]:
             archive.add(file, f"{stem}/{file.relative_to(HERE)}")
     return f"{stem}.tar.gz"

@@ -11,7 +11,7 @@ from functools import partial
 from pathlib import Path
 from typing import Any
 
-from . import __version__, pictures
+from . import __version__, explore, pictures
 from .errors import DosolveError, InputRefusedError, InvalidError, ProgramMissingError
 from .game import SCALE, SIDES, Field, Side
 from .measuring import load_player, load_table, measure, plan_of, solved_text
@@ -40,6 +40,7 @@ _EXAMPLES = """examples:
   python3 -m dosolve measure examples/goofspiel_mixed.json python/examples/even.py
   python3 -m dosolve exploit examples/goofspiel_mixed.report one
   python3 -m dosolve show examples/goofspiel_mixed.report -o mixed.svg
+  python3 -m dosolve explore examples/goofspiel_five.report -o five.html
   python3 -m dosolve sweep positions.jsonl -o results.jsonl
   python3 -m dosolve table python/examples/soccer.py -o soccer.json
 
@@ -243,6 +244,18 @@ def _show(words: argparse.Namespace) -> None:
         _print_record({"output": str(words.output)})
 
 
+def _explore(words: argparse.Namespace) -> None:
+    sources = [words.report, *([words.against] if words.against else [])]
+    _require_output(words.output, *sources)
+    report, against = (path and _report(path) for path in (words.report, words.against))
+    made = explore.save(report, words.output, against, words.most_states)
+    if words.json:
+        _print_record({"output": str(words.output), "states": made.states,
+                       "is_whole": made.is_whole})
+    else:
+        print(f"{words.output}: {made}")
+
+
 def _picture(words: argparse.Namespace) -> Any:
     """The figure that the options ask for."""
     if words.progress:
@@ -406,7 +419,7 @@ def _parser() -> argparse.ArgumentParser:
                         help="the package's version, and where the program is")
     commands = parser.add_subparsers(required=True, metavar="COMMAND")
     for add in (_add_solve, _add_check, _add_exploit, _add_measure, _add_match, _add_tournament,
-                _add_show, _add_sweep, _add_table):
+                _add_show, _add_explore, _add_sweep, _add_table):
         add(commands)
     return parser
 
@@ -526,6 +539,18 @@ def _add_show(commands: Any) -> None:
                              "turns on)")
     parser.add_argument("--progress", action="store_true",
                         help="REPORT has lines of progress: draw bounds over time")
+
+
+def _add_explore(commands: Any) -> None:
+    parser = _added(commands, "explore", _explore, "a page to click through, of a report")
+    parser.add_argument("report", type=Path, metavar="REPORT")
+    parser.add_argument("-o", "--output", type=Path, required=True, metavar="PAGE.html",
+                        help="one file for any browser, which asks no network")
+    parser.add_argument("--against", type=Path, metavar="REPORT",
+                        help="a report with a player's plan, as `measure --keep` writes it: lists "
+                             "where the player loses")
+    parser.add_argument("--most-states", type=int, default=explore.MOST_STATES, metavar="N",
+                        help=f"the states of a large report ({explore.MOST_STATES})")
 
 
 def _add_sweep(commands: Any) -> None:

@@ -131,7 +131,7 @@ class Data(unittest.TestCase):
         self.assertEqual((cut["exact"], data_of(explore.page(report, most_states=5).text)["exact"]), (False, True))
         # Each turn is played once in a game, so that the chances of equally many cards sum to 1.
         for cards in range(1, 6):
-            layer = [record[2] for record in whole if len(record) > 4 and report.game.state(int(record[0])).rank == cards]
+            layer = (record[2] for record in whole if report.game.state(int(record[0])).rank == cards)
             self.assertAlmostEqual(sum(layer), 1, places=3)
 
     def test_a_row_that_is_not_played_has_no_bound(self):
@@ -207,7 +207,8 @@ class Text(unittest.TestCase):
         told = {file.stem: data_of(explore.page(dosolve.Report.load(file)).text)["about"] for file in EXAMPLES}
         self.assertEqual(told["goofspiel_mixed"], "One 1 3, two 2 3, prizes 1 1, score 0, pay margin.")
         self.assertIn("edges 0-1 0-3", told["pursuit_grid"])
-        self.assertEqual(told["table_soccer"], "Table of 643 states, 640 with moves; at most 5 moves a side and 4 turns.")
+        self.assertEqual(told["table_soccer"],
+                         "Table of 643 states, 640 with moves; at most 5 moves a side and 4 turns.")
 
     def test_a_grid_is_drawn_as_it_is_numbered(self):
         def edges(height, width, diagonals):

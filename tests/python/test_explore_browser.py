@@ -8,9 +8,9 @@ from unittest import mock
 
 import dosolve
 import explore_browser
-from dosolve import SIDES, explore
+from dosolve import SIDES
 from support import TOP
-from test_explore import FIVE, MATCH_THE_PRIZE, drawn_table, lowest_and_next, player_report
+from test_explore import FIVE, MATCH_THE_PRIZE, drawn_table, player_report
 
 KINDS = ("goofspiel_mixed", "goofspiel_drawn_mixed", "oshi_zumo_mixed", "oshi_zumo_wide", "tron_corners",
          "pursuit_grid", "table_soccer", "table_best_of_three", "table_blotto")
@@ -237,7 +237,8 @@ class Pages(unittest.TestCase):
         self.assertEqual(browser.text(".card.prize"), "3")
 
     def test_a_turn_without_a_choice_has_its_draws_at_once(self):
-        table = dosolve.Table([[[[[1, 180180], [2, 180180]]]], [[2, 3], [3, 2]], 1, -1], ("toss", "play", "won", "lost"))
+        names = ("toss", "play", "won", "lost")
+        table = dosolve.Table([[[[[1, 180180], [2, 180180]]]], [[2, 3], [3, 2]], 1, -1], names)
         self.show(dosolve.Report.of(*(dosolve.Sheet(table, side, 8192) for side in SIDES)))
         self.assertEqual(self.browser.texts("[data-draw]"), ["play 50.0%", "won 50.0%"])
         self.browser.click("[data-draw]", 0)
@@ -249,8 +250,8 @@ class Pages(unittest.TestCase):
         self.show(solved, against=against)
         self.assertIn("One: the player’s plan guarantees −5, the solver’s −0.000003. It gives away 4.999997.",
                       browser.text("#given"))
-        adds = "[...document.querySelectorAll('.losses td:nth-child({})')].map(each => " \
-               "Number(each.title.replace('−', '-')))"
+        adds = ("[...document.querySelectorAll('.losses td:nth-child({})')].map(each => "
+                "Number(each.title.replace('−', '-')))")
         found = browser.run(adds.format(7))
         self.assertEqual(found, sorted(found, reverse=True))
         self.assertAlmostEqual(sum(found), 4.999997 + 4.999996, places=5)
@@ -318,8 +319,8 @@ class Pages(unittest.TestCase):
     def test_boards_in_the_names_of_a_table(self):
         self.show(dosolve.Report.load(TOP / "examples" / "table_soccer.report"))
         self.assertEqual(self.browser.run("document.querySelectorAll('figure rect').length"), 20)
-        self.assertEqual(self.browser.run("[...document.querySelectorAll('figure text')].map(each => each.textContent)"),
-                         ["(1)", "2"])
+        marks = "[...document.querySelectorAll('figure text')].map(each => each.textContent)"
+        self.assertEqual(self.browser.run(marks), ["(1)", "2"])
         for name in ("payoff 1/2", "0.5/1.5", "a/b", "ab./cd"):
             self.assertIsNone(self.browser.run(f"boardOf({name!r})"), name)
         self.assertEqual(self.browser.run("boardOf('x to move: x.o/.../..o')"),

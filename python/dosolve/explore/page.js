@@ -366,7 +366,7 @@ function drawGrid(found) {
       const [dx, dy] = STEPS[found.names[side][move]];
       if (share) nodes.push(...arrow(share, cx, cy, dx, dy, colour));
       // One's chances are in the upper half of a cell, Two's in the lower: they never meet.
-      nodes.push(svg("text", {x: cx + dx * S, y: cy + dy * S + (side ? 1 : -1) * 19,
+      nodes.push(svg("text", {x: cx + dx * S, y: cy + dy * S + (side ? 1 : -1) * (dy ? 11 : 19),
         style: `fill:${colour};font-size:11px`}, percent(share)));
     });
   }
@@ -607,9 +607,11 @@ function matrixTable(found) {
   all.yields.map(value => sum(0, value, value < worst[0] + 2))));
   return el("table", {class: "matrix"}, el("thead", {}, top), el("tbody", {}, lines));
 }
+// A matrix of many columns has the whole width of the page.
+const isWide = found => found.names[1].length > 8;
 function matrixPanel(found) {
   const drawn = found.cells.some(each => typeof each !== "number");
-  return el("section", {"aria-labelledby": "leads"},
+  return el("section", {"aria-labelledby": "leads", class: isWide(found) ? "wide" : false},
     el("h2", {id: "leads"}, "Where each pair of moves leads"),
     el("p", {class: "small dim"},
       "What is guaranteed then, in payoffs of One. A click leads there."),
@@ -745,16 +747,17 @@ function renderTrail() {
   $("trail").scrollLeft = $("trail").scrollWidth;
 }
 function render() {
-  const found = here(), focus = held(), main = $("main");
+  const found = here(), focus = held();
   for (const box of document.querySelectorAll("details")) opened[box.id] = box.open;
   const title = turns.length ? found.end ? `After ${count(turns.length, "turn")}: the end`
     : `Turn ${turns.length + 1}` : first ? "Opened by a link" : "Start";
   const left = [wherePanel(found, title), found.end ? null : boundsPanel(found)];
   const right = found.end ? [endPanel(found)] : [
     el("div", {class: "sides"}, movesPanel(found, 0), movesPanel(found, 1)), drawsPanel(found),
-    matrixPanel(found)];
-  main.replaceChildren(el("div", {class: "grid"}, el("div", {class: "column"}, left),
-    el("div", {class: "column"}, right), lossesPanel()));
+    isWide(found) ? null : matrixPanel(found)];
+  $("main").replaceChildren(el("div", {class: "grid"}, el("div", {class: "column"}, left),
+    el("div", {class: "column"}, right), !found.end && isWide(found) ? matrixPanel(found) : null,
+    lossesPanel()));
   renderTrail();
   $("back").disabled = !turns.length;
   $("home").disabled = !turns.length && !first;

@@ -267,6 +267,18 @@ class Losses(unittest.TestCase):
                 with self.subTest(name, side=side):
                     self.check(solved, player_report(solved, side, even), side)
 
+    def test_what_turns_pay_counts_too(self):
+        table = dosolve.Table([[[1, 2], [2, 1]], 1, -1])
+        two = dosolve.Sheet(table, "two", 8192, [dosolve.Row(0, 0, [4096, 4096])])
+        solved, mine = (dosolve.Report.of(dosolve.Sheet(table, "one", 8192, [dosolve.Row(0, 0, weights)]), two)
+                        for weights in ([4096, 4096], [8192, 0]))
+        for paid, guarantee, reply in ((lambda state, one, two, draw: 0, -1, 1),
+                                       (lambda state, one, two, draw: 10 * one + 3 * two, 1, 0)):
+            with mock.patch("dosolve.explore.losses.turn_payoff", paid):
+                [player] = data_of(explore.page(solved, mine).text)["players"]
+            self.assertEqual(player["guarantee"], guarantee)
+            self.assertEqual(player["losses"], [[0, -guarantee, -guarantee, 1, []]])
+
     def test_ways_lead_to_their_states(self):
         solved = dosolve.Report.load(FIVE)
         data = data_of(explore.page(solved, player_report(solved)).text)

@@ -63,6 +63,9 @@ class Pages(unittest.TestCase):
         """That the page says of its state what the report does."""
         state, browser = self.state(report), self.browser
         self.assertLessEqual(browser.run("document.documentElement.scrollWidth"), width)
+        if width == WIDE:
+            cut = "[...document.querySelectorAll('.scroll')].filter(each => each.scrollWidth > each.clientWidth).length"
+            self.assertEqual(browser.run(cut), 0)
         text = browser.text("main")
         if state.is_end:
             self.assertIn(f"One gets {number(state.payoff * 10**6)},", text)
@@ -136,7 +139,8 @@ class Pages(unittest.TestCase):
     def test_a_page_that_has_a_part_of_the_states(self):
         report = dosolve.Report.load(FIVE)
         self.wander(report, most_states=3)
-        self.assertIn("This page has 3 states with moves, not all of the game", self.browser.text("footer"))
+        self.assertIn("This page has 3 states with moves, not all of the game: 3 of the 395 that both strategies "
+                      "reach together, the likeliest. A dashed cell", self.browser.text("footer"))
 
     def test_clicks(self):
         browser = self.browser
@@ -199,10 +203,12 @@ class Pages(unittest.TestCase):
     def test_games_at_random_are_those_of_both_strategies(self):
         report = dosolve.Report.load(FIVE)
         self.show(report)
+        begun = set()
         for _ in range(12):
             self.browser.key("g")
             turns = [tuple(map(int, text.split(" – "))) for text in self.trail()[1:]]
             self.assertEqual(len(turns), 5)
+            begun.add(turns[0])
             state = report.game.root()
             for one, two in turns:
                 for side, card in zip(SIDES, (one, two)):
@@ -210,6 +216,8 @@ class Pages(unittest.TestCase):
                 state = state.play(one=one, two=two)
             self.assertEqual(self.state(report).key, state.key)
             self.browser.key("Home")
+        # Both play 2 at first in 84 of 100 games.
+        self.assertIn((2, 2), begun)
 
     def test_addresses(self):
         browser, report = self.browser, dosolve.Report.load(FIVE)
@@ -243,6 +251,15 @@ class Pages(unittest.TestCase):
         self.assertEqual(self.browser.texts("[data-draw]"), ["play 50.0%", "won 50.0%"])
         self.browser.click("[data-draw]", 0)
         self.assertEqual(self.trail(), ["Start", "0 – 0, play"])
+
+    def test_a_game_that_is_over_from_the_start(self):
+        game = dosolve.Pursuit(3, [(0, 1), (1, 2)], 1, 1, 2)
+        self.show(dosolve.Report.of(*(dosolve.Sheet(game, side, 8192) for side in SIDES)))
+        self.assertIn("The game is over\nOne gets 1, Two the negative. One wins.",
+                      self.browser.text("main").replace("\n\n", "\n"))
+        self.assertIn("The game is over from the start.", self.browser.text("footer"))
+        self.browser.key("g")
+        self.assertIn("The game is over: Back or Start", self.browser.text("#message"))
 
     def test_where_the_player_loses(self):
         browser, solved = self.browser, dosolve.Report.load(FIVE)

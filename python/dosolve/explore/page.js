@@ -608,7 +608,7 @@ function matrixTable(found) {
   return el("table", {class: "matrix"}, el("thead", {}, top), el("tbody", {}, lines));
 }
 // A matrix of many columns has the whole width of the page.
-const isWide = found => found.names[1].length > 8;
+const isWide = found => found.names[1].length > 7;
 function matrixPanel(found) {
   const drawn = found.cells.some(each => typeof each !== "number");
   return el("section", {"aria-labelledby": "leads", class: isWide(found) ? "wide" : false},
@@ -806,16 +806,18 @@ window.addEventListener("hashchange", arrive);
 function footing() {
   const reached = `${D.exact ? "" : "at least "}${D.reached}`;
   const which = D.whole
-    ? D.inner === 1 ? "This page has the one state with moves. "
+    ? !D.inner ? "The game is over from the start. "
+      : D.inner === 1 ? "This page has the one state with moves. "
       : `This page has all ${D.inner} states with moves that play can reach. `
     : `This page has ${D.inner} states with moves, not all of the game: ` +
       (D.reached > D.likely ? `${D.likely} of the ${reached} that both strategies reach ` +
         "together, the likeliest" : `the ${D.likely} that both strategies reach together`) +
       (D.first > D.likely ? `, ${D.first - D.likely} more where the player loses` : "") +
-      `, and ${D.inner - D.first} that follow these by any moves. A dashed cell of the matrix ` +
-      "leads to a state that is not here; explore --most-states makes a larger page. ";
-  return which + `The report has ${count(D.rows[0], "row")} of One and ${D.rows[1]} of Two; ` +
-    `probabilities are parts of ${D.weight}.`;
+      (D.inner > D.first ? `, ${D.inner - D.first} more that follow these by any moves` : "") +
+      ". A dashed cell of the matrix leads to a state that is not here; explore ";
+  return [which, D.whole ? null : [el("span", {class: "num"}, "--most-states"),
+    " makes a larger page. "], `The report has ${count(D.rows[0], "row")} of One and ` +
+    `${D.rows[1]} of Two; probabilities are parts of ${D.weight}.`];
 }
 function begin() {
   const [low, high] = bounds(0);
@@ -830,7 +832,7 @@ function begin() {
   fill($("notes"), {}, notes.map(note =>
     el("p", {class: "told"}, `Note: ${note.replace(/\.?$/, ".")}`)));
   $("line").hidden = !D.players.length;
-  $("foot").textContent = footing();
+  fill($("foot"), {}, footing());
   arrive();
 }
 begin();

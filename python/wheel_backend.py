@@ -27,15 +27,16 @@ def _metadata(project: dict[str, Any]) -> str:
     return "\n".join([*lines, "Description-Content-Type: text/markdown", "", readme])
 
 
+def _sources() -> list[Path]:
+    """The files of the package, those of its folders and of the pages too."""
+    package = HERE / "dosolve"
+    pages = [file for ending in ("html", "css", "js") for file in package.glob(f"**/*.{ending}")]
+    return sorted([package / "py.typed", *package.glob("**/*.py"), *pages])
+
+
 def _record(name: str, data: bytes) -> str:
     digest = base64.urlsafe_b64encode(hashlib.sha256(data).digest()).rstrip(b"=").decode()
     return f"{name},sha256={digest},{len(data)}\n"
-
-
-def _sources() -> list[Path]:
-    """The files of the package, those of its pages too."""
-    return sorted(file for file in (HERE / "dosolve").rglob("*")
-                  if file.is_file() and file.suffix != ".pyc")
 
 
 def _write_wheel(folder: str, files: dict[str, bytes]) -> str:

@@ -272,8 +272,8 @@ class Losses(unittest.TestCase):
         two = dosolve.Sheet(table, "two", 8192, [dosolve.Row(0, 0, [4096, 4096])])
         solved, mine = (dosolve.Report.of(dosolve.Sheet(table, "one", 8192, [dosolve.Row(0, 0, weights)]), two)
                         for weights in ([4096, 4096], [8192, 0]))
-        for paid, guarantee, reply in ((lambda state, one, two, draw: 0, -1, 1),
-                                       (lambda state, one, two, draw: 10 * one + 3 * two, 1, 0)):
+        for paid, guarantee in ((lambda state, one, two, draw: 0, -1),
+                                (lambda state, one, two, draw: 10 * one + 3 * two, 1)):
             with mock.patch("dosolve.explore.losses.turn_payoff", paid):
                 [player] = data_of(explore.page(solved, mine).text)["players"]
             self.assertEqual(player["guarantee"], guarantee)

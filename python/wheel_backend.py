@@ -28,9 +28,10 @@ def _metadata(project: dict[str, Any]) -> str:
 
 
 def _sources() -> list[Path]:
-    """The files of the package, those of its folders too."""
+    """The files of the package, those of its folders and of the pages too."""
     package = HERE / "dosolve"
-    return sorted([package / "py.typed", *package.glob("**/*.py")])
+    pages = [file for ending in ("html", "css", "js") for file in package.glob(f"**/*.{ending}")]
+    return sorted([package / "py.typed", *package.glob("**/*.py"), *pages])
 
 
 def _record(name: str, data: bytes) -> str:

@@ -45,7 +45,8 @@ Any finite game:
 A `Position` is a game with what is asked, a `Report` has bounds and both plans, a `Sheet` is a
 plan. Games are `Goofspiel`, `GoofspielDrawn`, `OshiZumo`, `Tron`, `Pursuit` and `Table`; a state
 has `moves(side)`, `play(one=.., two=..)`, `is_end` and `payoff`. Both sides are `SIDES`. Pictures
-are in `dosolve.pictures`, OpenSpiel's names in `dosolve.openspiel`, limits in `dosolve.limits`.
+are in `dosolve.pictures`, a page to click through is made by `report.explore(path)`, OpenSpiel's
+names are in `dosolve.openspiel`, limits in `dosolve.limits`.
 Bounds, gaps and resolutions are millionths of a payoff, what One gets; payoffs are whole; moves,
 draws and cells are numbered from 0. `dosolve-py --help` is the same on a command line.
 """
@@ -78,6 +79,7 @@ from .solver.progress import Bar, PlanProgress, Progress, read_progress
 from .sweeps import Swept, read_positions, sweep
 from .tables.gambit import save_gambit
 from .tables.table import Table, TableState
+from . import explore  # last, since it takes the names above from here
 
 __version__ = "2.0.0"
 
@@ -99,7 +101,7 @@ __all__ = [
     "TableState",
     # Types and constants.
     "Side", "SIDES", "Move", "Choice", "Player", "SCALE", "CHANCE", "GAMES", "ASKED", "OUTCOMES",
-    "DIRECTIONS", "limits", "openspiel", "pictures",
+    "DIRECTIONS", "explore", "limits", "openspiel", "pictures",
     # Errors.
     "DosolveError", "InvalidError", "PlayerError", "ProgramMissingError", "ProgramFailedError",
     "ProgramTimeoutError", "RefusedError", "InputRefusedError", "ReportRefusedError",

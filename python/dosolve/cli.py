@@ -13,7 +13,7 @@ from functools import partial
 from pathlib import Path
 from typing import TYPE_CHECKING, ClassVar
 
-from . import __version__, pictures
+from . import __version__, explore, pictures
 from .errors import DosolveError, InvalidError, ProgramMissingError
 from .files import naming, read_position, read_report, read_table, require_other, require_output
 from .games.game import SCALE, SIDES, Field, Side
@@ -39,6 +39,7 @@ _EXAMPLES = """examples:
   python3 -m dosolve measure examples/goofspiel_mixed.json python/examples/even.py
   python3 -m dosolve exploit examples/goofspiel_mixed.report one
   python3 -m dosolve show examples/goofspiel_mixed.report -o mixed.svg
+  python3 -m dosolve explore examples/goofspiel_five.report -o five.html
   python3 -m dosolve sweep positions.jsonl -o results.jsonl
   python3 -m dosolve table python/examples/soccer.py -o soccer.json
 
@@ -332,6 +333,35 @@ class Show(Command):
         return pictures.figure(report, key, words.zoom, words.players)
 
 
+class Explore(Command):
+    """Pages to click through."""
+
+    name = "explore"
+    about = "a page to click through, of a report"
+
+    def add_arguments(self, parser: ArgumentParser) -> None:
+        super().add_arguments(parser)
+        parser.add_argument("report", type=Path, metavar="REPORT")
+        parser.add_argument("-o", "--output", type=Path, required=True, metavar="PAGE.html",
+                            help="one file for any browser, which asks no network")
+        parser.add_argument("--against", type=Path, metavar="REPORT",
+                            help="a report with a player's plan, as `measure --keep` writes it: "
+                                 "lists where the player loses")
+        parser.add_argument("--most-states", type=int, default=explore.MOST_STATES, metavar="N",
+                            help=f"the states of a large report ({explore.MOST_STATES})")
+
+    def run(self, words: Namespace) -> None:
+        sources = [words.report, *([words.against] if words.against else [])]
+        require_output(words.output, *sources)
+        against = read_report(words.against) if words.against else None
+        made = explore.save(read_report(words.report), words.output, against, words.most_states)
+        if words.json:
+            _print_record({"output": str(words.output), "states": made.states,
+                           "is_whole": made.is_whole})
+        else:
+            print(f"{words.output}: {made}")
+
+
 class Sweep(Command):
     """Many positions."""
 
@@ -412,7 +442,7 @@ class MakeTable(Command):
 
 
 COMMANDS: tuple[Command, ...] = (Solve(), Check(), Exploit(), Measure(), Match(), Tournament(),
-                                 Show(), Sweep(), MakeTable())
+                                 Show(), Explore(), Sweep(), MakeTable())
 """All commands, in the order of the help."""
 
 

@@ -32,7 +32,7 @@ if TYPE_CHECKING:
 _COLOURS: dict[Side, str] = {"one": "#1f6fb4", "two": "#c8501e"}
 _BOUNDS: tuple[tuple[Side, str], ...] = (("one", "lower"), ("two", "upper"))
 _STEPS = ((-1, 0), (0, 1), (1, 0), (0, -1))
-_TITLES = {
+TITLES = {
     "goofspiel": "Goofspiel", "goofspiel_drawn": "Goofspiel with drawn prizes",
     "oshi_zumo": "Oshi-Zumo", "tron": "Tron", "pursuit": "Pursuit on a graph",
     "table": "Table",
@@ -117,7 +117,7 @@ def _title(report: Report, state: State, key: int | None) -> str:
     else:
         words = [cut(f"{name} {_shown(value)}", 48)
                  for name, value in report.game.record().items()]
-    lines = [f"{_TITLES.get(report.game.name, report.game.name)}: {words[0]}"]
+    lines = [f"{TITLES.get(report.game.name, report.game.name)}: {words[0]}"]
     for word in words[1:]:
         if len(lines[-1]) + len(word) > 80:
             lines[-1] += ","
@@ -440,7 +440,7 @@ def _grid(axes: Axes, report: Report, root: TronState) -> None:
 def _graph(axes: Axes, report: Report, root: PursuitState) -> None:
     """The graph with both players and the weights of their next moves."""
     game = root.game
-    places = _layout(game.near)
+    places = layout(game.near)
     _plain(axes, f"The graph: One chases Two, {root.rounds} rounds left, probabilities of moves")
     for low, high in sorted(game.pairs):
         axes.plot(*zip(places[low], places[high]), color="#999999", linewidth=1.2, zorder=1)
@@ -466,7 +466,7 @@ def _graph(axes: Axes, report: Report, root: PursuitState) -> None:
               transform=axes.transAxes)
 
 
-def _layout(near: tuple[tuple[int, ...], ...]) -> list[tuple[float, float]]:
+def layout(near: tuple[tuple[int, ...], ...]) -> list[tuple[float, float]]:
     """Places of nodes in the plane whose distances are about those in the graph: stress
     majorization, the best of some starts."""
     steps = [_distances(near, node) for node in range(len(near))]

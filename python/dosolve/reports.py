@@ -281,6 +281,13 @@ class Report:
         Path(path).write_text(self.text())
         save_names(self.game, path)
 
+    def explore(self, path: FilePath, against: Report | None = None,
+                most_states: int = 10_000) -> None:
+        """Writes a page to click through, which ends with `.html`; see `dosolve.explore.page`."""
+        from .explore import save
+
+        save(self, path, against, most_states)
+
     @classmethod
     def of(cls, one: Sheet, two: Sheet, asked: int = 0) -> Report:
         """The report of two plans in one game, as of a search that spent no turn; its bounds are

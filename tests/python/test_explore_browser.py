@@ -1,0 +1,378 @@
+"""The pages in a headless browser, where one is installed: what was clicked, and what was to be read then."""
+import random
+import re
+import tempfile
+import unittest
+from pathlib import Path
+from unittest import mock
+
+import dosolve
+import explore_browser
+from dosolve import SIDES
+from support import TOP
+from test_explore import FIVE, MATCH_THE_PRIZE, drawn_table, player_report
+
+KINDS = ("goofspiel_mixed", "goofspiel_drawn_mixed", "oshi_zumo_mixed", "oshi_zumo_wide", "tron_corners",
+         "pursuit_grid", "table_soccer", "table_best_of_three", "table_blotto")
+WIDE, PHONE = 1300, 390
+TURNS = 6
+"""Random turns on each page, at each width."""
+
+
+def number(bound):
+    """A bound as the page writes it."""
+    return f"{bound / 10**6:.6f}".rstrip("0").rstrip(".").replace("-", "−")
+
+
+def percent(share):
+    if share in (0, 1):
+        return f"{100 * share:.0f}%"
+    return "<0.1%" if share < 0.0005 else ">99.9%" if share > 0.9995 else f"{int(1000 * share + 0.5) / 10:.1f}%"
+
+
+@unittest.skipUnless(explore_browser.PROGRAM, "no browser is installed")
+class Pages(unittest.TestCase):
+    @classmethod
+    def setUpClass(cls):
+        folder = tempfile.TemporaryDirectory()
+        cls.addClassCleanup(folder.cleanup)
+        cls.folder = Path(folder.name)
+        cls.browser = explore_browser.Browser()
+        cls.addClassCleanup(cls.browser.close)
+
+    def setUp(self):
+        self.browser.errors.clear()
+        self.browser.wide(WIDE)
+
+    def tearDown(self):
+        self.assertEqual(self.browser.errors, [])
+
+    def show(self, report, fragment="", **more):
+        """Opens the page of a report."""
+        file = self.folder / "page.html"
+        report.explore(file, **more)
+        return self.browser.open(file, fragment)
+
+    def state(self, report):
+        return report.game.state(int(self.browser.run("here().key")))
+
+    def trail(self):
+        return self.browser.texts("#trail button")
+
+    def read(self, report, width):
+        """That the page says of its state what the report does."""
+        state, browser = self.state(report), self.browser
+        self.assertLessEqual(browser.run("document.documentElement.scrollWidth"), width)
+        if width == WIDE:
+            cut = "[...document.querySelectorAll('.scroll')].filter(each => each.scrollWidth > each.clientWidth).length"
+            self.assertEqual(browser.run(cut), 0)
+        text = browser.text("main")
+        if state.is_end:
+            self.assertIn(f"One gets {number(state.payoff * 10**6)},", text)
+            return
+        for at, side in enumerate(SIDES):
+            row = report.sheet(side).row(state)
+            names = browser.texts(f'[data-side="{at}"] .name')
+            self.assertEqual(names, list(state.names(side)))
+            shares = [share.split("\n")[0] for share in browser.texts(f'[data-side="{at}"] .share')]
+            wanted = [percent(weight / report.weight) for weight in row.weights] if row else ["first"] + [""] * 40
+            self.assertEqual(shares, wanted[:len(names)])
+            words = ("gets One at least ", "holds One to at most ")[at]
+            self.assertIn(f"{side.capitalize()}’s strategy {words}{number(row.bound)}" if row else
+                          f"{side.capitalize()}’s strategy has no row here", text)
+        self.read_matrix(report, state)
+
+    def read_matrix(self, report, state):
+        labels = self.browser.run("[...document.querySelectorAll('[data-cell]')].map(each => each.ariaLabel)")
+        cells = [(one, two, bounds) for one, line in enumerate(report.stage(state)) for two, bounds in enumerate(line)]
+        self.assertEqual(len(labels), len(cells))
+        for label, (one, two, bounds) in zip(labels, cells):
+            head = f"One {state.names('one')[one]}, Two {state.names('two')[two]}: "
+            self.assertTrue(label.startswith(head), label)
+            told = label[len(head):].replace("−", "-")
+            found = re.findall(r"(from|to|at least|at most) (-?\d+(?:\.\d+)?)", told)
+            for word, value in found:
+                self.assertAlmostEqual(float(value), float(bounds[word in ("to", "at most")]), places=5)
+            after = [state for _, state in state.outcomes(one, two)]
+            known = [all(state.is_end or report.sheet(side).row(state) for state in after) for side in SIDES]
+            self.assertTrue(found or not any(known), label)
+            self.assertEqual(", the game ends" in told, all(state.is_end for state in after))
+
+    def turn(self, report, source):
+        """Plays a random turn by clicks, and looks where it leads."""
+        state, before = self.state(report), self.browser.run("location.hash")
+        moves = [source.randrange(len(state.moves(side))) for side in SIDES]
+        outcomes, draw = state.outcomes(*moves), 0
+        for side, move in enumerate(moves):
+            if len(state.moves(SIDES[side])) > 1 or len(state.moves(SIDES[1 - side])) == 1 == side:
+                self.browser.click(f'[data-side="{side}"][data-move="{move}"]')
+        if len(outcomes) > 1:
+            draw = source.randrange(len(outcomes))
+            self.browser.click(f'[data-draw="{draw}"]')
+        after = outcomes[draw][1]
+        if self.browser.run("location.hash") != before:
+            self.assertEqual(self.state(report).key, after.key)
+            return
+        message = self.browser.text("#message")
+        self.assertIn("is not on this page", message)
+        for side, word in zip(SIDES, ("at least", "at most")):
+            row = report.sheet(side).row(after)
+            self.assertIn(f"{word} {number(row.bound)}" if row else "", message)
+
+    def wander(self, report, **more):
+        source = random.Random(3)
+        for width in (WIDE, PHONE):
+            self.browser.wide(width)
+            self.show(report, **more)
+            for _ in range(TURNS):
+                self.read(report, width)
+                if self.state(report).is_end:
+                    self.browser.click("#home")
+                else:
+                    self.turn(report, source)
+
+    def test_each_kind_of_game(self):
+        for name in KINDS:
+            with self.subTest(name):
+                self.wander(dosolve.Report.load(TOP / "examples" / f"{name}.report"))
+
+    def test_a_page_that_has_a_part_of_the_states(self):
+        report = dosolve.Report.load(FIVE)
+        self.wander(report, most_states=3)
+        self.assertIn("This page has 3 states with moves, not all of the game: 3 of the 395 that both strategies "
+                      "reach together, the likeliest. A dashed cell", self.browser.text("footer"))
+
+    def test_clicks(self):
+        browser = self.browser
+        self.show(dosolve.Report.load(TOP / "examples" / "goofspiel_mixed.report"))
+        browser.click('[data-side="0"][data-move="1"]')
+        self.assertEqual(browser.run("document.querySelector('[aria-pressed=true]').ariaLabel"), "One plays 3: 50.0%")
+        browser.click('[data-side="1"][data-move="0"]')
+        self.assertEqual((self.trail(), browser.run("location.hash")), (["Start", "3 – 2"], "#1.0"))
+        self.assertEqual(browser.text(".score"), "+1")
+        self.assertEqual(browser.texts(".card.gone"), ["3", "2"])
+        # Each side has one card left, so that it is chosen already: one click plays it.
+        browser.click('[data-side="0"][data-move="0"]')
+        self.assertEqual(self.trail(), ["Start", "3 – 2", "1 – 3"])
+        self.assertIn("The game is over", browser.text("main"))
+        browser.click("#trail button", 1)
+        self.assertEqual(self.trail(), ["Start", "3 – 2"])
+        browser.run("history.back()")
+        browser.run("new Promise(done => setTimeout(done, 200))")
+        self.assertIn("The game is over", browser.text("main"))
+        browser.click("#back")
+        browser.click("#home")
+        self.assertEqual(self.trail(), ["Start"])
+        browser.click(".card.held", 0)
+        browser.click(".card.held", 3)
+        self.assertEqual(self.trail(), ["Start", "1 – 3"])
+        browser.click("#home")
+        browser.click("[data-cell]", 3)
+        self.assertEqual(self.trail(), ["Start", "3 – 3"])
+
+    def test_keys(self):
+        browser, focus = self.browser, "document.activeElement.ariaLabel"
+        self.show(dosolve.Report.load(FIVE))
+        for key, wanted in (("ArrowDown", "One plays 1: 4.1%"), ("ArrowDown", "One plays 2: 91.8%"),
+                            ("ArrowRight", "Two plays 2: 91.8%"), ("ArrowUp", "Two plays 1: 4.1%"),
+                            ("ArrowLeft", "One plays 1: 4.1%"), ("ArrowLeft", "One plays 1: 4.1%")):
+            browser.key(key)
+            self.assertEqual(browser.run(focus), wanted)
+        browser.key("Enter")
+        browser.key("ArrowRight")
+        browser.key("Enter")
+        self.assertEqual(self.trail(), ["Start", "1 – 1"])
+        # The focus stays at the moves, so that the next turn can be chosen.
+        self.assertTrue(browser.run(focus).startswith("Two plays 2"))
+        browser.key("r")
+        self.assertEqual(len(self.trail()), 3)
+        browser.key("g")
+        self.assertEqual(len(self.trail()), 6)
+        self.assertIn("The game is over", browser.text("main"))
+        browser.key("b")
+        self.assertEqual(len(self.trail()), 5)
+        browser.key("Home")
+        self.assertEqual(self.trail(), ["Start"])
+        browser.run("document.querySelector('[data-cell]').focus()")
+        for key in ("ArrowDown", "ArrowRight", "ArrowRight", "ArrowUp"):
+            browser.key(key)
+        self.assertTrue(browser.run(focus).startswith("One 1, Two 3: from 1.56"))
+        browser.key("Enter")
+        self.assertEqual(self.trail(), ["Start", "1 – 3"])
+
+    def test_games_at_random_are_those_of_both_strategies(self):
+        report = dosolve.Report.load(FIVE)
+        self.show(report)
+        begun = set()
+        for _ in range(12):
+            self.browser.key("g")
+            turns = [tuple(map(int, text.split(" – "))) for text in self.trail()[1:]]
+            self.assertEqual(len(turns), 5)
+            begun.add(turns[0])
+            state = report.game.root()
+            for one, two in turns:
+                for side, card in zip(SIDES, (one, two)):
+                    self.assertGreater(report.sheet(side).probabilities(state)[card], 0)
+                state = state.play(one=one, two=two)
+            self.assertEqual(self.state(report).key, state.key)
+            self.browser.key("Home")
+        # Both play 2 at first in 84 of 100 games.
+        self.assertIn((2, 2), begun)
+
+    def test_addresses(self):
+        browser, report = self.browser, dosolve.Report.load(FIVE)
+        self.show(report, "#0.0,0.0,0.1")
+        self.assertEqual(self.trail(), ["Start", "1 – 1", "2 – 2", "3 – 4"])
+        key = report.game.state_after([(1, 2), (2, 1)]).key
+        file = self.folder / "page.html"
+        browser.open(file, f"#key={key}")
+        self.assertEqual(self.state(report).key, key)
+        self.assertEqual(len(self.trail()), 3)
+        for fragment, told in (("#1.7", "goes further"), ("#key=99", "no state with the key 99"),
+                               ("#nonsense", "names no turns"), ("#..,", "names no turns")):
+            browser.open(file, fragment)
+            self.assertIn(told, browser.text("#message"))
+            self.assertEqual(self.trail(), ["Start"])
+
+    def test_draws(self):
+        browser = self.browser
+        self.show(dosolve.Report.load(TOP / "examples" / "goofspiel_drawn_mixed.report"))
+        browser.click("[data-cell]", 1)
+        self.assertEqual(browser.texts("[data-draw]"), ["prize 1 50.0%", "prize 3 50.0%"])
+        self.assertEqual(browser.run("document.activeElement.dataset.draw"), "0")
+        browser.click("[data-draw]", 1)
+        self.assertEqual(self.trail(), ["Start", "1 – 4, prize 3"])
+        self.assertEqual(browser.text(".card.prize"), "3")
+
+    def test_a_turn_without_a_choice_has_its_draws_at_once(self):
+        names = ("toss", "play", "won", "lost")
+        table = dosolve.Table([[[[[1, 180180], [2, 180180]]]], [[2, 3], [3, 2]], 1, -1], names)
+        self.show(dosolve.Report.of(*(dosolve.Sheet(table, side, 8192) for side in SIDES)))
+        self.assertEqual(self.browser.texts("[data-draw]"), ["play 50.0%", "won 50.0%"])
+        self.browser.click("[data-draw]", 0)
+        self.assertEqual(self.trail(), ["Start", "0 – 0, play"])
+
+    def test_a_game_that_is_over_from_the_start(self):
+        game = dosolve.Pursuit(3, [(0, 1), (1, 2)], 1, 1, 2)
+        self.show(dosolve.Report.of(*(dosolve.Sheet(game, side, 8192) for side in SIDES)))
+        self.assertIn("The game is over\nOne gets 1, Two the negative. One wins.",
+                      self.browser.text("main").replace("\n\n", "\n"))
+        self.assertIn("The game is over from the start.", self.browser.text("footer"))
+        self.browser.key("g")
+        self.assertIn("The game is over: Back or Start", self.browser.text("#message"))
+
+    def test_where_the_player_loses(self):
+        browser, solved = self.browser, dosolve.Report.load(FIVE)
+        against = dosolve.Report.load(MATCH_THE_PRIZE)
+        self.show(solved, against=against)
+        self.assertIn("One: the player’s plan guarantees −5, the solver’s −0.000003. It gives away 4.999997.",
+                      browser.text("#given"))
+        adds = ("[...document.querySelectorAll('.losses td:nth-child({})')].map(each => "
+                "Number(each.title.replace('−', '-')))")
+        found = browser.run(adds.format(7))
+        self.assertEqual(found, sorted(found, reverse=True))
+        self.assertAlmostEqual(sum(found), 4.999997 + 4.999996, places=5)
+        self.assertEqual(set(browser.texts(".losses td:nth-child(5)")), {"100%"})
+        for sort, column in ((1, 6), (2, 8)):
+            browser.click(f'[data-sort="{sort}"]')
+            found = browser.run(adds.format(column))
+            self.assertEqual((found, len(found)), (sorted(found, reverse=True), 20))
+            self.assertEqual(browser.run("document.activeElement.dataset.sort"), str(sort))
+        browser.click("#all")
+        self.assertGreater(len(browser.texts(".losses tbody tr")), 90)
+        link = browser.texts(".losses a")[9]
+        browser.click(".losses a", 9)
+        self.assertEqual(browser.run("document.querySelector('figure').ariaLabel"), link)
+        self.assertIn("Striped: the player’s plan, which guarantees", browser.text("main"))
+
+    def test_the_line_in_which_the_player_loses(self):
+        solved = dosolve.Report.load(FIVE)
+        against = player_report(solved, "one", lambda state: [1] + [0] * (len(state.moves("one")) - 1))
+        self.show(solved, against=against)
+        self.assertIn("hurts the player most", self.browser.text('[data-side="1"][data-move="1"]'))
+        self.browser.key("p")
+        self.assertTrue(self.browser.run("document.getElementById('player').checked"))
+        for _ in range(3):
+            self.browser.key("g")
+            self.assertEqual(self.state(solved).payoff, dosolve.respond(against.one).value)
+            self.browser.key("Home")
+
+    def test_without_a_player_there_is_nothing_of_it(self):
+        self.show(dosolve.Report.load(FIVE))
+        self.assertFalse(self.browser.run("document.getElementById('line').offsetParent !== null"))
+        self.assertNotIn("player", self.browser.text("body"))
+        self.show(dosolve.Report.load(FIVE), against=dosolve.Report.load(FIVE))
+        self.assertIn("Both reports have the same plans.", self.browser.text("main"))
+
+    def test_what_turns_pay(self):
+        paid = "dosolve.explore.{}.turn_payoff"
+        with mock.patch(paid.format("states"), lambda state, one, two, draw: 5 * one - two):
+            self.show(drawn_table())
+        browser = self.browser
+        labels = browser.run("[...document.querySelectorAll('[data-cell]')].map(each => each.ariaLabel)")
+        self.assertEqual(labels[1], "One 0, Two 1: from 0 to 0, of which this turn pays −1, the game ends")
+        self.assertEqual(labels[3], "One 1, Two 1: no row for what follows, of which this turn pays +4")
+        browser.click("[data-cell]", 3)
+        self.assertEqual(self.trail(), ["Start", "1 – 1 (pays +4)"])
+        self.assertEqual(browser.text("#paid"), "+4")
+        browser.click("[data-cell]", 1)
+        self.assertEqual(browser.text("#paid"), "+3")
+
+    def test_a_report_that_check_refuses(self):
+        five = dosolve.Report.load(FIVE)
+        row = five.one.row(five.game.root())
+        rows = [dosolve.Row(each.key, each.bound + 10**6 * (each is row), each.weights) for each in five.one.rows]
+        one = dosolve.Sheet(five.game, "one", five.weight, rows)
+        self.show(dosolve.Report.of(one, five.two))
+        self.assertIn("But the weights of this row prove no more than", self.browser.text("main"))
+        self.show(five)
+        self.assertNotIn("But the weights", self.browser.text("main"))
+        self.assertEqual(self.browser.text("#notes"), "")
+        short = dosolve.Report.of(dosolve.Sheet(five.game, "one", five.weight), five.two)
+        wrong = dosolve.Report.read(short.text().replace(f"lower {short.lower}", "lower 0"))
+        self.show(wrong)
+        self.assertIn("check refuses the report", self.browser.text("#notes"))
+
+    def test_boards_in_the_names_of_a_table(self):
+        self.show(dosolve.Report.load(TOP / "examples" / "table_soccer.report"))
+        self.assertEqual(self.browser.run("document.querySelectorAll('figure rect').length"), 20)
+        marks = "[...document.querySelectorAll('figure text')].map(each => each.textContent)"
+        self.assertEqual(self.browser.run(marks), ["(1)", "2"])
+        for name in ("payoff 1/2", "0.5/1.5", "a/b", "ab./cd"):
+            self.assertIsNone(self.browser.run(f"boardOf({name!r})"), name)
+        self.assertEqual(self.browser.run("boardOf('x to move: x.o/.../..o')"),
+                         [["x", ".", "o"], [".", ".", "."], [".", ".", "o"]])
+
+    def test_what_a_screen_reader_finds(self):
+        self.show(dosolve.Report.load(FIVE), against=player_report(dosolve.Report.load(FIVE)))
+        spoken = self.browser.spoken()
+        for role, name in spoken:
+            if role in ("button", "link", "checkbox", "heading", "columnheader", "rowheader", "figure"):
+                self.assertTrue(name.strip(), (role, name))
+        for wanted in (("heading", "Goofspiel: both strategies"), ("navigation", "Turns"),
+                       ("heading", "Where each pair of moves leads"), ("list", "Turns so far"),
+                       ("button", "Random game"), ("rowheader", "One’s strategy gets One at least")):
+            self.assertIn(wanted, [(role, name.strip()) for role, name in spoken])
+        self.assertGreater(sum(role == "cell" for role, _ in spoken), 24)
+        self.browser.click("[data-cell]", 2)
+        self.assertIn("Turn 2: One 2 3 4 5; Two 1 2 4 5; prize 2, then 3 4 5; score −1. One at least 1.56",
+                      self.browser.run("document.getElementById('live').textContent"))
+        # The heading of the state and its picture are one after the other.
+        self.assertEqual(self.browser.run("document.querySelector('figure').ariaLabel"),
+                         "One 2 3 4 5; Two 1 2 4 5; prize 2, then 3 4 5; score −1")
+
+    def test_a_large_page_opens_at_once(self):
+        game = dosolve.Goofspiel(*[range(1, 7)] * 3)
+        sheets = [dosolve.plan(game, side, lambda state, side=side: [1, 1, 1, 0, 0, 0][:len(state.moves(side))],
+                               ask_again=0) for side in SIDES]
+        self.show(dosolve.Report.of(*sheets))
+        self.assertGreater(self.browser.run("D.inner"), 5000)
+        # What the script itself takes, on however busy a machine.
+        took = self.browser.run("performance.timing.domContentLoadedEventEnd - performance.timing.responseEnd")
+        self.assertLess(took, 2000)
+        self.browser.key("g")
+        self.assertIn("The game is over", self.browser.text("main"))
+
+
+if __name__ == "__main__":
+    unittest.main()

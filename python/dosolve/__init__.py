@@ -58,25 +58,27 @@ from .errors import (
     ReportRefused, ReportRefusedError,
 )
 from .exact import BestResponse, expected_of, respond
-from .gambit import save_gambit
-from .game import CHANCE, SCALE, SIDES, Game, Move, Side, State, other
-from .goofspiel import Goofspiel, GoofspielDrawn, GoofspielDrawnState, GoofspielState
-from .histories import HistoryPlayer, live_match
-from .measuring import Measured, Player, load_player, load_table, measure
-from .oshi_zumo import OshiZumo, OshiZumoState
-from .plans import Choice, Row, Sheet, plan, whole_weights
+from .games.game import CHANCE, SCALE, SIDES, Game, Move, Side, State, other
+from .games.goofspiel import Goofspiel, GoofspielDrawn, GoofspielDrawnState, GoofspielState
+from .games.oshi_zumo import OshiZumo, OshiZumoState
+from .games.pursuit import Pursuit, PursuitState
+from .games.tron import DIRECTIONS, Tron, TronState
+from .players.histories import HistoryPlayer, live_match
+from .players.loading import load_player, load_table
+from .players.measuring import Measured, Player, measure
+from .players.plans import Choice, plan, whole_weights
+from .players.sheets import Row, Sheet
+from .players.tournaments import Pairing, Tournament, tournament
 from .positions import ASKED, GAMES, Position, processors
-from .program import (
+from .reports import OUTCOMES, Report
+from .solver.program import (
     Accepted, Match, Solver, Turn, WorstCase, best_response, bounds, check, expected, exploit,
     find_program, match, nash_conv, play, solve,
 )
-from .progress import Bar, PlanProgress, Progress, read_progress
-from .pursuit import Pursuit, PursuitState
-from .reports import OUTCOMES, Report
+from .solver.progress import Bar, PlanProgress, Progress, read_progress
 from .sweeps import Swept, read_positions, sweep
-from .table import Table, TableState
-from .tournaments import Pairing, Tournament, tournament
-from .tron import DIRECTIONS, Tron, TronState
+from .tables.gambit import save_gambit
+from .tables.table import Table, TableState
 from . import explore  # last, since it takes the names above from here
 
 __version__ = "2.0.0"

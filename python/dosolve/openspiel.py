@@ -19,11 +19,12 @@ from collections.abc import Mapping, Sequence
 from typing import Any, Protocol
 
 from .errors import InvalidError
-from .game import CHANCE, SIDES, Game, Move, Side, State
-from .goofspiel import Goofspiel
+from .games.game import CHANCE, SIDES, AnyGame, Move, Side, State
+from .games.goofspiel import Goofspiel
+from .games.oshi_zumo import OshiZumo
 from .limits import MOST_WEIGHT
-from .oshi_zumo import OshiZumo
-from .plans import ASKED_AGAIN, Sheet, plan
+from .players.plans import ASKED_AGAIN, plan
+from .players.sheets import Sheet
 
 CHANCE_PLAYER, SIMULTANEOUS_PLAYER, TERMINAL_PLAYER = -1, -2, -4
 """What `current_player` gives, as in OpenSpiel."""
@@ -86,7 +87,7 @@ class PlayState:
         if self.is_chance_node() or len(actions) != len(SIDES):
             raise InvalidError("apply_actions takes the label of One's move and that of Two's")
         one, two = (int(action) for action in actions)
-        moves = self.state._move("one", one), self.state._move("two", two)
+        moves = self.state.move_labelled("one", one), self.state.move_labelled("two", two)
         self._history += [one, two]
         if len(self.state.chances(*moves)) > 1:
             self._chosen = moves
@@ -120,7 +121,7 @@ class PlayState:
     def action_to_string(self, player: int, action: int) -> str:
         """A label as a word."""
         side = _side(player)
-        return self.state.names(side)[self.state._move(side, action)]
+        return self.state.names(side)[self.state.move_labelled(side, action)]
 
     def num_players(self) -> int:
         """Two."""
@@ -161,7 +162,7 @@ _PARAMETERS: dict[str, dict[str, str]] = {
 """The parameters of OpenSpiel's games with its defaults."""
 
 
-def load_game(text: str) -> Game:
+def load_game(text: str) -> AnyGame:
     """The game of a string of OpenSpiel, such as
     `goofspiel(num_cards=4,points_order=descending,returns_type=point_difference)` or
     `oshi_zumo(coins=10,min_bid=1)`.
@@ -183,7 +184,7 @@ def load_game(text: str) -> Game:
     return _goofspiel(values) if found[1] == "goofspiel" else _oshi_zumo(values)
 
 
-def _goofspiel(values: Mapping[str, str]) -> Game:
+def _goofspiel(values: Mapping[str, str]) -> AnyGame:
     cards = range(1, _whole("num_cards", values) + 1)
     orders = {"ascending": list(cards), "descending": list(reversed(cards))}
     pays = {"win_loss": "win", "point_difference": "margin"}
@@ -197,7 +198,7 @@ def _goofspiel(values: Mapping[str, str]) -> Game:
     return Goofspiel(cards, cards, prizes, 0, pays[values["returns_type"]])
 
 
-def _oshi_zumo(values: Mapping[str, str]) -> Game:
+def _oshi_zumo(values: Mapping[str, str]) -> AnyGame:
     coins, least = _whole("coins", values), _whole("min_bid", values)
     if values["alesia"] not in ("False", "false") or _whole("horizon", values) < coins:
         raise InvalidError("the program has neither alesia nor a horizon below the coins")
@@ -210,7 +211,7 @@ def _whole(name: str, values: Mapping[str, str]) -> int:
     return int(values[name])
 
 
-def new_initial_state(game: Game) -> PlayState:
+def new_initial_state(game: AnyGame) -> PlayState:
     """The root of a game."""
     return PlayState(game.root())
 
@@ -220,7 +221,7 @@ def policy_of(*sheets: Sheet) -> SheetPolicy:
     return SheetPolicy(*sheets)
 
 
-def plan_of_policy(game: Game, side: Side, policy: Policy, weight: int = MOST_WEIGHT,
+def plan_of_policy(game: AnyGame, side: Side, policy: Policy, weight: int = MOST_WEIGHT,
                    ask_again: int = ASKED_AGAIN) -> Sheet:
     """The plan of a policy whose states are `PlayState` and whose actions are labels."""
     player = SIDES.index(side)

@@ -8,22 +8,26 @@ from __future__ import annotations
 
 import math
 import random
-from collections.abc import Sequence
+from collections.abc import Iterator, Sequence
 from dataclasses import dataclass, field, fields, is_dataclass
 from fractions import Fraction
 from pathlib import Path
-from typing import Any
+from typing import TYPE_CHECKING
 
 from .errors import DosolveError, InvalidError
-from .game import CHANCE, SCALE, SIDES, Move, Side, State
-from .goofspiel import GoofspielDrawnState, GoofspielState
-from .plans import Sheet
-from .progress import Progress
-from .pursuit import PursuitState
+from .games.game import CHANCE, SCALE, SIDES, Move, Side, State
+from .games.goofspiel import GoofspielDrawnState, GoofspielState
+from .games.pursuit import PursuitState
+from .games.tron import TronState
+from .players.sheets import Sheet
 from .reports import Report
-from .table import Table, TableState
-from .tron import TronState
+from .solver.progress import Progress
+from .tables.table import Table, TableState
 from .values import FilePath, as_points, cut
+
+if TYPE_CHECKING:
+    from matplotlib.axes import Axes
+    from matplotlib.figure import Figure
 
 _COLOURS: dict[Side, str] = {"one": "#1f6fb4", "two": "#c8501e"}
 _BOUNDS: tuple[tuple[Side, str], ...] = (("one", "lower"), ("two", "upper"))
@@ -53,7 +57,7 @@ def show(report: Report, output: FilePath, key: int | None = None, zoom: bool = 
     save(figure(report, key, zoom, players), output)
 
 
-def save(picture: Any, output: FilePath) -> None:
+def save(picture: Figure, output: FilePath) -> None:
     """Writes a figure into a file, whose ending is the format: `.svg`, `.png` or `.pdf`."""
     path = Path(output)
     kind = path.suffix.removeprefix(".")
@@ -67,7 +71,7 @@ def save(picture: Any, output: FilePath) -> None:
         picture.savefig(path, metadata=dated)
 
 
-def _blank(width: float, height: float) -> Any:
+def _blank(width: float, height: float) -> Figure:
     """An empty figure."""
     try:
         from matplotlib.backends.backend_agg import FigureCanvasAgg
@@ -82,7 +86,7 @@ def _blank(width: float, height: float) -> Any:
 
 
 def figure(report: Report, key: int | None = None, zoom: bool = False,
-           players: Players | None = None) -> Any:
+           players: Players | None = None) -> Figure:
     """The picture of a report as a figure of matplotlib: both plans at the root, or at the state
     with this key, and both bounds there.
 
@@ -135,7 +139,7 @@ def _told(state: State) -> str:
     return ", ".join(f"{name} {_shown(getattr(state, name))}" for name in names)
 
 
-def _shown(value: Any) -> str:
+def _shown(value: object) -> str:
     """A setting as words."""
     if isinstance(value, bool):
         return "yes" if value else "no"
@@ -149,7 +153,7 @@ def _shares(sheet: Sheet, state: State) -> list[float]:
     return [] if state.is_end else [weight / sheet.total for weight in sheet.weights(state)]
 
 
-def _bars(axes: Any, sheet: Sheet, state: State, name: str) -> None:
+def _bars(axes: Axes, sheet: Sheet, state: State, name: str) -> None:
     """The plan of one side at a state, a bar for each move."""
     shares, names = _shares(sheet, state), [cut(word, 14) for word in state.names(sheet.side)]
     without = "" if sheet.row(state) or state.is_end else ", no row: the first move"
@@ -184,7 +188,7 @@ def _percent(share: float, short: bool = False) -> str:
     return "<0.1%" if share < 0.5 else ">99.9%" if share < 1 else "100%"
 
 
-def _axis(axes: Any, report: Report, state: State, is_root: bool, zoom: bool) -> None:
+def _axis(axes: Axes, report: Report, state: State, is_root: bool, zoom: bool) -> None:
     """Both bounds and the gap on the axis of payoffs."""
     bounds = {side: report.bound(side) if is_root else report.sheet(side).bound(state)
               for side in SIDES}
@@ -213,7 +217,7 @@ def _axis(axes: Any, report: Report, state: State, is_root: bool, zoom: bool) ->
               transform=axes.transAxes)
 
 
-def _set_range(axes: Any, report: Report, ends: list[float], zoom: bool) -> None:
+def _set_range(axes: Axes, report: Report, ends: list[float], zoom: bool) -> None:
     """The axis from the least to the greatest payoff, or round the bounds alone."""
     low, high = report.game.low, report.game.high
     if zoom:
@@ -226,7 +230,7 @@ def _set_range(axes: Any, report: Report, ends: list[float], zoom: bool) -> None
     axes.set_xlim(low - room, high + room)
 
 
-def history(steps: Sequence[Progress]) -> Any:
+def history(steps: Sequence[Progress]) -> Figure:
     """The bounds and the gap, or the turns where no bounds are told, over the seconds of a
     search."""
     if not steps:
@@ -248,7 +252,7 @@ def history(steps: Sequence[Progress]) -> Any:
     return picture
 
 
-def _draw_bounds(axes: Any, told: Sequence[Progress]) -> None:
+def _draw_bounds(axes: Axes, told: Sequence[Progress]) -> None:
     """Both bounds over time."""
     for side, word in _BOUNDS:
         values = [(step.lower if side == "one" else step.upper) or 0 for step in told]
@@ -259,7 +263,7 @@ def _draw_bounds(axes: Any, told: Sequence[Progress]) -> None:
     axes.legend(fontsize=8)
 
 
-def _draw_gaps(axes: Any, told: Sequence[Progress]) -> None:
+def _draw_gaps(axes: Axes, told: Sequence[Progress]) -> None:
     """The gap over time on a logarithmic axis, 0 as a millionth. The axis goes from a label to
     another, each of them 1, 2 or 5 times a power of ten, or a power of ten alone where these are
     many."""
@@ -300,7 +304,7 @@ class _Branch:
     branches: list[_Branch] = field(default_factory=list)
 
 
-def tree(report: Report, turns: int = 2, most: int | None = None) -> Any:
+def tree(report: Report, turns: int = 2, most: int | None = None) -> Figure:
     """The first turns where both sides play their plans of a report: the pairs of moves that are
     most probable, at most `most` after each state, with the probability of each; left out, 4, and
     2 from three turns on."""
@@ -356,7 +360,7 @@ def _steps(state: State, report: Report) -> list[tuple[str, Fraction, State]]:
     return found
 
 
-def _place(branch: _Branch, places: Any) -> None:
+def _place(branch: _Branch, places: Iterator[int]) -> None:
     """Puts leaves one below the other, and each state in the middle of what follows it."""
     for after in branch.branches:
         _place(after, places)
@@ -364,7 +368,7 @@ def _place(branch: _Branch, places: Any) -> None:
     branch.place = (between[0] + between[-1]) / 2 if between else float(next(places))
 
 
-def _draw_branch(axes: Any, branch: _Branch, report: Report) -> None:
+def _draw_branch(axes: Axes, branch: _Branch, report: Report) -> None:
     """One state with its lines to what follows."""
     for after in branch.branches:
         axes.plot([branch.depth, after.depth - 0.42, after.depth],
@@ -388,7 +392,7 @@ def _worth(state: State, report: Report) -> str:
     return f"{bounds[0]:z.3f} to {bounds[1]:z.3f}"
 
 
-def _plain(axes: Any, title: str) -> None:
+def _plain(axes: Axes, title: str) -> None:
     axes.set_title(title, loc="left", fontsize=10)
     axes.set_aspect("equal")
     axes.set_xticks([])
@@ -396,14 +400,14 @@ def _plain(axes: Any, title: str) -> None:
     axes.set_axis_off()
 
 
-def _head(axes: Any, x: float, y: float, side: Side, size: float) -> None:
+def _head(axes: Axes, x: float, y: float, side: Side, size: float) -> None:
     """A player's place: a disc with the number."""
     axes.scatter([x], [y], s=size, color=_COLOURS[side], zorder=4)
     axes.text(x, y, "1" if side == "one" else "2", color="white", ha="center", va="center",
               fontsize=11, fontweight="bold", zorder=5)
 
 
-def _grid(axes: Any, report: Report, root: TronState) -> None:
+def _grid(axes: Axes, report: Report, root: TronState) -> None:
     """The grid with taken cells, heads and the weights of the next moves."""
     from matplotlib.patches import Rectangle
 
@@ -433,7 +437,7 @@ def _grid(axes: Any, report: Report, root: TronState) -> None:
                       ha="center", va="center", fontsize=9)
 
 
-def _graph(axes: Any, report: Report, root: PursuitState) -> None:
+def _graph(axes: Axes, report: Report, root: PursuitState) -> None:
     """The graph with both players and the weights of their next moves."""
     game = root.game
     places = layout(game.near)

@@ -11,20 +11,22 @@ from pathlib import Path
 from typing import Any, cast
 
 from .errors import InputRefusedError, InvalidError
-from .game import Field, Game
-from .goofspiel import Goofspiel, GoofspielDrawn
+from .games.game import AnyGame, Field, Game
+from .games.goofspiel import Goofspiel, GoofspielDrawn
+from .games.oshi_zumo import OshiZumo
+from .games.pursuit import Pursuit
+from .games.tron import Tron
 from .limits import (
     LEAST_WEIGHT, MOST_DEPTH, MOST_GAP, MOST_POSITION_BYTES, MOST_ROWS, MOST_TURNS, MOST_WEIGHT,
     MOST_WORKERS,
 )
-from .oshi_zumo import OshiZumo
-from .pursuit import Pursuit
-from .table import Table, require_names, save_names, with_names
-from .tron import Tron
-from .values import FilePath, as_field, cut, shorten
+from .tables.names import require_names, save_names, with_names
+from .tables.table import Table
+from .values import FilePath, Record, as_field, cut, shorten
 
-_KINDS: tuple[type[Game], ...] = (Goofspiel, OshiZumo, Tron, GoofspielDrawn, Pursuit,
-                                  Table)
+_KINDS: tuple[type[AnyGame], ...] = (
+    Goofspiel, OshiZumo, Tron, GoofspielDrawn, Pursuit, Table,
+)
 GAMES = {kind.name: kind for kind in _KINDS}
 """The games by the names that positions and reports have for them."""
 
@@ -38,6 +40,9 @@ ASKED = (
 """What is asked of the solver, with ranges, in the order in which it is refused. Optional fields
 have in `absent` what the program takes where they are left out, and are written only where they
 differ from it."""
+
+Asked = Mapping[str, Any]
+"""What is asked of the solver, by the names of `ASKED`."""
 
 _DEFAULT = cast(int, None)
 
@@ -59,7 +64,7 @@ class Position:
       `regret` (rounds of regret matching).
     """
 
-    game: Game
+    game: AnyGame
     gap: int = 0
     weight: int = MOST_WEIGHT
     turns: int = MOST_TURNS
@@ -96,7 +101,7 @@ class Position:
         return text
 
     @classmethod
-    def read(cls, data: bytes | str, asked: Mapping[str, Any] | None = None) -> Position:
+    def read(cls, data: bytes | str, asked: Asked | None = None) -> Position:
         """The position of a text, refused as the program refuses it; `load` reads a file. What is
         in `asked` takes the place of what the text asks, and of what it leaves out."""
         entries = _entries(data) | dict(asked or {})
@@ -113,11 +118,11 @@ class Position:
             elif field.absent is None:
                 raise InputRefusedError(f"input 12 missing {field.name}", _missing(game, entries))
         settings = [entries[field.name] for field in game.settings]
-        asked = {field.name: entries.get(field.name, field.absent) for field in ASKED}
-        return cls(game(*settings), **asked)
+        given = {field.name: entries.get(field.name, field.absent) for field in ASKED}
+        return cls(game(*settings), **given)
 
     @classmethod
-    def load(cls, path: FilePath, asked: Mapping[str, Any] | None = None) -> Position:
+    def load(cls, path: FilePath, asked: Asked | None = None) -> Position:
         """The position of a file, as `read` gives it; a table with the names of a file beside it
         that ends with `.names`."""
         found = cls.read(Path(path).read_bytes(), asked)
@@ -155,7 +160,7 @@ def looks_like_path(data: bytes | str) -> bool:
             and not data.lstrip().startswith(("{", "[")))
 
 
-def _game(entries: dict[str, Any]) -> type[Game]:
+def _game(entries: Record) -> type[AnyGame]:
     if "game" not in entries:
         raise InputRefusedError("input 12 missing game", f"it is one of {', '.join(GAMES)}")
     name = entries["game"]
@@ -167,7 +172,7 @@ def _game(entries: dict[str, Any]) -> type[Game]:
     return GAMES[name]
 
 
-def _missing(game: type[Game], entries: Mapping[str, Any]) -> str:
+def _missing(game: type[AnyGame], entries: Record) -> str:
     """Which fields a position lacks, and where some that serve are found."""
     lacking = [each for each in (*game.settings, *ASKED)
                if each.absent is None and each.name not in entries]
@@ -176,7 +181,7 @@ def _missing(game: type[Game], entries: Mapping[str, Any]) -> str:
     return f"the position lacks {names}{start}"
 
 
-def _entries(data: bytes | str) -> dict[str, Any]:
+def _entries(data: bytes | str) -> Record:
     """The fields of the JSON object that the program sees in these bytes."""
     if not isinstance(data, (bytes, str)):
         raise InvalidError(f"read takes a text, not {shorten(data)}; load takes a path")
@@ -235,11 +240,11 @@ def _refuse(word: str) -> None:
     raise ValueError(f"{word} is no number of JSON")
 
 
-def _depth(value: Any) -> int:
+def _depth(value: object) -> int:
     """How deep arrays and objects stand in one another."""
     deepest, layer = 0, [value]
-    while layer := [inner for inner in layer if isinstance(inner, (list, dict))]:
+    while nested := [part for part in layer if isinstance(part, (list, dict))]:
         deepest += 1
-        layer = [part for inner in layer
+        layer = [part for inner in nested
                  for part in (inner.values() if isinstance(inner, dict) else inner)]
     return deepest

@@ -1,171 +1,83 @@
-"""Processes of this machine as an executor of `concurrent.futures`, for sweeps.
+"""An executor of `concurrent.futures` for sweeps on this machine: threads, each of which waits for
+one program at a time.
 
-Each process is in a group of its own with the programs that it runs, so that all of them end at
-once: at `shutdown`, and where this process ends, whatever ends it.
+The programs are one group of processes, so that all of them end at once, with what they started:
+at `shutdown`, and where this process ends, whatever ends it.
 """
 from __future__ import annotations
 
 import os
-import pickle
 import queue
 import signal
-import socket
 import subprocess
 import sys
 import threading
 from collections.abc import Callable
-from concurrent.futures import BrokenExecutor, Executor, Future
-from typing import Any
+from concurrent.futures import Executor, Future
+from typing import ParamSpec, TypeVar
 
-_SERVE = "import sys; sys.path[:] = sys.argv[1:]; from dosolve.processes import serve; serve()"
+from .solver.process import GROUP
 
-_Job = tuple[Callable[..., Any], tuple[Any, ...], dict[str, Any]]
+_WATCH = "read -r line; kill -KILL 0"
+"""What the first process of the group does: it ends the group when this process has ended."""
+
+P = ParamSpec("P")
+T = TypeVar("T")
 
 
-class Processes(Executor):
-    """At most `count` processes, each started with its first job. A job whose process dies ends in
-    `BrokenExecutor`, and the next one gets another process. `shutdown` waits for no job."""
+class Programs(Executor):
+    """Does at most `count` jobs at a time, each in a thread; `run` starts their programs in the
+    group. `shutdown` ends the programs, cancels what has not begun, and waits for no program."""
 
     def __init__(self, count: int) -> None:
-        self._count = count
-        self._jobs: queue.SimpleQueue[tuple[Future[Any], bytes] | None] = queue.SimpleQueue()
+        self._jobs: queue.SimpleQueue[Callable[[], None] | None] = queue.SimpleQueue()
         self._lock = threading.Lock()
-        self._threads: list[threading.Thread] = []
-        self._processes: set[_Process] = set()
         self._is_closed = False
+        self._watcher = subprocess.Popen(["/bin/sh", "-c", _WATCH], stdin=subprocess.PIPE,
+                                         process_group=0)
+        # An interpreter that ends by a fault waits for no daemon.
+        self._threads = [threading.Thread(target=self._serve, daemon=True) for _ in range(count)]
+        for thread in self._threads:
+            thread.start()
 
-    def submit(self, work: Callable[..., Any], /, *arguments: Any, **named: Any) -> Future[Any]:
-        """A future of what a function of a module gives, or of the fault that it, its arguments or
-        its answer cannot be pickled."""
-        future: Future[Any] = Future()
-        job: _Job = work, arguments, named
-        try:
-            pickled = pickle.dumps(job)
-        except Exception as fault:
-            future.set_exception(fault)
-            return future
-        with self._lock:
-            if self._is_closed:
-                raise RuntimeError("the processes have been ended")
-            self._jobs.put((future, pickled))
-            if len(self._threads) < self._count:
-                self._threads.append(threading.Thread(target=self._serve, daemon=True))
-                self._threads[-1].start()
-        return future
+    def submit(self, work: Callable[P, T], /, *arguments: P.args, **named: P.kwargs) -> Future[T]:
+        """A future of what a function gives, or raises."""
+        future: Future[T] = Future()
 
-    def shutdown(self, wait: bool = True, *, cancel_futures: bool = True) -> None:
-        """Ends the processes with what they run, and cancels what has not begun."""
-        with self._lock:
-            self._is_closed = True
-            for process in self._processes:
-                process.end()
-        for _ in self._threads:
-            self._jobs.put(None)
-        for thread in self._threads if wait else ():
-            thread.join()
-
-    def _serve(self) -> None:
-        """Hands jobs to one process after the other."""
-        process = None
-        while (job := self._jobs.get()) is not None:
-            future, work = job
+        def job() -> None:
             if self._is_closed:
                 future.cancel()
             if not future.set_running_or_notify_cancel():
-                continue
+                return
             try:
-                process = process or self._started()
-                answer = process.call(work)
-            except Exception as fault:
-                ended = isinstance(fault, (EOFError, ConnectionError, pickle.UnpicklingError))
-                why = "ended, or was killed" if ended else f"could not be started: {fault}"
-                answer = BrokenExecutor(f"a process of this machine {why}")
-                self._leave(process)
-                process = None
-            if isinstance(answer, BaseException):
-                future.set_exception(answer)
-            else:
-                future.set_result(answer)
-        self._leave(process)
+                future.set_result(work(*arguments, **named))
+            except BaseException as fault:
+                future.set_exception(fault)
 
-    def _started(self) -> _Process:
         with self._lock:
             if self._is_closed:
-                raise RuntimeError("the processes have been ended")
-            process = _Process()
-            self._processes.add(process)
-            return process
+                raise RuntimeError("the programs have been ended")
+            self._jobs.put(job)
+        return future
 
-    def _leave(self, process: _Process | None) -> None:
-        """Ends a process, and waits for it."""
-        if process is not None:
-            process.end()
-            with self._lock:
-                self._processes.discard(process)
-                process.wait()
+    def shutdown(self, wait: bool = True, *, cancel_futures: bool = True) -> None:
+        """Ends the programs, cancels what has not begun, and waits for the threads."""
+        with self._lock:
+            if self._is_closed:
+                return
+            self._is_closed = True
+        for _ in self._threads:
+            self._jobs.put(None)
+        while any(thread.is_alive() for thread in self._threads) and not sys.is_finalizing():
+            # Again and again, since a thread may just have been starting a program.
+            os.killpg(self._watcher.pid, signal.SIGKILL)
+            for thread in self._threads:
+                thread.join(0.01)
+        self._watcher.kill()
+        self._watcher.communicate()
 
-
-class _Process:
-    """A process that does jobs, at the other end of a socket."""
-
-    def __init__(self) -> None:
-        self._socket, given = socket.socketpair()
-        try:
-            with given:
-                self._process = subprocess.Popen(
-                    [sys.executable, "-c", _SERVE, *sys.path], stdin=given.fileno(),
-                    stdout=subprocess.DEVNULL, process_group=0)
-        except OSError:
-            self._socket.close()
-            raise
-        self._answers = self._socket.makefile("rb")
-
-    def call(self, job: bytes) -> Any:
-        """What a pickled job gives, an exception where it raised one."""
-        self._socket.sendall(job)
-        return pickle.load(self._answers)
-
-    def end(self) -> None:
-        """Ends the process and its programs; from any thread, before `wait`."""
-        try:
-            os.killpg(self._process.pid, signal.SIGKILL)
-            self._socket.shutdown(socket.SHUT_RDWR)
-        except OSError:
-            pass
-
-    def wait(self) -> None:
-        """Takes the ended process off."""
-        self._process.wait()
-        self._answers.close()
-        self._socket.close()
-
-
-def serve() -> None:
-    """Does the jobs that come through standard input, until this ends; then this process ends with
-    its programs, whatever they do."""
-    jobs: queue.SimpleQueue[_Job] = queue.SimpleQueue()
-    with socket.socket(fileno=os.dup(0)) as channel:
-        threading.Thread(target=_listen, args=(channel.makefile("rb"), jobs), daemon=True).start()
-        while True:
-            work, arguments, named = jobs.get()
-            try:
-                answer = work(*arguments, **named)
-            except Exception as fault:
-                answer = fault
-            channel.sendall(_pickled(answer))
-
-
-def _pickled(answer: Any) -> bytes:
-    try:
-        return pickle.dumps(answer)
-    except Exception as fault:
-        return pickle.dumps(pickle.PicklingError(f"the answer of a job cannot be pickled: {fault}"))
-
-
-def _listen(stream: Any, jobs: queue.SimpleQueue[_Job]) -> None:
-    """Takes in the jobs."""
-    try:
-        while True:
-            jobs.put(pickle.load(stream))
-    finally:
-        os.killpg(0, signal.SIGKILL)
+    def _serve(self) -> None:
+        """Does jobs, one after the other."""
+        GROUP.set(self._watcher.pid)
+        while (job := self._jobs.get()) is not None:
+            job()

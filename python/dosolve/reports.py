@@ -7,20 +7,22 @@ from collections.abc import Iterator, Sequence
 from dataclasses import dataclass, field, replace
 from fractions import Fraction
 from pathlib import Path
-from typing import Any
 
 from .errors import InputRefusedError, InvalidError, ReportRefusedError
-from .game import CHANCE, SCALE, SIDES, Game, Move, Side, State, other, side_of
+from .games.game import CHANCE, SCALE, SIDES, AnyGame, Move, Side, State, other, side_of
 from .limits import (
     LEAST_WEIGHT, MOST_BOUND, MOST_GAP, MOST_KEY, MOST_REPORT_BYTES, MOST_RESOLUTION, MOST_ROWS,
     MOST_TURNS, MOST_WEIGHT, MOST_WORKERS,
 )
-from .plans import Row, Sheet
+from .players.sheets import Row, Sheet
 from .positions import GAMES, looks_like_path
-from .table import require_names, save_names, with_names
-from .values import FilePath, as_points, cut, require_range, shorten
+from .tables.names import require_names, save_names, with_names
+from .values import FilePath, Record, as_points, cut, require_range, shorten
 
 OUTCOMES = ("closed", "settled", "spent", "full")
+
+Setting = str | int | tuple[int, ...]
+"""A field of a report's second line."""
 
 _STOPPED = {"time": "the time was up", "interrupt": "the search was interrupted"}
 """What can end a search before its own end, in words."""
@@ -35,7 +37,7 @@ def outcome_of(gap: int, asked: int, resolution: int) -> str:
     return "closed" if gap <= asked else "settled" if gap <= resolution else "spent"
 
 
-def scale_notes(game: Game) -> tuple[str, ...]:
+def scale_notes(game: AnyGame) -> tuple[str, ...]:
     """What a reader of payoffs has to know where these are not those of the rules."""
     if game.scale == 1:
         return ()
@@ -56,7 +58,7 @@ class Report:
     is no part of the text, and equal reports can differ in it.
     """
 
-    game: Game
+    game: AnyGame
     weight: int
     turns: int
     asked: int
@@ -191,7 +193,7 @@ class Report:
                         for name, text in rows)
         return f"<table>{cells}</table>"
 
-    def on(self, game: Game) -> Report:
+    def on(self, game: AnyGame) -> Report:
         """The same report on an equal game, as on a table with names; itself where the game is
         another one."""
         if game is self.game or game != self.game:
@@ -236,7 +238,7 @@ class Report:
             lines += [_spaced(row.key, row.bound, *row.weights) for row in sheet.rows]
         return "\n".join([*lines, "end", ""])
 
-    def record(self) -> dict[str, Any]:
+    def record(self) -> Record:
         """The numbers of the report, without its plans, for JSON and tables; bounds, gaps and the
         resolution are millionths."""
         return {
@@ -250,7 +252,7 @@ class Report:
         }
 
     @classmethod
-    def read(cls, data: bytes | str, game: Game | None = None) -> Report:
+    def read(cls, data: bytes | str, game: AnyGame | None = None) -> Report:
         """The report of a text; `load` reads a file. Refuses, with `check`'s text, what is no
         report and a position that the rules refuse; whether the rows and numbers are right only
         `check` says. Where the report is on `game`, it has that one, with the names of a
@@ -398,7 +400,7 @@ class _Reader:
         line.require(line.fields[0] == word.encode() and len(line.fields) == 2)
         return line.spelled(line.fields[1], low, high)
 
-    def game(self, version: int) -> tuple[type[Game], list[Any]]:
+    def game(self, version: int) -> tuple[type[AnyGame], list[Setting]]:
         """The kind and the settings of the game line."""
         line = self.line()
         line.require(line.fields[0] == b"game" and len(line.fields) == 7)
@@ -409,7 +411,7 @@ class _Reader:
         given = list(zip(kind.line_settings or kind.settings, line.fields[2:]))
         for each, word in given:
             line.require(not each.choices or word.decode("ascii", "replace") in each.choices)
-        settings: list[Any] = []
+        settings: list[Setting] = []
         for each, word in given:
             if each.choices:
                 settings.append(word.decode())

@@ -9,14 +9,13 @@ from concurrent.futures import FIRST_COMPLETED, BrokenExecutor, Executor, Future
 from contextlib import AbstractContextManager, closing, nullcontext
 from dataclasses import dataclass, field, replace
 from pathlib import Path
-from typing import Any
 
-from .errors import DosolveError, InvalidError
+from .errors import DosolveError, InvalidError, ProgramFailedError
 from .positions import Position, processors, require_position
-from .processes import Processes
-from .program import Solver, is_last
+from .processes import Programs
 from .reports import Report
-from .values import FilePath
+from .solver.program import Solver, is_last
+from .values import FilePath, Record
 
 MOST_WAITING = 256
 """How many positions an executor is handed at once."""
@@ -46,9 +45,9 @@ class Swept:
         """The position; raises what is wrong with its text."""
         return Position.read(self.text)
 
-    def record(self) -> dict[str, Any]:
+    def record(self) -> Record:
         """The line of the output file, without the position's number."""
-        found: dict[str, Any] = {"position": self.text.strip(), "seconds": round(self.seconds, 3)}
+        found: Record = {"position": self.text.strip(), "seconds": round(self.seconds, 3)}
         if self.limit is not None:
             found["limit"] = self.limit
         if self.report is None:
@@ -66,15 +65,16 @@ def sweep(positions: Iterable[Position | str], executor: Executor | None = None,
     """Solves positions, and gives the results in their order, each as soon as it is there.
 
     The executor is any of `concurrent.futures`, as Dask's `Client.get_executor()` and
-    `mpi4py.futures.MPIPoolExecutor`; without one, processes of this machine, as many as there are
-    processors for the workers of a position. A position whose search fails gives a result with
+    `mpi4py.futures.MPIPoolExecutor`; without one, as many programs run on this machine as there
+    are processors for the workers of a position. A position whose search fails gives a result with
     `error`, and the sweep goes on. With `output`, each result is a line of JSON in that file, and
     what is already there is not solved again, except failures, and searches that were cut short
     where there are more seconds now; so a sweep that was stopped goes on where it was when it is
     started once more. Positions can be texts too.
 
-    At Ctrl-C, or where the results are closed, what waits is cancelled, and processes of this
-    machine end with what they run; other executors are left to end what they have begun.
+    At Ctrl-C, or where the results are closed, what waits is cancelled, and programs of this
+    machine end; other executors are left to end what they have begun. A search whose program or
+    process was killed is tried again, three times in all.
     """
     given = list(positions)
     texts = [_text(position) for position in given]
@@ -204,7 +204,7 @@ def _solved(jobs: dict[int, tuple[str, Solver, float | None]],
             executor: Executor | None) -> Results:
     """The results as they come."""
     if executor is None:
-        with Processes(_size(jobs)) as own:
+        with Programs(_size(jobs)) as own:
             yield from _solved(jobs, own)
         return
     left = _Jobs(jobs, list(jobs))
@@ -218,7 +218,7 @@ def _solved(jobs: dict[int, tuple[str, Solver, float | None]],
 
 
 def _size(jobs: dict[int, tuple[str, Solver, float | None]]) -> int:
-    """How many processes this machine has room for."""
+    """How many searches this machine has room for."""
     most = 1
     for text, _, _ in jobs.values():
         try:
@@ -234,6 +234,10 @@ def _solve(number: int, text: str, solver: Solver, seconds: float | None) -> Swe
     report, error, limit = None, None, None
     try:
         report = solver.solve(Position.read(text), seconds)
+    except ProgramFailedError as fault:
+        if fault.status is not None and fault.status < 0:
+            raise BrokenExecutor(f"the program was killed: {fault}") from None
+        error = f"{type(fault).__name__}: {fault}"
     except (DosolveError, OSError) as fault:
         error = f"{type(fault).__name__}: {fault}"
     took = time.monotonic() - since

@@ -13,15 +13,18 @@ from .errors import InvalidError
 FilePath = str | os.PathLike[str]
 """A file's name."""
 
+Record = dict[str, Any]
+"""Values by their names, as `json` has an object and `pandas.DataFrame` a line."""
 
-def as_plain(value: Any) -> Any:
+
+def as_plain(value: object) -> Any:
     """The value as Python's own: a number or array of numpy, or a series of pandas, as a number or
     a list. Anything else stays as it is."""
     listed = getattr(value, "tolist", None)
     return listed() if callable(listed) else value
 
 
-def as_field(value: Any) -> Any:
+def as_field(value: object) -> Any:
     """A setting of a game or of a search: whole numbers as int, lists as tuples of them."""
     value = as_plain(value)
     if isinstance(value, Sequence) and not isinstance(value, (str, bytes)):
@@ -41,7 +44,7 @@ def require_range(what: str, value: object, low: int, high: int) -> None:
                            f"to {high}")
 
 
-def can_take(function: Callable[..., Any], count: int) -> bool:
+def can_take(function: Callable[..., object], count: int) -> bool:
     """Whether a function can be called with so many arguments, as far as it tells."""
     try:
         inspect.signature(function).bind(*range(count))

@@ -1,7 +1,11 @@
-"""What the tests of tables share: a table with draws, and games with OpenSpiel's calls."""
+"""What the tests of tables share: a table without draws, one with draws, and games with
+OpenSpiel's calls."""
 from __future__ import annotations
 
 from types import SimpleNamespace
+
+PENNIES = [[[1, 2], [2, 1]], 1, -1]
+"""Matching pennies."""
 
 STAGES = [[[2, [[2, 120120], [5, 240240]]], [[[1, 90090], [6, 270270]], 1]], [[3, 6], [6, 3]],
           [[3, 4], [5, 6]], 5, 1, -1, -5]

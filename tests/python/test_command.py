@@ -219,7 +219,7 @@ class Messages(unittest.TestCase):
     def test_outputs_are_tried_before_the_search(self):
         (self.folder / "file").write_text("")
         player, new = "python/examples/even.py", self.folder / "new"
-        with mock.patch("dosolve.program.Solver.solve", side_effect=AssertionError):
+        with mock.patch("dosolve.solver.program.Solver.solve", side_effect=AssertionError):
             for pattern, *words in (
                     ("no/x: No such file", "solve", POSITION, "-o", self.folder / "no" / "x"),
                     ("Is a directory", "solve", POSITION, "-o", self.folder),

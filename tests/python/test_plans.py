@@ -169,6 +169,17 @@ class States(unittest.TestCase):
                     with self.assertRaisesRegex(dosolve.InvalidError, "has the key"):
                         game.state(key)
 
+    def test_what_follows_labels_is_what_follows_their_numbers(self):
+        for name in dosolve.GAMES:
+            root = random_game(name, random.Random(7)).root()
+            for one, mine in enumerate(root.moves("one")):
+                for two, yours in enumerate(root.moves("two")):
+                    outcomes = root.outcomes(one, two)
+                    self.assertEqual(root.outcomes_of_labels(mine, yours), outcomes)
+                    self.assertEqual([root.after_labels(mine, yours, draw)
+                                      for draw in range(len(outcomes))],
+                                     [after for _, after in outcomes])
+
     def test_moves_out_of_range_and_payoffs_too_early_are_refused(self):
         root = GAME.root()
         for call in (lambda: root.after(2, 0), lambda: root.after(-1, 0), lambda: root.after(0, 0, 1), lambda: root.payoff,

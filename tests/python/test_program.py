@@ -120,7 +120,7 @@ class Failures(unittest.TestCase):
     def test_a_program_that_is_not_there_is_said(self):
         with self.assertRaisesRegex(dosolve.ProgramMissing, "/no/such is no program"):
             dosolve.solve(POSITION, program="/no/such")
-        with mock.patch.dict(os.environ, {"DOSOLVE": "", "PATH": ""}), mock.patch("dosolve.program._BESIDE", Path("/no/such")):
+        with mock.patch.dict(os.environ, {"DOSOLVE": "", "PATH": ""}), mock.patch("dosolve.solver.program._BESIDE", Path("/no/such")):
             with self.assertRaisesRegex(dosolve.ProgramMissing, "name the program in the variable DOSOLVE"):
                 dosolve.find_program()
 

@@ -6,7 +6,6 @@ import importlib.util
 import json
 import logging
 import os
-import pickle
 import random
 import shutil
 import signal
@@ -16,13 +15,13 @@ import tempfile
 import threading
 import time
 import unittest
-from concurrent.futures import BrokenExecutor
 from pathlib import Path
 from unittest import mock
 
 import dosolve
 import guide
-from dosolve.processes import Processes
+from dosolve.processes import Programs
+from dosolve.solver.process import run
 from support import TOP, children, random_game
 
 try:
@@ -135,15 +134,34 @@ class Sweeps(unittest.TestCase):
                                     "file with one position on each line has to end with .jsonl"):
             dosolve.read_positions(file)
 
-    def test_a_killed_process_loses_nothing(self):
+    def test_a_killed_program_loses_nothing(self):
         given = positions(40, random.Random(3))
-        solver = dosolve.Solver(self.slow_program(0.1))
+        solver = dosolve.Solver(self.slow_program(0.3))
         found = dosolve.sweep(given, solver=solver)
         results = [next(found)]
-        os.kill(children(os.getpid())[0], signal.SIGKILL)
+        killed = 0
+        while not killed:
+            for child in children(os.getpid()):
+                if str(self.folder).encode() in Path(f"/proc/{child}/cmdline").read_bytes():
+                    os.kill(child, signal.SIGKILL)
+                    killed += 1
         results += list(found)
         self.assertEqual([swept.number for swept in results], list(range(40)))
         self.assertEqual([swept.error for swept in results], [None] * 40)
+
+    def test_a_program_that_is_always_killed_is_a_failure(self):
+        script = self.folder / "killed"
+        script.write_text(f'#!/bin/sh\necho >> "{self.folder}/runs"\nkill -KILL $$\n')
+        script.chmod(0o755)
+        found = list(dosolve.sweep(positions(1, random.Random(3)), solver=dosolve.Solver(script)))
+        self.assertRegex(found[0].error, "^BrokenExecutor: the program was killed: solve: .*-9$")
+        self.assertEqual((self.folder / "runs").read_text(), "\n" * 3)
+
+    def test_it_runs_the_program_and_not_the_library_whose_calls_cannot_be_ended(self):
+        given = positions(4, random.Random(8))
+        with mock.patch("dosolve.solver.program.find_library", side_effect=AssertionError):
+            found = list(dosolve.sweep(given))
+        self.assertEqual([swept.error for swept in found], [None] * 4)
 
     def slow_program(self, seconds):
         script = self.folder / "slow"
@@ -217,47 +235,32 @@ class Sweeps(unittest.TestCase):
 
 
 class Executors(unittest.TestCase):
-    """The processes of this machine as an executor of `concurrent.futures`."""
+    """The programs of this machine as an executor of `concurrent.futures`."""
 
-    def test_jobs_are_done_or_raise_and_one_that_kills_its_process_breaks_itself_alone(self):
-        with Processes(2) as executor:
+    def test_jobs_are_done_or_raise(self):
+        with Programs(2) as executor:
             self.assertEqual(list(executor.map(pow, range(9), [2] * 9)),
                              [number**2 for number in range(9)])
-            futures = [executor.submit(os._exit, 3), executor.submit(int, "x"),
-                       executor.submit(pow, 2, exp=5), executor.submit(len, b"x" * 10**7)]
-            with self.assertRaisesRegex(BrokenExecutor, "ended, or was killed"):
-                futures[0].result()
+            futures = [executor.submit(int, "x"), executor.submit(pow, 2, exp=5)]
             with self.assertRaisesRegex(ValueError, "invalid literal"):
-                futures[1].result()
-            self.assertEqual([future.result() for future in futures[2:]], [32, 10**7])
+                futures[0].result()
+            self.assertEqual(futures[1].result(), 32)
         with self.assertRaisesRegex(RuntimeError, "have been ended"):
             executor.submit(pow, 2, 2)
-
-    def test_what_cannot_be_pickled_says_so_and_the_next_job_is_done(self):
-        with Processes(1) as executor:
-            job, answer = executor.submit(lambda: 1), executor.submit(threading.Lock)
-            following = executor.submit(pow, 2, 5)
-            with self.assertRaisesRegex(Exception, "Can't pickle"):
-                job.result()
-            with self.assertRaisesRegex(pickle.PicklingError, "answer of a job cannot be pickled"):
-                answer.result()
-            self.assertEqual(following.result(), 32)
+        executor.shutdown()
 
     def test_what_runs_and_what_waits_ends_with_it(self):
-        executor = Processes(1)
-        futures = [executor.submit(time.sleep, 60) for _ in range(3)]
-        while not futures[0].running():
+        before = children(os.getpid())
+        executor = Programs(1)
+        futures = [executor.submit(run, ["sleep", "60"], b"", None, None) for _ in range(3)]
+        while not futures[0].running() or len(children(os.getpid())) < len(before) + 2:
             time.sleep(0.01)
         since = time.monotonic()
         executor.shutdown()
         self.assertLess(time.monotonic() - since, 5)
-        self.assertIsInstance(futures[0].exception(), BrokenExecutor)
+        self.assertEqual(futures[0].result()[0], -signal.SIGKILL)
         self.assertTrue(futures[1].cancelled() and futures[2].cancelled())
-
-    def test_a_process_that_cannot_be_started_is_told(self):
-        with mock.patch("sys.executable", "/no/such"), Processes(1) as executor:
-            with self.assertRaisesRegex(BrokenExecutor, "could not be started: .*/no/such"):
-                executor.submit(pow, 2, 2).result()
+        self.assertEqual(children(os.getpid()), before)
 
 
 class Stopped(unittest.TestCase):
@@ -349,6 +352,20 @@ class Stopped(unittest.TestCase):
         self.wait_until("results", lambda: len(self.lines()) == self.QUICK)
         command.kill()
         command.communicate()
+        self.wait_until("the end of all", lambda: not self.running(), self.SOON)
+
+    def test_where_a_script_ends_by_a_fault_its_programs_end(self):
+        given = self.folder / "given.jsonl"
+        given.write_text("".join(position.text() for position in self.given))
+        script = (f"import dosolve\ngiven = dosolve.read_positions({str(given)!r})\n"
+                  f"for found in dosolve.sweep(given, solver=dosolve.Solver({self.program!r})):\n"
+                  f"    if found.number == {self.QUICK - 1}:\n        raise ValueError\n")
+        environment = os.environ | {"PYTHONPATH": str(TOP / "python"), "SWEEP": str(self.folder)}
+        since = time.monotonic()
+        ended = subprocess.run([sys.executable, "-c", script], env=environment, text=True,
+                               capture_output=True, timeout=60, check=False)
+        self.assertLess(time.monotonic() - since, 30)
+        self.assertEqual((ended.returncode, ended.stderr.splitlines()[-1]), (1, "ValueError"))
         self.wait_until("the end of all", lambda: not self.running(), self.SOON)
 
     def test_where_its_results_are_closed_it_ends(self):

@@ -59,6 +59,28 @@ class Types(unittest.TestCase):
         self.assertEqual(found.returncode, 1)
         self.assertEqual(set(re.findall(r"wrong.py:(\d+)", found.stdout)), {"3"}, found.stdout)
 
+    @unittest.skipUnless(shutil.which("mypy"), "mypy is missing")
+    def test_a_game_knows_the_type_of_its_states_and_a_table_that_of_its_nodes(self):
+        file = self.folder / "typed.py"
+        file.write_text(
+            "import dosolve\n\ngame = dosolve.Goofspiel([1, 2], [1, 2], [1, 2])\n"
+            "print(game.root().prize, [state.score for state in game.states()])\n"
+            "print(game.root().bid, dosolve.Tron(1, 3, [], 0, 2).state(5).prize)\n"
+            "dosolve.plan(game, 'one', lambda state: [state.prize, 1])\n"
+            "dosolve.plan(game, 'one', lambda state: [state.walls, 1])\n\n\n"
+            "def moves(left: int) -> tuple[list[str], list[str]] | None:\n"
+            "    return (['a'], ['b', 'c']) if left else None\n\n\n"
+            "def after(left: int, one: str, two: str) -> int:\n    return left - 1\n\n\n"
+            "def payoff(left: str) -> int:\n    return 1\n\n\n"
+            "dosolve.Table.from_functions(3, moves, after, lambda left: left + 1)\n"
+            "dosolve.Table.from_functions(3, moves, after, payoff)\n"
+            "dosolve.Table.from_openspiel(dosolve.openspiel.new_initial_state(game))\n"
+            "dosolve.Table.from_openspiel(game)\n")
+        found = self.mypy(file)
+        self.assertEqual(found.returncode, 1)
+        self.assertEqual(set(re.findall(r"typed.py:(\d+)", found.stdout)), {"5", "7", "23", "25"},
+                         found.stdout)
+
     @unittest.skipUnless(shutil.which("ruff"), "ruff is missing")
     def test_ruff(self):
         found = run("ruff", "check", "--no-cache", "dosolve", "wheel_backend.py", cwd=PACKAGE)
@@ -71,7 +93,7 @@ class Types(unittest.TestCase):
         self.assertEqual((found.returncode, found.stdout), (0, ""))
 
     def test_lines_are_at_most_100_columns(self):
-        for file in (PACKAGE / "dosolve").glob("*.py"):
+        for file in (PACKAGE / "dosolve").rglob("*.py"):
             for number, line in enumerate(file.read_text().splitlines(), 1):
                 self.assertLessEqual(len(line), 100, f"{file.name}:{number}")
 

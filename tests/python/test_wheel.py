@@ -4,6 +4,7 @@ import hashlib
 import os
 import subprocess
 import sys
+import tarfile
 import tempfile
 import tomllib
 import unittest
@@ -47,14 +48,17 @@ class Wheel(unittest.TestCase):
     def test_the_wheel_is_built_and_imported(self):
         wheel = self.build("build_wheel")
         inside = self.look(wheel)
-        files = {f"dosolve/{file.name}" for file in (PACKAGE / "dosolve").iterdir()
-                 if file.is_file()}
-        self.assertLessEqual(files, inside)
+        files = {str(file.relative_to(PACKAGE)) for file in (PACKAGE / "dosolve").glob("**/*")
+                 if file.is_file() and "__pycache__" not in file.parts}
+        self.assertEqual(files, {name for name in inside if ".dist-info" not in name})
+        self.assertIn("dosolve/games/game.py", files)
         words = "import dosolve; print(dosolve.__file__, dosolve.Tron(1, 3, [], 0, 2).root().key)"
         run = subprocess.run([sys.executable, "-c", words], cwd=self.folder, capture_output=True,
                              env=os.environ | {"PYTHONPATH": str(wheel)}, text=True, check=True)
         self.assertEqual(run.stdout, f"{wheel}/dosolve/__init__.py 20482\n")
-        self.assertTrue(self.build("build_sdist").exists())
+        with tarfile.open(self.build("build_sdist")) as sources:
+            names = {name.partition("/")[2] for name in sources.getnames()}
+        self.assertEqual(names, files | {"pyproject.toml", "README.md", "wheel_backend.py"})
 
     def test_the_editable_wheel_names_the_folder(self):
         wheel = self.build("build_editable")

@@ -6,8 +6,8 @@ from collections.abc import Sequence
 from dataclasses import dataclass
 from functools import cached_property
 
+from ..limits import MOST_GRID
 from .game import Field, Game, Side, State, members, packed, side_of, unpacked
-from .limits import MOST_GRID
 
 DIRECTIONS = ("north", "east", "south", "west")
 """What the labels 0 to 3 stand for."""
@@ -64,7 +64,7 @@ class TronState(State):
 
 
 @dataclass(frozen=True)
-class Tron(Game):
+class Tron(Game[TronState]):
     """Tron: the rows and columns of the grid (1 to 6 each), its walls, and both heads. Cells are
     numbered row by row from 0."""
 
@@ -112,7 +112,7 @@ class Tron(Game):
     def root(self) -> TronState:
         return TronState(self, frozenset((*self.walls, self.one, self.two)), self.one, self.two)
 
-    def _unpacked(self, key: int) -> State | None:
+    def _unpacked(self, key: int) -> TronState | None:
         cells, one, two = unpacked(key, 36, 6, 6)
         if cells >> self.height * self.width:
             return None

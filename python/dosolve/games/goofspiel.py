@@ -7,8 +7,8 @@ from collections.abc import Sequence
 from dataclasses import dataclass, field, fields
 from functools import lru_cache
 
-from .game import CHANCE, Field, Game, Side, State, members, packed, sign, unpacked
-from .limits import MOST_CARD, MOST_PRIZE, MOST_SCORE
+from ..limits import MOST_CARD, MOST_PRIZE, MOST_SCORE
+from .game import CHANCE, Field, Game, S_co, Side, State, members, packed, sign, unpacked
 
 _SCORE_SHIFT = 2300
 
@@ -36,7 +36,7 @@ def _without(cards: tuple[int, ...], card: int) -> tuple[int, ...]:
     return tuple(left for left in cards if left != card)
 
 
-class _Goofspiel(Game):
+class _Goofspiel(Game[S_co]):
     """What both forms of Goofspiel share."""
 
     one: Sequence[int]
@@ -106,7 +106,7 @@ class _Goofspiel(Game):
 class _Hands(State):
     """The cards left to each player, rising, and One's prizes so far less Two's."""
 
-    game: _Goofspiel = field(repr=False)
+    game: _Goofspiel[_Hands] = field(repr=False)
     one: tuple[int, ...]
     two: tuple[int, ...]
     score: int
@@ -164,7 +164,7 @@ class GoofspielState(_Hands):
 
 
 @dataclass(frozen=True)
-class Goofspiel(_Goofspiel):
+class Goofspiel(_Goofspiel[GoofspielState]):
     """Goofspiel with a known order of prizes.
 
     Cards of One and Two (1 to 13 each), the prizes in the order of play (1 to 100 each), One's
@@ -187,7 +187,7 @@ class Goofspiel(_Goofspiel):
         return sum(math.comb(count, left)**2 * self._scores(count - left)
                    for left in range(1, count + 1))
 
-    def _unpacked(self, key: int) -> State | None:
+    def _unpacked(self, key: int) -> GoofspielState | None:
         one, two, score = unpacked(key, 13, 13, 13)
         played = len(self.prizes) - one.bit_count()
         found = self._bid_of(one, two, score, self.prizes[max(0, played):])
@@ -225,7 +225,7 @@ class GoofspielDrawnState(_Hands):
 
 
 @dataclass(frozen=True)
-class GoofspielDrawn(_Goofspiel):
+class GoofspielDrawn(_Goofspiel[GoofspielDrawnState]):
     """Goofspiel whose first prize is the first of the list, and each further one is drawn from
     those that are left."""
 
@@ -252,7 +252,7 @@ class GoofspielDrawn(_Goofspiel):
                  * math.comb(count - 1, left) * left for left in range(1, count))
         return min(1, count) + sum(later)
 
-    def _unpacked(self, key: int) -> State | None:
+    def _unpacked(self, key: int) -> GoofspielDrawnState | None:
         one, two, score, undrawn, place = unpacked(key, 13, 13, 13, 13, 4)
         left = members(undrawn)
         places = (place, *left) if one else ()

@@ -14,18 +14,22 @@ from dataclasses import dataclass, field
 from decimal import Decimal
 from fractions import Fraction
 from numbers import Rational
-from typing import Any
+from typing import Any, TypeVar
 
-from .errors import NoTableError
-from .game import CHANCE, Game, State
-from .limits import MOST_DRAWS, MOST_MOVES, MOST_PAYOFF, MOST_RANK, MOST_STATES, SUM_ERROR
-from .values import as_plain, is_whole, shorten
+from ..errors import NoTableError
+from ..games.game import CHANCE, AnyGame, State
+from ..limits import MOST_DRAWS, MOST_MOVES, MOST_PAYOFF, MOST_RANK, MOST_STATES, SUM_ERROR
+from ..values import as_plain, is_whole, shorten
+from .lists import Cell, Listed
 
 MOST_DENOMINATOR = 1_000_000
 """The greatest denominator that a float is read as."""
 
 ONLY = "-"
 """The name of the one move of a player who has nothing to choose."""
+
+Node = TypeVar("Node", bound=Hashable)
+"""What tells the states of a game apart."""
 
 Outcomes = list[tuple[Hashable, Fraction]]
 """Nodes with their chances."""
@@ -53,6 +57,9 @@ class Turn:
 Expand = Callable[[Any], End | Turn]
 """A function from a node to what it is."""
 
+BothMoves = Sequence[Iterable[object]] | None
+"""The moves of One and those of Two; None where the game is over."""
+
 
 @dataclass(frozen=True)
 class Built:
@@ -60,14 +67,14 @@ class Built:
     out chances), the names of moves (none at an end), what payoffs were multiplied by, and which
     states only deal out chances."""
 
-    listing: tuple[Any, ...]
-    nodes: tuple[Any, ...]
+    listing: tuple[Listed, ...]
+    nodes: tuple[Hashable, ...]
     names: tuple[Names, ...]
     scale: Fraction
     deals: frozenset[int]
 
 
-def exact(number: Any, what: str = "payoff") -> Fraction:
+def exact(number: object, what: str = "payoff") -> Fraction:
     """A number as a fraction. A float is the nearest one with a denominator of at most a million,
     refused where that is not the same to nine digits."""
     number = as_plain(number)
@@ -85,7 +92,7 @@ def exact(number: Any, what: str = "payoff") -> Fraction:
     return near
 
 
-def unique(names: Iterable[Any]) -> tuple[str, ...]:
+def unique(names: Iterable[object]) -> tuple[str, ...]:
     """Words for moves; where two are the same, each has its number too."""
     words = [str(name) for name in names]
     return tuple(word if words.count(word) == 1 else f"{word} #{place}"
@@ -99,7 +106,7 @@ class Deal:
     outcomes: tuple[tuple[Hashable, Fraction], ...]
 
 
-def merged(outcomes: Iterable[tuple[Hashable, Any]]) -> Outcomes:
+def merged(outcomes: Iterable[tuple[Hashable, object]]) -> Outcomes:
     """Outcomes with the chances of equal nodes added, in the order of their first, without those
     of chance 0."""
     found: dict[Hashable, Fraction] = {}
@@ -187,6 +194,9 @@ def _groupings(outcomes: Outcomes) -> Iterator[list[Outcomes]]:
         for given in (ordered, ordered[::-1]):
             yield [*([outcome] for outcome in given[:count]), given[count:]]
 
+
+Rows = tuple[tuple[Cell, ...], ...]
+"""The rows of a state as a table has them."""
 
 Told = Fraction | list[list[list[tuple[Hashable, int]]]]
 """The payoff of an end, or the rows of a state with the draws of each cell."""
@@ -295,12 +305,12 @@ def _scale(payoffs: Iterable[Fraction]) -> Fraction:
     return scale
 
 
-def _numbered(told: Told, place: Mapping[Hashable, int]) -> tuple[Any, ...]:
+def _numbered(told: Told, place: Mapping[Hashable, int]) -> Rows:
     """The rows of a state with the numbers of states; draws of one state are one."""
     assert not isinstance(told, Fraction)
     rows = []
     for row in told:
-        cells: list[Any] = []
+        cells: list[Cell] = []
         for cell in row:
             sums: dict[int, int] = {}
             for node, part in cell:
@@ -311,7 +321,7 @@ def _numbered(told: Told, place: Mapping[Hashable, int]) -> tuple[Any, ...]:
     return tuple(rows)
 
 
-def _require_rank(rows: Sequence[Any]) -> None:
+def _require_rank(rows: Sequence[Rows]) -> None:
     """Refuses a game of too many turns."""
     ranks: dict[int, int] = {}
     for state in reversed(range(len(rows))):
@@ -324,7 +334,7 @@ def _require_rank(rows: Sequence[Any]) -> None:
                            f"out chances; {MOST_RANK} are possible")
 
 
-def of_matrix(payoffs: Any, one: Sequence[Any] | None, two: Sequence[Any] | None,
+def of_matrix(payoffs: object, one: Sequence[object] | None, two: Sequence[object] | None,
               rounds: int | None) -> Built:
     """The table of a matrix, played once, or for some rounds whose payoffs are summed."""
     if rounds is not None and not (is_whole(rounds) and 0 < rounds <= MOST_RANK):
@@ -347,7 +357,7 @@ def of_matrix(payoffs: Any, one: Sequence[Any] | None, two: Sequence[Any] | None
     return build((1 if rounds is None else rounds, Fraction(0)), expand)
 
 
-def _matrix(payoffs: Any) -> list[list[Any]]:
+def _matrix(payoffs: object) -> list[list[object]]:
     """A matrix as a list of rows, all of one length."""
     try:
         matrix = [list(as_plain(row)) for row in as_plain(payoffs)]
@@ -366,7 +376,7 @@ def _matrix(payoffs: Any) -> list[list[Any]]:
     return matrix
 
 
-def _cell(cell: Any, one: str, two: str) -> list[tuple[Fraction, Fraction]]:
+def _cell(cell: object, one: str, two: str) -> list[tuple[Fraction, Fraction]]:
     """The payoffs of a pair of moves with their chances."""
     try:
         if not isinstance(cell, (list, tuple)):
@@ -381,7 +391,7 @@ def _cell(cell: Any, one: str, two: str) -> list[tuple[Fraction, Fraction]]:
                            f"its chance: in row {one}, column {two}") from None
 
 
-def _named(names: Sequence[Any] | None, count: int, side: str) -> tuple[str, ...]:
+def _named(names: Sequence[object] | None, count: int, side: str) -> tuple[str, ...]:
     """The names of moves, their numbers where none are given."""
     if names is None:
         return tuple(map(str, range(count)))
@@ -390,11 +400,12 @@ def _named(names: Sequence[Any] | None, count: int, side: str) -> tuple[str, ...
     return unique(names)
 
 
-def of_functions(root: Hashable, moves: Callable[[Any], Any], after: Callable[..., Any],
-                 payoff: Callable[[Any], Any], rounded: bool) -> Built:
+def of_functions(root: Node, moves: Callable[[Node], BothMoves],
+                 after: Callable[[Node, Any, Any], object], payoff: Callable[[Node], object],
+                 rounded: bool) -> Built:
     """The table of a game that functions tell."""
 
-    def expand(node: Hashable) -> End | Turn:
+    def expand(node: Node) -> End | Turn:
         ones, twos = _both_moves(node, moves(node))
         if not ones and not twos:
             return End(_payoff(node, payoff(node)))
@@ -405,7 +416,7 @@ def of_functions(root: Hashable, moves: Callable[[Any], Any], after: Callable[..
     return build(_hashed(root), expand, rounded, "let moves return None where it ends")
 
 
-def _payoff(node: Hashable, found: Any) -> Fraction:
+def _payoff(node: Hashable, found: object) -> Fraction:
     """What One gets at an end; the message of a fault names the node."""
     try:
         return exact(found)
@@ -413,7 +424,7 @@ def _payoff(node: Hashable, found: Any) -> Fraction:
         raise NoTableError(f"{fault}: payoff({shorten(node)})") from None
 
 
-def _both_moves(node: Hashable, found: Any) -> tuple[list[Any], list[Any]]:
+def _both_moves(node: Hashable, found: BothMoves) -> tuple[list[object], list[object]]:
     """The moves of both players."""
     try:
         one, two = ((), ()) if found is None else found
@@ -423,7 +434,7 @@ def _both_moves(node: Hashable, found: Any) -> tuple[list[Any], list[Any]]:
                            f"of One and those of Two") from None
 
 
-def _hashed(node: Hashable) -> Hashable:
+def _hashed(node: Node) -> Node:
     """The node, which has to be a value that can be looked up."""
     try:
         hash(node)
@@ -433,7 +444,7 @@ def _hashed(node: Hashable) -> Hashable:
     return node
 
 
-def _outcomes(found: Any) -> Outcomes:
+def _outcomes(found: object) -> Outcomes:
     """What a pair of moves leads to: a node, or nodes with their chances."""
     if isinstance(found, Mapping):
         return list(found.items())
@@ -448,10 +459,10 @@ def _outcomes(found: Any) -> Outcomes:
                            ) from None
 
 
-def of_game(game: Game) -> tuple[Built, list[Any]]:
+def of_game(game: AnyGame) -> tuple[Built, list[State | None]]:
     """The table of a game of this package, with the same order of moves and draws; and its
     states."""
-    states: dict[Hashable, State] = {}
+    states: dict[int, State] = {}
 
     def number(state: State) -> int:
         states.setdefault(state.key, state)
@@ -462,10 +473,10 @@ def of_game(game: Game) -> tuple[Built, list[Any]]:
         if state.is_end:
             return End(Fraction(state.payoff))
         rows: list[list[Outcomes]] = [
-            [[(number(state._after(one, two, draw)), Fraction(chance, CHANCE))
-              for draw, chance in enumerate(state._chances(one, two))]
+            [[(number(after), Fraction(chance, CHANCE))
+              for chance, after in state.outcomes_of_labels(one, two)]
              for two in state.moves("two")] for one in state.moves("one")]
         return Turn(rows, (state.names("one"), state.names("two")))
 
     built = build(number(game.root()), expand)
-    return built, [None if key is None else states[key] for key in built.nodes]
+    return built, [states[key] if isinstance(key, int) else None for key in built.nodes]

@@ -3,8 +3,8 @@ from __future__ import annotations
 
 from dataclasses import dataclass, field
 
+from ..limits import MOST_COINS, MOST_SIZE
 from .game import Field, Game, Side, State, packed, sign, unpacked
-from .limits import MOST_COINS, MOST_SIZE
 
 
 @dataclass(frozen=True)
@@ -45,7 +45,7 @@ class OshiZumoState(State):
 
 
 @dataclass(frozen=True)
-class OshiZumo(Game):
+class OshiZumo(Game[OshiZumoState]):
     """Oshi-Zumo: places on each side of the middle (0 to 8), the coins of both (0 to 31), the
     least bid (1 to 31), and where the wrestler stands."""
 
@@ -83,7 +83,7 @@ class OshiZumo(Game):
     def root(self) -> OshiZumoState:
         return OshiZumoState(self, self.place, self.one, self.two)
 
-    def _unpacked(self, key: int) -> State | None:
+    def _unpacked(self, key: int) -> OshiZumoState | None:
         place, one, two = unpacked(key, 5, 5, 5)
         found = OshiZumoState(self, place - 16, one, two)
         known = abs(found.place) <= self.size + 1 and one <= self.one and two <= self.two

@@ -21,19 +21,16 @@ from dataclasses import dataclass, field, replace
 from fractions import Fraction
 from functools import cached_property
 from pathlib import Path
-from typing import Any, Self
+from typing import Any, Self, cast
 
-from .building import Built, of_functions, of_game, of_matrix
+from ..errors import InputRefusedError, InvalidError, NoTableError
+from ..games.game import CHANCE, AnyGame, Field, Game, Side, State, side_of
+from ..values import FilePath, as_field, cut, shorten
+from .building import BothMoves, Built, Node, of_functions, of_game, of_matrix
 from .csv_matrices import read_csv
-from .errors import InputRefusedError, InvalidError, NoTableError
 from .gambit import of_gambit, save_gambit
-from .game import CHANCE, Field, Game, Side, State, side_of
-from .openspiel_tables import Key, of_openspiel
-from .table_lists import LINE, Lists, fault_of, kind_fault, listed, nested, range_fault
-from .values import FilePath, as_field, cut, shorten
-
-NAMES = ".names"
-"""The ending of the file of a table's names, beside that of a position or a report."""
+from .lists import LINE, Cell, Listing, Lists, fault_of, kind_fault, listed, nested, range_fault
+from .openspiel import Key, OpenSpielGame, OpenSpielState, of_openspiel
 
 _DEALT = "chance"
 """The name of a state that only deals out chances."""
@@ -46,10 +43,10 @@ MoveNames = tuple[Sequence[str], Sequence[str]]
 class _States(Field):
     """The field `states` of a position."""
 
-    def refuse(self, value: Any) -> None:
+    def refuse(self, value: object) -> None:
         fault, told = "14 kind", kind_fault(value)
         if told is None:
-            fault, told = "15 range", range_fault(value)
+            fault, told = "15 range", range_fault(cast(Listing, value))
         if told is not None:
             raise InputRefusedError(f"input {fault} of states", told)
 
@@ -104,9 +101,9 @@ class TableState(State):
     def _moves(self, side: Side) -> tuple[int, ...]:
         return tuple(range(self.game.lists.moves[2 * self.number + (side == "two")]))
 
-    def _draws(self, one: int, two: int) -> Sequence[tuple[int, int]]:
+    def _draws(self, one: int, two: int) -> Sequence[Sequence[int]]:
         """The states that can follow, with their weights."""
-        cell: int | Sequence[tuple[int, int]] = self.game.listing[self.number][one][two]
+        cell: Cell = self.game.listing[self.number][one][two]
         return ((cell, CHANCE),) if isinstance(cell, int) else cell
 
     def _chances(self, one: int, two: int) -> tuple[int, ...]:
@@ -117,7 +114,7 @@ class TableState(State):
 
 
 @dataclass(frozen=True, repr=False, eq=False)
-class Table(Game):
+class Table(Game[TableState]):
     """Any finite game, as a list of states.
 
     - `listing`: the states as a position has them.
@@ -195,7 +192,7 @@ class Table(Game):
             raise InputRefusedError(f"input {fault[0]}", fault[1])
         return cls(nested(lists))
 
-    def values(self) -> Iterator[Any]:
+    def values(self) -> Iterator[object]:
         yield self.listing
 
     @cached_property
@@ -219,7 +216,7 @@ class Table(Game):
     def _unpacked(self, key: int) -> TableState | None:
         return TableState(self, key) if key < len(self.listing) else None
 
-    def at(self, node: Any) -> TableState:
+    def at(self, node: Hashable) -> TableState:
         """The state that was made of this node."""
         try:
             return TableState(self, self._numbers[node])
@@ -227,7 +224,7 @@ class Table(Game):
             raise InvalidError(f"no state of the table was made of {shorten(node)}") from None
 
     @cached_property
-    def _numbers(self) -> dict[Any, int]:
+    def _numbers(self) -> dict[Hashable, int]:
         return {node: number for number, node in enumerate(self.nodes)
                 if node is not None or self.state_names[number:number + 1] != (_DEALT,)}
 
@@ -294,7 +291,7 @@ class Table(Game):
 
     @classmethod
     def _of(cls, built: Built, name: Callable[[Any], str],
-            nodes: Sequence[Any] | None = None) -> Table:
+            nodes: Sequence[object] | None = None) -> Table:
         """The table that was built, its states named by their nodes."""
         kept = built.nodes if nodes is None else nodes
         names = [f"payoff {state / built.scale}" if isinstance(state, int) else
@@ -303,24 +300,25 @@ class Table(Game):
         return cls(built.listing, tuple(names), built.names, tuple(kept), built.scale)
 
     @classmethod
-    def from_matrix(cls, payoffs: Any, one: Sequence[Any] | None = None,
-                    two: Sequence[Any] | None = None) -> Table:
+    def from_matrix(cls, payoffs: object, one: Sequence[object] | None = None,
+                    two: Sequence[object] | None = None) -> Table:
         """A game of one turn: One's payoffs, a row for each move of One, with the names of both
         players' moves. A payoff can also be a list of pairs, of a payoff and its chance."""
         return cls._of(of_matrix(payoffs, one, two, None), lambda node: "root")
 
     @classmethod
-    def repeated(cls, payoffs: Any, rounds: int, one: Sequence[Any] | None = None,
-                 two: Sequence[Any] | None = None) -> Table:
+    def repeated(cls, payoffs: object, rounds: int, one: Sequence[object] | None = None,
+                 two: Sequence[object] | None = None) -> Table:
         """A matrix that is played for some rounds (1 to 31), and pays the sum."""
         return cls._of(of_matrix(payoffs, one, two, rounds),
                        lambda node: f"{node[0]} round{'s' if node[0] > 1 else ''} left, sum "
                                     f"{node[1]}")
 
     @classmethod
-    def from_functions(cls, root: Hashable, moves: Callable[[Any], Any],
-                       after: Callable[[Any, Any, Any], Any], payoff: Callable[[Any], Any],
-                       name: Callable[[Any], str] = str, rounded: bool = False) -> Table:
+    def from_functions(cls, root: Node, moves: Callable[[Node], BothMoves],
+                       after: Callable[[Node, Any, Any], object],
+                       payoff: Callable[[Node], object], name: Callable[[Node], str] = str,
+                       rounded: bool = False) -> Table:
         """The game that begins at a node, any hashable value, told by functions:
 
         - `moves(node)`: the moves of One and those of Two, two lists of any values; a player who
@@ -338,8 +336,8 @@ class Table(Game):
         return cls._of(of_functions(root, moves, after, payoff, rounded), name)
 
     @classmethod
-    def from_openspiel(cls, game: Any, key: Key | None = None, rounded: bool = False,
-                       trust: bool = False) -> Table:
+    def from_openspiel(cls, game: OpenSpielGame | OpenSpielState, key: Key | None = None,
+                       rounded: bool = False, trust: bool = False) -> Table:
         """The game that begins at a state, or the root of a game, with OpenSpiel's calls: moves at
         once or in turns, and draws in the open.
 
@@ -352,7 +350,7 @@ class Table(Game):
         return cls._of(built, str, states)
 
     @classmethod
-    def from_game(cls, game: Game) -> Table:
+    def from_game(cls, game: AnyGame) -> Table:
         """Any game of this package, also a subclass of `Game` of your own, with the same order of
         moves and draws."""
         built, states = of_game(game)
@@ -370,14 +368,14 @@ class Table(Game):
         save_gambit(self, path)
 
 
-def _frozen(value: Any) -> Any:
+def _frozen(value: object) -> Any:
     """Lists as tuples, and numbers as Python's own."""
     if type(value) is int:
         return value
-    return tuple(map(_frozen, value)) if type(value) in (list, tuple) else as_field(value)
+    return tuple(map(_frozen, value)) if isinstance(value, (list, tuple)) else as_field(value)
 
 
-def read_matrix(path: FilePath) -> tuple[list[list[Any]], list[str] | None, list[str] | None]:
+def read_matrix(path: FilePath) -> tuple[object, list[str] | None, list[str] | None]:
     """The matrix of a file, with the names of the moves of One and of Two where it has any.
 
     A JSON file has a list of rows. A CSV file has a row on each line. Where its first cell is
@@ -403,46 +401,3 @@ def read_matrix(path: FilePath) -> tuple[list[list[Any]], list[str] | None, list
         return read_csv(text)
     except NoTableError as fault:
         raise NoTableError(f"{path} {fault}") from None
-
-
-def names_file(path: FilePath) -> Path:
-    """The file of names beside that of a position or a report."""
-    file = Path(path)
-    return file.with_suffix(NAMES) if file.name else file / NAMES
-
-
-def save_names(game: Game, path: FilePath) -> None:
-    """Writes the names of a table, where it has any or others stand there, beside its position or
-    report."""
-    file = names_file(path)
-    if isinstance(game, Table) and (game.has_names or file.is_file()):
-        file.write_text(game.names_text(), encoding="utf-8")
-
-
-def require_names(game: Game, path: FilePath) -> None:
-    """Refuses the position or report of a table where a file with something else stands in the
-    place of its names."""
-    file = names_file(path)
-    if isinstance(game, Table) and file.is_file() and not _are_names(file.read_bytes()):
-        raise InvalidError(f"{file} would be written over, and has no names of a table: name "
-                           f"another output")
-
-
-def _are_names(text: bytes) -> bool:
-    """Whether a file has what `Table.names_text` gave, of whichever table, or nothing."""
-    try:
-        found = json.loads(text or b"{}")
-    except ValueError:
-        return False
-    return isinstance(found, dict) and found.keys() <= {"table", "scale", "states", "moves"}
-
-
-def with_names(game: Game, path: FilePath) -> Game:
-    """The table with the names that stand beside its position or report."""
-    file = names_file(path)
-    if not isinstance(game, Table) or not file.is_file():
-        return game
-    try:
-        return game.named(file.read_text(encoding="utf-8"))
-    except InvalidError as fault:
-        raise InvalidError(f"{file}: {fault}; delete the file, or write it anew") from None

@@ -6,33 +6,30 @@ import math
 import os
 import re
 import shutil
-import subprocess
-import threading
 import time
-from collections.abc import Sequence
 from dataclasses import dataclass, replace
 from fractions import Fraction
 from pathlib import Path
-from typing import Any
 
-from .errors import (
+from ..errors import (
     DosolveError, InputRefusedError, InvalidError, LimitReachedError, ProgramFailedError,
     ProgramMissingError, ProgramTimeoutError, ReportRefusedError,
 )
-from .exact import BestResponse, expected_of, respond
-from .game import SCALE, SIDES, Game, Side, State, other, side_of
+from ..exact import BestResponse, expected_of, respond
+from ..games.game import SCALE, SIDES, AnyGame, Side, other, side_of
+from ..limits import MOST_GAMES, MOST_SEED
+from ..players.sheets import Sheet
+from ..positions import Position, require_position
+from ..reports import Report, explained
+from ..values import FilePath, as_field, cut, require_range, shorten
 from .library import find_library
-from .limits import MOST_GAMES, MOST_SEED
-from .plans import Sheet
-from .positions import Position, require_position
+from .process import GROUP, run
 from .progress import Bar, Follower, Listener
-from .reports import Report, explained
-from .values import FilePath, as_field, cut, require_range, shorten
 
 BLOCKS = 40
 """The blocks of games of a match, from whose means its standard error is made."""
 
-_REPOSITORY = Path(__file__).resolve().parents[2]
+_REPOSITORY = Path(__file__).resolve().parents[3]
 _BESIDE = _REPOSITORY / "crates" / "dosolve" / "out" / "dosolve"
 _FAILURES = {6: "its standard input failed", 7: "its standard output failed",
              8: "it ran out of memory"}
@@ -122,13 +119,13 @@ class Match:
         """The mean payoff of One."""
         return Fraction(self.sum, self.games)
 
-    def told(self, game: Game) -> list[str]:
+    def told(self, game: AnyGame) -> list[str]:
         """The turns of the first game in words: the state, both moves by their names, and the
         draw where there are several."""
-        state: State = game.root()
+        state = game.root()
         lines = []
         for turn in self.turns:
-            one, two = state._move("one", turn.one), state._move("two", turn.two)
+            one, two = state.move_labelled("one", turn.one), state.move_labelled("two", turn.two)
             drawn = f", draw {turn.draw}" if len(state.chances(one, two)) > 1 else ""
             names = state.names("one")[one], state.names("two")[two]
             lines.append(f"{state}: {names[0]} - {names[1]}{drawn}")
@@ -283,13 +280,14 @@ class Solver:
             raise InvalidError(f"{words[0]} takes a Report or its text, not {shorten(given)}")
         data = said.encode() if isinstance(said, str) else said
         limit = self.timeout if timeout is None else timeout
-        # A call of the library cannot be followed, and not be ended when time is up.
-        library = find_library() if (self.program, follower, limit) == (None, None, None) else None
+        # A call of the library cannot be followed, nor ended when time is up or with a sweep.
+        needs = self.program, follower, limit, GROUP.get()
+        library = find_library() if needs == (None,) * len(needs) else None
         if library is not None:
             status, text, told = *library.answer(words, data), ""
             answer = text.decode("utf-8", "replace")
         else:
-            status, answer, told = _run([find_program(self.program), *words], data, follower, limit)
+            status, answer, told = run([find_program(self.program), *words], data, follower, limit)
         if status in good:
             return answer
         raise self._refusal(words, data, status, answer.removesuffix("\n"), told)
@@ -341,62 +339,18 @@ def _stopped(report: Report, what: str) -> Report:
     return report if report.gap <= report.asked else replace(report, stopped=what)
 
 
-def require_match(games: Any, seed: Any) -> tuple[int, int]:
+def require_match(games: object, seed: object) -> tuple[int, int]:
     """The number of games and the seed of a match, refused where they are out of range."""
-    games, seed = as_field(games), as_field(seed)
-    require_range("games", games, 2, BLOCKS * MOST_GAMES)
-    require_range("seed", seed, 0, MOST_SEED)
-    return games, seed
+    numbers: tuple[int, int] = as_field(games), as_field(seed)
+    require_range("games", numbers[0], 2, BLOCKS * MOST_GAMES)
+    require_range("seed", numbers[1], 0, MOST_SEED)
+    return numbers
 
 
 def _hashed(seed: int, block: int) -> int:
     """A seed for a block of games, far from those of other blocks and seeds."""
     digest = hashlib.sha256(f"dosolve match {seed} {block}".encode()).digest()
     return int.from_bytes(digest[:8], "big")
-
-
-def _run(words: Sequence[str], data: bytes, follower: Follower | None,
-         timeout: float | None) -> tuple[int, str, str]:
-    """The status, the answer and what the program printed on standard error.
-
-    Without a follower, and with DOSOLVE_PROGRESS set, standard error goes where this process's
-    goes. The program is ended with the call, whatever ends it.
-    """
-    told: list[str] = []
-    passed = follower is None and "DOSOLVE_PROGRESS" in os.environ
-    environment = os.environ | {"DOSOLVE_PROGRESS": "1"} if follower else None
-    try:
-        process = subprocess.Popen(words, stdin=subprocess.PIPE, stdout=subprocess.PIPE,
-                                   stderr=None if passed else subprocess.PIPE, env=environment)
-    except OSError as fault:
-        raise ProgramMissingError(f"{words[0]} cannot be run: {fault}") from fault
-    with process:
-        errors = process.stderr
-        process.stderr = None
-        listening = threading.Thread(target=_listen, args=(errors, follower, told), daemon=True)
-        listening.start()
-        try:
-            answer, _ = process.communicate(data, timeout)
-        except subprocess.TimeoutExpired:
-            raise ProgramTimeoutError(f"{' '.join(words[1:])} took more than {timeout} "
-                                      f"seconds") from None
-        finally:
-            if process.poll() is None:
-                process.kill()
-                process.wait()
-            listening.join(1)
-    return process.returncode, answer.decode("utf-8", "replace"), "\n".join(told)
-
-
-def _listen(errors: Any, follower: Follower | None, told: list[str]) -> None:
-    """Reads standard error to its end, and keeps what is no progress."""
-    if errors is None:
-        return
-    with errors:
-        for line in errors:
-            text = line.decode("utf-8", "replace").rstrip()
-            if follower is None or not follower.hear(text):
-                told.append(text)
 
 
 def solve(position: Position, program: FilePath | None = None, timeout: float | None = None,

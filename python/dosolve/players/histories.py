@@ -8,14 +8,15 @@ from collections.abc import Callable, Sequence
 from dataclasses import dataclass
 from typing import Any
 
-from .errors import InvalidError
-from .game import SIDES, Game, Move, Side, State, side_of
-from .limits import MOST_WEIGHT
-from .plans import Sheet, chosen
-from .program import Match, Turn
-from .values import as_field, can_take, require_range
+from ..errors import InvalidError
+from ..games.game import SIDES, AnyGame, Move, Side, State, side_of
+from ..limits import MOST_WEIGHT
+from ..solver.program import Match, Turn
+from ..values import as_field, can_take, require_range
+from .plans import chosen
+from .sheets import Sheet
 
-HistoryPlay = Callable[[Side, Any, Sequence[Turn]], Any]
+HistoryPlay = Callable[[Side, Any, Sequence[Turn]], object]
 """A function from a side, a state and the turns played so far to probabilities or weights."""
 
 
@@ -26,11 +27,11 @@ class HistoryPlayer:
 
     play: HistoryPlay
 
-    def __call__(self, side: Side, state: State, history: Sequence[Turn] = ()) -> Any:
+    def __call__(self, side: Side, state: State, history: Sequence[Turn] = ()) -> object:
         return self.play(side, state, history)
 
 
-def takes_history(play: Callable[..., Any]) -> bool:
+def takes_history(play: Callable[..., object]) -> bool:
     """Whether a function takes a history beside its side and state."""
     if isinstance(play, HistoryPlayer):
         return True
@@ -42,11 +43,11 @@ def takes_history(play: Callable[..., Any]) -> bool:
                        f"not of {inspect.signature(play)}")
 
 
-Contender = Sheet | Callable[..., Any]
+Contender = Sheet | Callable[..., object]
 """A plan, a player of states `play(side, state)`, or a player of histories."""
 
 
-def live_match(game: Game, one: Contender, two: Contender, games: int = 1000,
+def live_match(game: AnyGame, one: Contender, two: Contender, games: int = 1000,
                seed: int = 0) -> Match:
     """Games between any two players, plans among them, in Python, with the standard error of
     their mean. Draws are made from `seed`; a player that draws for itself is not bound by it."""
@@ -64,11 +65,11 @@ def live_match(game: Game, one: Contender, two: Contender, games: int = 1000,
     return Match(*first, games, sum(payoffs), min(payoffs), max(payoffs), error)
 
 
-def require_games(games: Any) -> int:
+def require_games(games: object) -> int:
     """The number of games of a live match, refused where it is out of range."""
-    games = as_field(games)
-    require_range("games", games, 2, 1_000_000_000)
-    return int(games)
+    count: int = as_field(games)
+    require_range("games", count, 2, 1_000_000_000)
+    return count
 
 
 Ask = Callable[[State, Sequence[Turn]], Sequence[int]]
@@ -86,14 +87,14 @@ def _asking(player: Contender, side: Side) -> Ask:
     play, by_history = player, takes_history(player)
 
     def ask(state: State, turns: Sequence[Turn]) -> tuple[int, ...]:
-        def choose(at: State) -> Any:
+        def choose(at: State) -> object:
             return play(side, at, turns) if by_history else play(side, at)
         return chosen(choose, state, side, MOST_WEIGHT)
 
     return ask
 
 
-def _one_game(game: Game, asks: Sequence[Ask],
+def _one_game(game: AnyGame, asks: Sequence[Ask],
               source: random.Random) -> tuple[tuple[Turn, ...], int]:
     """The turns and the payoff of one game."""
     state = game.root()

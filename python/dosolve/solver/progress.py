@@ -8,7 +8,7 @@ from collections.abc import Callable, Iterable
 from dataclasses import dataclass
 from typing import TextIO
 
-from .values import as_points
+from ..values import as_points
 
 _LINE = re.compile(r"worker (\d+) turns (\d+) seconds (\d+)"
                    r"(?: lower (-?\d+) upper (-?\d+) gap (\d+))?")

@@ -7,17 +7,17 @@ import json
 from collections.abc import Iterable, Mapping, Sequence
 from dataclasses import dataclass
 from fractions import Fraction
-from typing import Any
 
-from .errors import InvalidError
-from .exact import expected_of
-from .game import SIDES, Side
+from ..errors import InvalidError
+from ..exact import expected_of
+from ..games.game import SIDES, Side
+from ..positions import Position, require_position
+from ..reports import scale_notes
+from ..solver.program import Solver
+from ..values import Record, cut, html_table
 from .histories import Contender, live_match, require_games, takes_history
 from .measuring import plan_of
-from .plans import Sheet
-from .positions import Position, require_position
-from .reports import scale_notes
-from .values import cut, html_table
+from .sheets import Sheet
 
 SOLVER = "solver"
 """The name under which the solver's plans take part."""
@@ -53,17 +53,17 @@ class Tournament:
     def __str__(self) -> str:
         return self.markdown().removesuffix("\n")
 
-    def table(self) -> list[dict[str, Any]]:
+    def table(self) -> list[Record]:
         """The meetings as records, as `pandas.DataFrame` takes them."""
         return [{column: getattr(pairing, column) for column in _COLUMNS}
                 for pairing in self.pairings]
 
-    def standings(self) -> list[dict[str, Any]]:
+    def standings(self) -> list[Record]:
         """Each player's mean payoff as One and as Two (its own: One's negative) and over both, the
         best first."""
         names = dict.fromkeys(name for pairing in self.pairings for name in (pairing.one,
                                                                              pairing.two))
-        found: list[dict[str, Any]] = []
+        found: list[Record] = []
         for name in names:
             one = [pairing.payoff for pairing in self.pairings if pairing.one == name]
             two = [-pairing.payoff for pairing in self.pairings if pairing.two == name]
@@ -101,7 +101,7 @@ class Tournament:
 
 
 def tournament(players: Mapping[str, Contender], positions: Iterable[Position],
-               solver: Any = None, games: int = 1000, seed: int = 0,
+               solver: Solver | None = None, games: int = 1000, seed: int = 0,
                seconds: float | None = None) -> Tournament:
     """Each player against each, itself too, on each position; positions of tables have to have
     one `scale`.
@@ -166,7 +166,7 @@ def _mean(numbers: list[float]) -> float:
     return sum(numbers) / len(numbers) if numbers else 0.0
 
 
-def _markdown(records: list[dict[str, Any]]) -> str:
+def _markdown(records: list[Record]) -> str:
     """Records as a table."""
     if not records:
         return ""

@@ -9,8 +9,8 @@ from __future__ import annotations
 import csv
 import re
 
+from ..errors import NoTableError
 from .building import exact
-from .errors import NoTableError
 
 Matrix = tuple[list[list[str]], list[str] | None, list[str] | None]
 """The rows of payoffs, and the names of the moves of One and of Two."""

@@ -14,11 +14,11 @@ from abc import ABC, abstractmethod
 from collections.abc import Collection, Iterable, Iterator, Sequence, Set
 from dataclasses import dataclass
 from fractions import Fraction
-from typing import Any, ClassVar, Final, Literal, NewType, Self, cast
+from typing import Any, ClassVar, Final, Generic, Literal, NewType, Self, TypeVar, cast
 
-from .errors import InputRefusedError, InvalidError
-from .limits import MOST_KEY, MOST_ROWS
-from .values import as_field, is_whole, shorten
+from ..errors import InputRefusedError, InvalidError
+from ..limits import MOST_KEY, MOST_ROWS
+from ..values import Record, as_field, is_whole, shorten
 
 Side = Literal["one", "two"]
 SIDES: Final[tuple[Side, Side]] = ("one", "two")
@@ -123,7 +123,7 @@ def sign(number: int) -> int:
     return (number > 0) - (number < 0)
 
 
-def require_clear(given: Collection[Any], labels: Sequence[int], names: Sequence[str]) -> None:
+def require_clear(given: Collection[object], labels: Sequence[int], names: Sequence[str]) -> None:
     """Refuses labels that could as well be meant as names, and of other moves then."""
     if not all(str(label) in names for label in given):
         return
@@ -137,7 +137,7 @@ def require_clear(given: Collection[Any], labels: Sequence[int], names: Sequence
 class State(ABC):
     """A state of a game: all that the rest of the game depends on."""
 
-    game: Game
+    game: AnyGame
 
     @property
     @abstractmethod
@@ -174,9 +174,9 @@ class State(ABC):
         where no move has that name. A label that is the name of another move is refused."""
         if not isinstance(label, str):
             require_clear((label,), self.moves(side), self.names(side))
-        return self._move(side, label)
+        return self.move_labelled(side, label)
 
-    def _move(self, side: Side, label: int | str) -> Move:
+    def move_labelled(self, side: Side, label: int | str) -> Move:
         """The number of the move with this label, whatever the names are, or with this name."""
         known: tuple[int | str, ...] = self.moves(side)
         if isinstance(label, str):
@@ -207,14 +207,21 @@ class State(ABC):
         count = len(self._chances(*labels))
         if not 0 <= draw < count:
             raise InvalidError(f"draw {draw} of {count} in {self}")
-        return cast(Self, self._after(*labels, draw))
+        return self.after_labels(*labels, draw)
 
     def outcomes(self, one: Move, two: Move) -> list[tuple[int, Self]]:
         """Each state that these moves (numbers) can lead to, behind its chance in parts of
         `CHANCE`, in the order of draws."""
-        labels = self._in_range(one, two)
-        return [(chance, cast(Self, self._after(*labels, draw)))
-                for draw, chance in enumerate(self._chances(*labels))]
+        return self.outcomes_of_labels(*self._in_range(one, two))
+
+    def after_labels(self, one: int, two: int, draw: int = 0) -> Self:
+        """The state after moves with these labels, which have to be there, and this draw."""
+        return cast(Self, self._after(one, two, draw))
+
+    def outcomes_of_labels(self, one: int, two: int) -> list[tuple[int, Self]]:
+        """What `outcomes` gives, of moves with these labels, which have to be there."""
+        return [(chance, self.after_labels(one, two, draw))
+                for draw, chance in enumerate(self._chances(one, two))]
 
     def _in_range(self, one: int, two: int) -> tuple[int, int]:
         """The labels of both moves."""
@@ -243,8 +250,12 @@ class State(ABC):
         """The state after the moves with these labels, and this draw."""
 
 
-class Game(ABC):
-    """The settings of a game, as a position has them."""
+S_co = TypeVar("S_co", bound=State, covariant=True)
+"""The states of a game."""
+
+
+class Game(ABC, Generic[S_co]):
+    """The settings of a game, as a position has them; `Game[S]` has states of the type `S`."""
 
     name: ClassVar[str]
     version: ClassVar[int] = 1
@@ -273,9 +284,8 @@ class Game(ABC):
         return cls(*values)
 
     @abstractmethod
-    def root(self) -> Any:
-        """The state in which the game begins: a `State`. Which further fields it has depends on
-        the game, so of a game of any kind it is typed as `Any`."""
+    def root(self) -> S_co:
+        """The state in which the game begins."""
 
     @property
     def chance_free(self) -> bool:
@@ -308,36 +318,35 @@ class Game(ABC):
         else the rows that a board can have."""
         return MOST_ROWS
 
-    def state(self, key: int) -> Any:
-        """The state with this key, as reports name it; typed as `root` is."""
+    def state(self, key: int) -> S_co:
+        """The state with this key, as reports name it."""
         found = self._unpacked(key) if is_whole(key) and 0 <= key <= MOST_KEY else None
         if found is None or found.key != key:
             raise InvalidError(f"no state of {self.title()} has the key {shorten(key)}")
         return found
 
-    def _unpacked(self, key: int) -> State | None:
+    def _unpacked(self, key: int) -> S_co | None:
         """The state of a key, or None. A game may do better than search."""
         return next((state for state in self.states() if state.key == key), None)
 
-    def states(self) -> Iterator[State]:
+    def states(self) -> Iterator[S_co]:
         """Each state that play can reach, terminal ones too, each once."""
-        root: State = self.root()
+        root = self.root()
         seen, waiting = {root.key}, [root]
         while waiting:
             state = waiting.pop()
             yield state
             for one in state.moves("one"):
                 for two in state.moves("two"):
-                    for draw in range(len(state._chances(one, two))):
-                        after = state._after(one, two, draw)
+                    for _, after in state.outcomes_of_labels(one, two):
                         if after.key not in seen:
                             seen.add(after.key)
                             waiting.append(after)
 
-    def state_after(self, turns: Iterable[tuple[int | str, ...]]) -> Any:
+    def state_after(self, turns: Iterable[Sequence[int | str]]) -> S_co:
         """The state after turns from the root: for each the labels or names of both moves, and
-        the number of the draw where it is not 0. Typed as `root` is."""
-        state: State = self.root()
+        the number of the draw where it is not 0."""
+        state = self.root()
         for turn in turns:
             if len(turn) not in (2, 3):
                 raise InvalidError(f"a turn is One's move, Two's move and a draw, not {turn!r}")
@@ -357,18 +366,17 @@ class Game(ABC):
         quotient = -(-2 * self.most_moves * spread * spread // weight)
         least = math.isqrt(quotient)
         least += least * least < quotient
-        root: State = self.root()
-        return root.rank * (least + 1 + (not self.chance_free))
+        return self.root().rank * (least + 1 + (not self.chance_free))
 
     def unscaled(self, bound: int) -> Fraction:
         """A bound, in millionths, as a payoff of the rules, before `scale`."""
         return Fraction(bound, SCALE) / self.scale
 
-    def values(self) -> Iterator[Any]:
+    def values(self) -> Iterator[object]:
         """The settings in the order of their fields."""
         return (getattr(self, field.name) for field in self.settings)
 
-    def record(self) -> dict[str, Any]:
+    def record(self) -> Record:
         """The settings by the names of their fields."""
         return {field.name: value for field, value in zip(self.settings, self.values())}
 
@@ -381,3 +389,7 @@ class Game(ABC):
     def title(self) -> str:
         """The game in a few words, as summaries and messages have it."""
         return self.line()
+
+
+AnyGame = Game[State]
+"""A game of any kind."""

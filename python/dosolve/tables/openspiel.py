@@ -2,24 +2,67 @@
 from __future__ import annotations
 
 import copy
-from collections.abc import Callable, Hashable
+from collections.abc import Callable, Hashable, Iterable, Sequence
 from fractions import Fraction
-from typing import Any
+from typing import Any, Protocol, cast
 
+from ..errors import NoTableError
+from ..games.game import SIDES
+from ..values import shorten
 from .building import ONLY, Built, Deal, End, Outcomes, Turn, build, exact, merged, unique
-from .errors import NoTableError
-from .game import SIDES
-from .values import shorten
-
 
 Key = Callable[[Any], Hashable]
 """A function that tells states apart."""
 
 
-def of_openspiel(game: Any, key: Key | None, rounded: bool,
-                 trust: bool) -> tuple[Built, list[Any]]:
+class OpenSpielState(Protocol):
+    """The calls of OpenSpiel's `State` that make a table. `clone`, `action_to_string`,
+    `num_players` and `get_game` are used where they are there; `apply_actions` where both players
+    move at once, and the calls of chance nodes where there are any."""
+
+    def is_terminal(self) -> bool:
+        """Whether the game is over."""
+
+    def is_chance_node(self) -> bool:
+        """Whether a draw has to be made."""
+
+    def is_simultaneous_node(self) -> bool:
+        """Whether both players have to move."""
+
+    def current_player(self) -> int:
+        """Whose move it is, where one player moves."""
+
+    def legal_actions(self, player: int, /) -> Sequence[int]:
+        """The actions of a player."""
+
+    def returns(self) -> Sequence[float]:
+        """The payoffs of both players at an end."""
+
+    def chance_outcomes(self) -> Iterable[tuple[int, float]]:
+        """The draws with their chances."""
+
+    def apply_action(self, action: int, /) -> object:
+        """Makes one player's move, or a draw."""
+
+    def apply_actions(self, actions: list[int], /) -> object:
+        """Makes both players' moves."""
+
+
+class OpenSpielGame(Protocol):
+    """The call of OpenSpiel's `Game` that makes a table."""
+
+    def new_initial_state(self) -> OpenSpielState:
+        """The state in which the game begins."""
+
+
+Reached = list[tuple[OpenSpielState, Fraction]]
+"""States with their chances."""
+
+
+def of_openspiel(game: OpenSpielGame | OpenSpielState, key: Key | None, rounded: bool,
+                 trust: bool) -> tuple[Built, list[OpenSpielState | None]]:
     """The table of the game that begins at a state or at the root of a game; and its states."""
-    state = game if hasattr(game, "is_terminal") else _root(game)
+    state = cast(OpenSpielState, game) if hasattr(game, "is_terminal") else _root(game)
     _require_calls(state)
     _require_known(state, trust)
     walker = _Walker(key)
@@ -29,15 +72,15 @@ def of_openspiel(game: Any, key: Key | None, rounded: bool,
     return built, [None if node is None else walker.states[node] for node in built.nodes]
 
 
-def _root(game: Any) -> Any:
+def _root(game: object) -> OpenSpielState:
     """The state in which a game begins."""
     begin = getattr(game, "new_initial_state", None)
     if not callable(begin):
         raise NoTableError(f"{shorten(game)} has not the calls of OpenSpiel's State or Game")
-    return begin()
+    return cast(OpenSpielState, begin())
 
 
-def _require_calls(state: Any) -> None:
+def _require_calls(state: object) -> None:
     """Refuses a state without the calls that every table needs."""
     calls = ("is_terminal", "is_chance_node", "is_simultaneous_node", "current_player",
              "legal_actions", "returns")
@@ -47,7 +90,7 @@ def _require_calls(state: Any) -> None:
                            f"{', '.join(missing)}")
 
 
-def _require_known(state: Any, trust: bool) -> None:
+def _require_known(state: object, trust: bool) -> None:
     """Refuses games of other numbers of players, and those that hide something."""
     count = getattr(state, "num_players", lambda: len(SIDES))()
     if count != len(SIDES):
@@ -67,16 +110,16 @@ class _Walker:
 
     def __init__(self, key: Key | None) -> None:
         self.own_key = key
-        self.states: dict[Hashable, Any] = {}
+        self.states: dict[Hashable, OpenSpielState] = {}
         self.turns: dict[Hashable, int] = {}
         self.compared: set[Hashable] = set()
         self.sum: Fraction | None = None
 
-    def key(self, state: Any, turns: int) -> Hashable:
+    def key(self, state: OpenSpielState, turns: int) -> Hashable:
         """What tells a state apart."""
         return (turns, str(state)) if self.own_key is None else self.own_key(state)
 
-    def node(self, state: Any, turns: int) -> Hashable:
+    def node(self, state: OpenSpielState, turns: int) -> Hashable:
         """The state's key. Of the states that share one, each has to have the moves of the first,
         and the second also what follows them."""
         key = self.key(state, turns)
@@ -93,16 +136,16 @@ class _Walker:
                                f"hand over another function `key`")
         return key
 
-    def followers(self, state: Any, turns: int) -> list[list[tuple[Hashable, Fraction]]]:
+    def followers(self, state: OpenSpielState, turns: int) -> list[list[tuple[Hashable, Fraction]]]:
         """The keys of what each pair of moves leads to, with chances."""
         return [[(self.key(after, turns), chance) for after, chance in outcomes]
                 for row in self.rows(state) for outcomes in row]
 
-    def behind(self, state: Any, turns: int) -> Outcomes:
+    def behind(self, state: OpenSpielState, turns: int) -> Outcomes:
         """The nodes of a state that was reached, behind draws where these come first."""
         return [(self.node(after, turns), chance) for after, chance in _drawn(state)]
 
-    def rows(self, state: Any) -> list[list[list[tuple[Any, Fraction]]]]:
+    def rows(self, state: OpenSpielState) -> list[list[Reached]]:
         """The states that each pair of moves leads to, behind draws."""
         if state.is_simultaneous_node():
             one, two = (_actions(state, player) for player in (0, 1))
@@ -122,7 +165,7 @@ class _Walker:
         one, two = (_names(state, player) for player in (0, 1))
         return Turn(rows, (one, two))
 
-    def payoff(self, state: Any) -> Fraction:
+    def payoff(self, state: OpenSpielState) -> Fraction:
         """The first return of an end; both returns have the same sum at each end."""
         one, two = map(exact, state.returns())
         if self.sum is None:
@@ -133,7 +176,7 @@ class _Walker:
         return one
 
 
-def _moves(state: Any) -> tuple[Any, ...]:
+def _moves(state: OpenSpielState) -> tuple[object, ...]:
     """What can be told at once of how a state goes on."""
     if state.is_terminal():
         return "end", *state.returns()
@@ -143,12 +186,12 @@ def _moves(state: Any) -> tuple[Any, ...]:
     return player, _actions(state, player)
 
 
-def _actions(state: Any, player: int) -> tuple[Any, ...]:
+def _actions(state: OpenSpielState, player: int) -> tuple[int, ...]:
     """A player's actions; 0 alone where both move and the player has none."""
     return tuple(state.legal_actions(player)) or (0,)
 
 
-def _names(state: Any, player: int) -> tuple[str, ...]:
+def _names(state: OpenSpielState, player: int) -> tuple[str, ...]:
     """The names of a player's moves."""
     if not state.is_simultaneous_node() and state.current_player() != player:
         return (ONLY,)
@@ -157,9 +200,10 @@ def _names(state: Any, player: int) -> tuple[str, ...]:
     return unique(told(player, action) for action in actions) if actions else (ONLY,)
 
 
-def _after(state: Any, action: Any) -> Any:
+def _after(state: OpenSpielState, action: int | tuple[int, int]) -> OpenSpielState:
     """A state after an action, or after those of both players."""
-    child = state.clone() if hasattr(state, "clone") else copy.deepcopy(state)
+    clone = getattr(state, "clone", None)
+    child = cast(OpenSpielState, clone()) if clone is not None else copy.deepcopy(state)
     if isinstance(action, tuple):
         child.apply_actions(list(action))
     else:
@@ -167,7 +211,7 @@ def _after(state: Any, action: Any) -> Any:
     return child
 
 
-def _drawn(state: Any) -> list[tuple[Any, Fraction]]:
+def _drawn(state: OpenSpielState) -> Reached:
     """The states behind the draws that come first, with their chances."""
     if state.is_terminal() or not state.is_chance_node():
         return [(state, Fraction(1))]

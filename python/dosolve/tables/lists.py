@@ -7,11 +7,10 @@ from __future__ import annotations
 from collections.abc import Iterator, Mapping, Sequence
 from dataclasses import dataclass
 from itertools import accumulate
-from typing import Any
 
-from .game import CHANCE, Field
-from .limits import MOST_DRAWS, MOST_MOVES, MOST_PAYOFF, MOST_RANK, MOST_STATES
-from .values import shorten
+from ..games.game import CHANCE, Field
+from ..limits import MOST_DRAWS, MOST_MOVES, MOST_PAYOFF, MOST_RANK, MOST_STATES
+from ..values import shorten
 
 MOST_WIDTH = 255
 """The rows, cells and draws that a text can have in one place."""
@@ -34,6 +33,15 @@ Fault = tuple[str, str]
 
 Draws = list[tuple[int, int]]
 """The states that can follow, with their weights."""
+
+Cell = int | Sequence[Sequence[int]]
+"""The state that follows, or draws."""
+
+Listed = int | Sequence[Sequence[Cell]]
+"""A state: the payoff of an end, or rows of cells."""
+
+Listing = Sequence[Listed]
+"""The states of a table."""
 
 _LIST = (list, tuple)
 
@@ -72,48 +80,51 @@ class Lists:
         return {at: pairs[first:end] for (at, first), end in zip(drawn, ends)}
 
 
-def kind_fault(listing: Any) -> str | None:
+def kind_fault(listing: object) -> str | None:
     """What has the wrong kind, the first in order."""
     if not isinstance(listing, _LIST):
         return f"states is {shorten(listing)}, and has to be a list of states"
     return next(_kind_faults(listing), None)
 
 
-def _kind_faults(listing: Sequence[Any]) -> Iterator[str]:
+def _kind_faults(listing: Sequence[object]) -> Iterator[str]:
     for state, told in enumerate(listing):
         if type(told) is int:
             continue
         if not isinstance(told, _LIST):
             yield _told((state,), told, "a whole number (an end) or a list of rows")
+            return
         for one, row in enumerate(told):
             if not isinstance(row, _LIST):
                 yield _told((state, one), row, "a list of cells")
+                return
             for two, cell in enumerate(row):
                 if type(cell) is not int:
                     yield from _draw_kinds((state, one, two), cell)
 
 
-def _draw_kinds(place: tuple[int, ...], cell: Any) -> Iterator[str]:
+def _draw_kinds(place: tuple[int, ...], cell: object) -> Iterator[str]:
     if not isinstance(cell, _LIST):
         yield _told(place, cell, "the number of a state or a list of draws")
+        return
     for number, draw in enumerate(cell):
         if not isinstance(draw, _LIST) or not all(type(each) is int for each in draw):
             yield _told((*place, number), draw, "a list of two whole numbers, a state and its "
                                                 f"weight out of {CHANCE}")
 
 
-def range_fault(listing: Sequence[Any]) -> str | None:
+def range_fault(listing: Listing) -> str | None:
     """What is out of range in a listing whose kinds are right, the first in order."""
-    cells = sum(len(row) for state in listing if type(state) is not int for row in state)
+    cells = sum(len(row) for state in listing if not isinstance(state, int) for row in state)
     if len(listing) > MOST_STATES or cells > MOST_STATES:
         return f"{len(listing)} states with {cells} cells are more than {MOST_STATES}"
     return next(_range_faults(listing), None)
 
 
-def _range_faults(listing: Sequence[Any]) -> Iterator[str]:
+def _range_faults(listing: Listing) -> Iterator[str]:
     draws = 0
     for state, told in enumerate(listing):
-        if type(told) is int:
+        if isinstance(told, int):
             if abs(told) > MOST_END:
                 yield _told((state,), told, f"from -{MOST_END} to {MOST_END}")
             continue
@@ -121,7 +132,7 @@ def _range_faults(listing: Sequence[Any]) -> Iterator[str]:
             yield f"states[{state}] has to have at most {MOST_WIDTH} rows and cells of a row"
         for one, row in enumerate(told):
             for two, cell in enumerate(row):
-                if type(cell) is int:
+                if isinstance(cell, int):
                     if not 0 <= cell <= MOST_NUMBER:
                         yield _told((state, one, two), cell, f"from 0 to {MOST_NUMBER}")
                     continue
@@ -131,7 +142,7 @@ def _range_faults(listing: Sequence[Any]) -> Iterator[str]:
         yield f"{draws} draws are more than {MOST_STATES // 2}"
 
 
-def _draw_ranges(place: tuple[int, ...], cell: Sequence[Any]) -> Iterator[str]:
+def _draw_ranges(place: tuple[int, ...], cell: Sequence[Sequence[int]]) -> Iterator[str]:
     if len(cell) > MOST_WIDTH:
         yield f"{_at(place)} has to have at most {MOST_WIDTH} draws"
     for number, draw in enumerate(cell):
@@ -144,11 +155,11 @@ def _at(place: tuple[int, ...]) -> str:
     return f"states{''.join(f'[{number}]' for number in place)}"
 
 
-def _told(place: tuple[int, ...], value: Any, wanted: str) -> str:
+def _told(place: tuple[int, ...], value: object, wanted: str) -> str:
     return f"{_at(place)} is {shorten(value)}, and has to be {wanted}"
 
 
-def listed(listing: Sequence[Any]) -> Lists:
+def listed(listing: Listing) -> Lists:
     """The lists of a listing that is in range."""
     moves: list[int] = []
     values: list[int] = []
@@ -175,7 +186,7 @@ def listed(listing: Sequence[Any]) -> Lists:
     return Lists(_ranks(listing, after), moves, values, cells, draws)
 
 
-def _ranks(listing: Sequence[Any], after: list[list[int]]) -> list[int]:
+def _ranks(listing: Listing, after: list[list[int]]) -> list[int]:
     """The turns of the longest way from each state, over states that stand behind it."""
     ranks = [0] * len(listing)
     for state in reversed(range(len(listing))):
@@ -185,17 +196,17 @@ def _ranks(listing: Sequence[Any], after: list[list[int]]) -> list[int]:
     return ranks
 
 
-def nested(lists: Lists) -> tuple[Any, ...]:
+def nested(lists: Lists) -> tuple[Listed, ...]:
     """The listing of the lists of a playable table."""
     draws = lists.draws_of()
-    listing: list[Any] = []
+    listing: list[Listed] = []
     for state, rank in enumerate(lists.ranks):
         if not rank:
             listing.append(lists.values[state])
             continue
         twos = lists.moves[2 * state + 1]
-        cells = [tuple(draws[at]) if at in draws else lists.cells[at]
-                 for at in lists.cells_of(state)]
+        cells: list[Cell] = [tuple(draws[at]) if at in draws else lists.cells[at]
+                             for at in lists.cells_of(state)]
         listing.append(tuple(tuple(cells[at:at + twos]) for at in range(0, len(cells), twos)))
     return tuple(listing)
 

@@ -4,11 +4,10 @@ from __future__ import annotations
 from collections.abc import Iterable, Sequence
 from dataclasses import dataclass, field
 from functools import cached_property
-from typing import Any
 
+from ..limits import MOST_NODES, MOST_ROUNDS
+from ..values import as_field
 from .game import Field, Game, Side, State, packed, unpacked
-from .limits import MOST_NODES, MOST_ROUNDS
-from .values import as_field
 
 
 @dataclass(frozen=True)
@@ -45,7 +44,7 @@ class PursuitState(State):
 
 
 @dataclass(frozen=True)
-class Pursuit(Game):
+class Pursuit(Game[PursuitState]):
     """The nodes (1 to 32), the edges, the nodes of both players, and the rounds (0 to 31).
 
     Edges are pairs of nodes, or the nodes of all pairs one after the other, as positions have
@@ -125,11 +124,11 @@ class Pursuit(Game):
     def root(self) -> PursuitState:
         return PursuitState(self, self.one == self.two, self.rounds, self.one, self.two)
 
-    def _unpacked(self, key: int) -> State | None:
+    def _unpacked(self, key: int) -> PursuitState | None:
         caught, rounds, one, two = unpacked(key, 1, 5, 5, 5)
         known = rounds <= self.rounds and max(one, two) < self.nodes
         return PursuitState(self, bool(caught), rounds, one, two) if known else None
 
 
-def _is_pair(value: Any) -> bool:
+def _is_pair(value: object) -> bool:
     return isinstance(value, tuple) and len(value) == 2

@@ -9,16 +9,19 @@ from fractions import Fraction
 from pathlib import Path
 from typing import Any
 
+from ..errors import InvalidError, NoTableError
+from ..games.game import CHANCE, SIDES, AnyGame, Move, State
+from ..values import FilePath, cut, shorten
 from .building import ONLY, Built, Deal, End, Outcomes, Turn, build, exact, merged, of_matrix
 from .building import unique
-from .errors import InvalidError, NoTableError
-from .game import CHANCE, SIDES, Game, Move, State
-from .values import FilePath, cut, shorten
 
 MOST_NODES = 200_000
 """The nodes of an extensive form that is written."""
 
 _TOKEN = re.compile(r'"((?:[^"\\]|\\.)*)"|([{}])|([^\s{},"]+)')
+
+Group = list[Any]
+"""Words, and groups of them, that stand between braces."""
 
 Made = tuple[Built, Callable[[Any], str]]
 """A table that was built, and a function from its nodes to names."""
@@ -80,12 +83,12 @@ class _Words:
         """Whether this word is next, not in quotation marks."""
         return self.peek() == word and not isinstance(self.peek(), _Text)
 
-    def group(self, what: str) -> list[Any]:
+    def group(self, what: str) -> Group:
         """What stands between braces, groups in it as lists."""
         if not self.is_next("{"):
             raise NoTableError(f"{shorten(self.peek())} stands where {what} in braces has to stand")
         self.take(what)
-        found: list[Any] = []
+        found: Group = []
         while not self.is_next("}"):
             found.append(self.group(what) if self.is_next("{") else self.take(what))
         self.take(what)
@@ -127,7 +130,7 @@ def _strategic(words: _Words) -> Made:
     return of_matrix(matrix, one, two, None), lambda node: "root"
 
 
-def _pair(words: list[Any]) -> tuple[Fraction, Fraction]:
+def _pair(words: Group) -> tuple[Fraction, Fraction]:
     """Both players' payoffs."""
     if len(words) != len(SIDES):
         raise NoTableError(f"{len(words)} payoffs for two players")
@@ -162,7 +165,7 @@ class _Tree:
     def __init__(self, words: _Words) -> None:
         self.words = words
         self.nodes: list[_Node] = []
-        self.actions: dict[tuple[int, int], list[Any]] = {}
+        self.actions: dict[tuple[int, int], Group] = {}
         self.groups: dict[tuple[int, int], list[int]] = {}
         self.outcomes: dict[int, tuple[Fraction, Fraction]] = {0: (Fraction(0), Fraction(0))}
         open_nodes: list[int] = []
@@ -244,7 +247,7 @@ class _Tree:
         node = self.nodes[number]
         return self.groups[node.player, node.group] == [number]
 
-    def expand(self, number: Any) -> End | Turn:
+    def expand(self, number: int) -> End | Turn:
         """What a node is: the end, one player's move, or both moves where the second player does
         not see the first one's."""
         node = self.nodes[number]
@@ -279,7 +282,7 @@ def _extensive(words: _Words) -> Made:
     return build(root, tree.expand), tree.name
 
 
-def save_gambit(game: Game, path: FilePath) -> None:
+def save_gambit(game: AnyGame, path: FilePath) -> None:
     """Writes any game of this package as an extensive form of Gambit (.efg), with the payoffs of
     its rules; of at most 200,000 nodes, since equal states are written again and again."""
     Path(path).write_text(_Writer(game).text(), encoding="utf-8")
@@ -288,7 +291,7 @@ def save_gambit(game: Game, path: FilePath) -> None:
 class _Writer:
     """The lines of an extensive form."""
 
-    def __init__(self, game: Game) -> None:
+    def __init__(self, game: AnyGame) -> None:
         self.game = game
         self.lines = [f'EFG 2 R {_quoted(cut(game.title(), 200))} {{ "One" "Two" }}']
         self.groups = [0, 0, 0]
@@ -296,8 +299,7 @@ class _Writer:
 
     def text(self) -> str:
         """The file."""
-        root: State = self.game.root()
-        self.add_state(root)
+        self.add_state(self.game.root())
         return "\n".join([*self.lines, ""])
 
     def add(self, line: str) -> None:

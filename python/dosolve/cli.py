@@ -1,0 +1,543 @@
+"""The commands of the command line, one class each: its name, its help, its arguments and what it
+does."""
+from __future__ import annotations
+
+import argparse
+import json
+import sys
+from abc import ABC, abstractmethod
+from argparse import ArgumentParser, Namespace
+from collections.abc import Iterable, Sequence
+from contextlib import closing
+from functools import partial
+from pathlib import Path
+from typing import TYPE_CHECKING, ClassVar
+
+from . import __version__, explore, pictures
+from .errors import DosolveError, InvalidError, ProgramMissingError
+from .files import naming, read_position, read_report, read_table, require_other, require_output
+from .games.game import SCALE, SIDES, Field, Side
+from .players.loading import load_player
+from .players.measuring import Measured, measure, plan_of, solved_text
+from .players.tournaments import tournament
+from .positions import ASKED, Asked, Position
+from .reports import Report, scale_notes
+from .solver.program import Solver, WorstCase, find_program, require_match
+from .solver.progress import read_progress
+from .sweeps import Swept, read_positions, sweep
+from .tables.names import names_file, require_names
+from .values import as_points
+
+if TYPE_CHECKING:
+    from matplotlib.figure import Figure
+
+_POSITION = "a position (.json), or a game: a matrix (.csv), a Gambit file, a Python file"
+
+_EXAMPLES = """examples:
+  python3 -m dosolve solve examples/goofspiel_mixed.json -o mixed.report
+  python3 -m dosolve solve python/examples/goofspiel_five.json --seconds 10
+  python3 -m dosolve measure examples/goofspiel_mixed.json python/examples/even.py
+  python3 -m dosolve exploit examples/goofspiel_mixed.report one
+  python3 -m dosolve show examples/goofspiel_mixed.report -o mixed.svg
+  python3 -m dosolve explore examples/goofspiel_five.report -o five.html
+  python3 -m dosolve sweep positions.jsonl -o results.jsonl
+  python3 -m dosolve table python/examples/soccer.py -o soccer.json
+
+Payoffs and bounds are what player one gets. The program is the one of --program, else that of the
+variable DOSOLVE, else the one built in the repository, else dosolve on the path."""
+
+
+class Command(ABC):
+    """A command: its name, what it does in a few words, its arguments, and what it does."""
+
+    name: ClassVar[str]
+    about: ClassVar[str]
+
+    def add_arguments(self, parser: ArgumentParser) -> None:
+        """Adds the arguments; these are those of every command."""
+        parser.add_argument("--program", metavar="FILE", help="the program")
+        parser.add_argument("--json", action="store_true", help="print JSON")
+
+    @abstractmethod
+    def run(self, words: Namespace) -> None:
+        """Does what the command does, with the arguments that were given."""
+
+
+class Solve(Command):
+    """Bounds of a position."""
+
+    name = "solve"
+    about = "bounds of a position's value, with notes"
+
+    def add_arguments(self, parser: ArgumentParser) -> None:
+        super().add_arguments(parser)
+        parser.add_argument("position", type=Path, metavar="POSITION", help=_POSITION)
+        parser.add_argument("-o", "--output", type=Path, metavar="REPORT", help="write the report")
+        parser.add_argument("--report", action="store_true", help="print the report itself")
+        _add_seconds(parser)
+        _add_asked(parser)
+
+    def run(self, words: Namespace) -> None:
+        position = read_position(words.position, _asked(words))
+        require_output(words.output, words.position)
+        if words.output:
+            require_names(position.game, words.output)
+        report = _solver(words).solve(position, words.seconds, progress=sys.stderr.isatty())
+        try:
+            if words.output:
+                report.save(words.output)
+        finally:
+            self._print(words, report)
+
+    def _print(self, words: Namespace, report: Report) -> None:
+        if words.report:
+            print(report.text(), end="")
+        elif words.json:
+            _print_record(report.record())
+        else:
+            print(report.summary(), end="")
+
+
+class Check(Command):
+    """Whether a report is right."""
+
+    name = "check"
+    about = "verify a report"
+
+    def add_arguments(self, parser: ArgumentParser) -> None:
+        super().add_arguments(parser)
+        parser.add_argument("report", type=Path, metavar="REPORT")
+
+    def run(self, words: Namespace) -> None:
+        notes = self._scale_beside(words.report)
+        with naming(words.report):
+            found = _solver(words).check(words.report.read_bytes())
+        if words.json:
+            _print_record({"lower": found.lower, "upper": found.upper, "outcome": found.outcome,
+                           "notes": list(notes)})
+            return
+        print(f"accepted lower {as_points(found.lower)} upper {as_points(found.upper)} "
+              f"{found.outcome}")
+        _print_notes(notes)
+
+    def _scale_beside(self, path: Path) -> tuple[str, ...]:
+        """The note on the payoffs of a report, where names beside it tell of any. The report is
+        read only then, and what is wrong with either is not told."""
+        try:
+            return scale_notes(Report.load(path).game) if names_file(path).is_file() else ()
+        except DosolveError:
+            return ()
+
+
+class Exploit(Command):
+    """The worst cases of plans."""
+
+    name = "exploit"
+    about = "what each plan of a report guarantees, and how much both could gain"
+
+    def add_arguments(self, parser: ArgumentParser) -> None:
+        super().add_arguments(parser)
+        parser.add_argument("report", type=Path, metavar="REPORT")
+        parser.add_argument("side", choices=SIDES, nargs="?", help="one side alone")
+
+    def run(self, words: Namespace) -> None:
+        report, solver = read_report(words.report), _solver(words)
+        with naming(words.report):
+            found = {side: solver.exploit(report, side) for side in _sides(words)}
+        both = {}
+        if len(found) == len(SIDES):
+            both["nash_conv"] = float(found["two"].payoff - found["one"].payoff)
+        if words.json:
+            _print_record([self._record(report, worst) | both for worst in found.values()])
+            return
+        for side, worst in found.items():
+            print(f"player {side} guarantees {as_points(worst.guaranteed)}")
+        for name, payoff in both.items():
+            print(f"{name} {payoff:z.6f}")
+        _print_notes(scale_notes(report.game))
+        for side in found:
+            _print_notes(report.row_notes(side))
+
+    def _record(self, report: Report, worst: WorstCase) -> dict[str, object]:
+        return {"side": worst.side, "guarantees": worst.guaranteed / SCALE,
+                "low": float(worst.low / SCALE), "high": float(worst.high / SCALE),
+                "exact": worst.is_exact,
+                "fraction": str(worst.payoff) if worst.is_exact else None,
+                "notes": [*scale_notes(report.game), *report.row_notes(worst.side)]}
+
+
+class Measure(Command):
+    """What a player is worth."""
+
+    name = "measure"
+    about = "what a player guarantees, and how it does against the solver's plan"
+
+    def add_arguments(self, parser: ArgumentParser) -> None:
+        super().add_arguments(parser)
+        parser.add_argument("position", type=Path, metavar="POSITION", help=_POSITION)
+        parser.add_argument("player", type=Path, metavar="PLAYER.py",
+                            help="a file with a function play(side, state)")
+        parser.add_argument("--side", choices=SIDES, help="one side alone")
+        _add_games(parser)
+        _add_seconds(parser)
+        _add_asked(parser)
+        parser.add_argument("--keep", type=Path, metavar="FOLDER",
+                            help="write one.report and two.report, with the player's plan")
+
+    def run(self, words: Namespace) -> None:
+        require_match(words.games, words.seed)
+        position, player = read_position(words.position, _asked(words)), load_player(words.player)
+        shown, kept = sys.stderr.isatty(), self._kept(words, position)
+        # First the player, so that its faults are found before a long search.
+        plans = {side: plan_of(position, player, side, progress=shown) for side in _sides(words)}
+        solved = _solver(words).solve(position, words.seconds, progress=shown)
+        if not words.json:
+            print(solved_text(solved), end="")
+        found: dict[Side, Measured] = {}
+        for side, mine in plans.items():
+            found[side] = measure(position, mine, side, solved, words.games, words.seed,
+                                  words.program)
+            if not words.json:
+                print(found[side].text(), end="")
+        if words.json:
+            _print_record({"solver": solved.record(),
+                           "player": [measured.record() for measured in found.values()]})
+        for side, file in kept.items():
+            found[side].report.save(file)
+
+    def _kept(self, words: Namespace, position: Position) -> dict[Side, Path]:
+        """The file of each report that is to be written, tried before anything is done for it."""
+        kept = {side: words.keep / f"{side}.report" for side in _sides(words) if words.keep}
+        for file in kept.values():
+            file.parent.mkdir(parents=True, exist_ok=True)
+            require_output(file, words.position, words.player)
+            require_names(position.game, file)
+        return kept
+
+
+class Match(Command):
+    """Games between both plans of a report."""
+
+    name = "match"
+    about = "games between both plans of a report, the first turn by turn"
+
+    def add_arguments(self, parser: ArgumentParser) -> None:
+        super().add_arguments(parser)
+        parser.add_argument("report", type=Path, metavar="REPORT")
+        _add_games(parser)
+
+    def run(self, words: Namespace) -> None:
+        report = read_report(words.report)
+        found = _solver(words).match(report, words.games, words.seed)
+        told = found.told(report.game)
+        notes = [*scale_notes(report.game), *report.row_notes("one"), *report.row_notes("two")]
+        if words.json:
+            _print_record({"turns": told, "payoff": found.payoff, "games": found.games,
+                           "mean": float(found.mean), "error": found.error, "least": found.least,
+                           "most": found.most, "notes": notes})
+            return
+        for line in told:
+            print(f"turn {line}")
+        print(f"payoff {found.payoff}\ngames {found.games} mean {float(found.mean):z.6f} error "
+              f"{found.error or 0:z.6f} least {found.least} most {found.most}")
+        _print_notes(notes)
+
+
+class Tournament(Command):
+    """Each player against each."""
+
+    name = "tournament"
+    about = "each player against each"
+
+    def add_arguments(self, parser: ArgumentParser) -> None:
+        super().add_arguments(parser)
+        parser.add_argument("players", type=Path, nargs="+", metavar="PLAYER.py")
+        parser.add_argument("--position", type=Path, action="append", required=True,
+                            metavar="POSITION", help=f"{_POSITION}; can be given several times")
+        parser.add_argument("--no-solver", action="store_true", help="without the solver's plans")
+        parser.add_argument("--csv", action="store_true", help="print the meetings as CSV")
+        _add_games(parser)
+        _add_seconds(parser, " for each position")
+        _add_asked(parser, "in place of what the positions ask")
+
+    def run(self, words: Namespace) -> None:
+        names = self._names(words.players)
+        players = {name: load_player(path) for name, path in zip(names, words.players)}
+        positions = [read_position(path, _asked(words)) for path in words.position]
+        found = tournament(players, positions, None if words.no_solver else _solver(words),
+                           words.games, words.seed, words.seconds)
+        if words.json:
+            print(found.json(), end="")
+        elif words.csv:
+            print(found.csv(), end="")
+            for note in found.notes:
+                print(f"dosolve: note {note}", file=sys.stderr)
+        else:
+            print(found.markdown(), end="")
+
+    def _names(self, paths: Sequence[Path]) -> list[str]:
+        """A name for each file of a player: its stem, and before that as many of its folders as
+        tell it from the others."""
+        full = [(*path.parent.resolve().parts, path.stem) for path in paths]
+        names = []
+        for path, parts in zip(paths, full):
+            count = next((count for count in range(1, len(parts) + 1)
+                          if [other[-count:] for other in full].count(parts[-count:]) == 1), 0)
+            if count == 0:
+                raise InvalidError(f"{path} is given twice")
+            names.append("/".join(parts[-count:]))
+        return names
+
+
+class Show(Command):
+    """Pictures of reports."""
+
+    name = "show"
+    about = "draw a report"
+
+    def add_arguments(self, parser: ArgumentParser) -> None:
+        super().add_arguments(parser)
+        parser.add_argument("report", type=Path, metavar="REPORT")
+        parser.add_argument("-o", "--output", type=Path, required=True, metavar="FILE.svg",
+                            help="or .png, .pdf")
+        where = parser.add_mutually_exclusive_group()
+        where.add_argument("--key", type=int, metavar="KEY", help="a state other than the root")
+        where.add_argument("--history", nargs="+", metavar="ONE,TWO[,DRAW]",
+                           help="the state after these turns: both moves, and the number of the "
+                                "draw")
+        parser.add_argument("--zoom", action="store_true", help="the axis round the bounds alone")
+        parser.add_argument("--players", nargs=2, metavar=("ONE", "TWO"),
+                            help="names for the titles")
+        parser.add_argument("--tree", type=int, metavar="TURNS", help="a tree of the first turns")
+        parser.add_argument("--most", type=int, metavar="N",
+                            help="the pairs of moves after each state of a tree (4, and 2 from "
+                                 "three turns on)")
+        parser.add_argument("--progress", action="store_true",
+                            help="REPORT has lines of progress: draw bounds over time")
+
+    def run(self, words: Namespace) -> None:
+        require_output(words.output, words.report)
+        pictures.save(self._picture(words), words.output)
+        if words.json:
+            _print_record({"output": str(words.output)})
+
+    def _picture(self, words: Namespace) -> Figure:
+        """The figure that the options ask for."""
+        if words.progress:
+            return pictures.history(read_progress(words.report.read_text().splitlines()))
+        report, key = read_report(words.report), words.key
+        if words.tree is not None:
+            return pictures.tree(report, words.tree, words.most)
+        if words.history:
+            key = report.game.state_after([turn.split(",") for turn in words.history]).key
+        return pictures.figure(report, key, words.zoom, words.players)
+
+
+class Explore(Command):
+    """Pages to click through."""
+
+    name = "explore"
+    about = "a page to click through, of a report"
+
+    def add_arguments(self, parser: ArgumentParser) -> None:
+        super().add_arguments(parser)
+        parser.add_argument("report", type=Path, metavar="REPORT")
+        parser.add_argument("-o", "--output", type=Path, required=True, metavar="PAGE.html",
+                            help="one file for any browser, which asks no network")
+        parser.add_argument("--against", type=Path, metavar="REPORT",
+                            help="a report with a player's plan, as `measure --keep` writes it: "
+                                 "lists where the player loses")
+        parser.add_argument("--most-states", type=int, default=explore.MOST_STATES, metavar="N",
+                            help=f"the states of a large report ({explore.MOST_STATES})")
+
+    def run(self, words: Namespace) -> None:
+        require_output(words.output, words.report, *([words.against] if words.against else []))
+        report = read_report(words.report)
+        against = read_report(words.against) if words.against else None
+        made = explore.save(report, words.output, against, words.most_states)
+        if words.json:
+            _print_record({"output": str(words.output), "states": made.states,
+                           "is_whole": made.is_whole})
+        else:
+            print(f"{words.output}: {made}")
+
+
+class Sweep(Command):
+    """Many positions."""
+
+    name = "sweep"
+    about = "solve many positions on all processors"
+
+    def add_arguments(self, parser: ArgumentParser) -> None:
+        super().add_arguments(parser)
+        parser.add_argument("positions", type=Path, metavar="FILE.jsonl",
+                            help="one position on each line; or one position (.json)")
+        parser.add_argument("-o", "--output", type=Path, metavar="RESULTS.jsonl",
+                            help="write results, and go on where an earlier call stopped, by "
+                                 "Ctrl-C too, or was cut short by fewer seconds")
+        _add_seconds(parser, " for each position")
+
+    def run(self, words: Namespace) -> None:
+        failed = old = 0
+        require_other(words.output, words.positions)
+        results = sweep(self._positions(words.positions), None, words.output, _solver(words),
+                        words.seconds)
+        with closing(results):
+            for found in results:
+                failed += found.report is None
+                old += found.is_old
+                print(json.dumps({"number": found.number} | found.record()) if words.json
+                      else self._line(found), flush=True)
+        if old:
+            print(f"dosolve: results taken from {words.output}: {old}", file=sys.stderr)
+        if failed:
+            raise DosolveError(f"{failed} positions failed; a second call tries them again")
+
+    def _positions(self, path: Path) -> Sequence[Position | str]:
+        """The positions of a file; a single one has the names beside it."""
+        lines = read_positions(path)
+        if path.suffix.lower() != ".json":
+            return lines
+        with naming(path):
+            return [Position.load(path)]
+
+    def _line(self, found: Swept) -> str:
+        """One result in words."""
+        report = found.report
+        if report is None:
+            return f"{found.number} failed {found.error}"
+        notes = f" note {'; '.join(report.notes())}" if report.notes() else ""
+        return (f"{found.number} {report.game.name} lower {as_points(report.lower)} upper "
+                f"{as_points(report.upper)} gap {as_points(report.gap)} {report.closeness} seconds "
+                f"{found.seconds:.1f}{notes}")
+
+
+class MakeTable(Command):
+    """A position of a game of one's own."""
+
+    name = "table"
+    about = "make a position of a game of your own"
+
+    def add_arguments(self, parser: ArgumentParser) -> None:
+        super().add_arguments(parser)
+        parser.add_argument("source", type=Path, metavar="SOURCE",
+                            help="a matrix (.json, .csv), a file of Gambit (.nfg, .efg), or a "
+                                 "Python file with a function table()")
+        parser.add_argument("-o", "--output", type=Path, required=True, metavar="POSITION",
+                            help="write the position, and the names beside it")
+        parser.add_argument("--rounds", type=int, metavar="N", help="play the matrix for N rounds")
+        _add_asked(parser)
+
+    def run(self, words: Namespace) -> None:
+        asked = _asked(words)
+        require_output(words.output, words.source)
+        with naming(words.source):
+            table = read_table(words.source, words.rounds)
+            Position(table, **asked).save(words.output)
+        if words.json:
+            _print_record({"states": len(table.listing), "scale": str(table.scale)})
+        else:
+            scale = f", payoffs times {table.scale}" if table.scale != 1 else ""
+            print(f"{table.title()}{scale}")
+
+
+COMMANDS: tuple[Command, ...] = (Solve(), Check(), Exploit(), Measure(), Match(), Tournament(),
+                                 Show(), Explore(), Sweep(), MakeTable())
+"""All commands, in the order of the help."""
+
+
+class _Version(argparse.Action):
+    """Prints the version of the package and where the program is."""
+
+    def __call__(self, parser: ArgumentParser, *_: object, **__: object) -> None:
+        try:
+            where = find_program()
+        except ProgramMissingError as fault:
+            where = str(fault)
+        print(f"dosolve-py {__version__}, program {where}")
+        parser.exit()
+
+
+def make_parser() -> ArgumentParser:
+    """The parser of the command line; what it reads has the command's `run` as `run`."""
+    parser = ArgumentParser(
+        prog="dosolve-py", epilog=_EXAMPLES, formatter_class=argparse.RawDescriptionHelpFormatter,
+        description="Solves games with simultaneous moves, measures players, draws reports.")
+    parser.add_argument("--version", action=_Version, nargs=0,
+                        help="the package's version, and where the program is")
+    parsers = parser.add_subparsers(required=True, metavar="COMMAND")
+    for command in COMMANDS:
+        own = parsers.add_parser(command.name, help=command.about, description=command.about)
+        command.add_arguments(own)
+        own.set_defaults(run=command.run)
+    return parser
+
+
+def _add_seconds(parser: ArgumentParser, each: str = ", or at Ctrl-C") -> None:
+    parser.add_argument("--seconds", type=_seconds, metavar="S",
+                        help=f"solve with growing turns, and take the best report after S "
+                             f"seconds{each}; `inf` goes on to the end")
+
+
+def _add_asked(parser: ArgumentParser, title: str = "in place of what the position asks") -> None:
+    group = parser.add_argument_group(title)
+    for field in ASKED:
+        if field.choices:
+            group.add_argument(f"--{field.name}", choices=field.choices)
+        else:
+            about = f", {field.about}" if field.about else ""
+            group.add_argument(f"--{field.name}", type=partial(_number, field), metavar="N",
+                               help=f"{field.low} to {field.high}{about}")
+
+
+def _add_games(parser: ArgumentParser) -> None:
+    parser.add_argument("--games", type=int, default=1000, metavar="N",
+                        help="games of a match (1000)")
+    parser.add_argument("--seed", type=int, default=0, metavar="N", help="of a match (0)")
+
+
+def _seconds(word: str) -> float:
+    """A number of seconds, `inf` too."""
+    try:
+        seconds = float(word)
+    except ValueError:
+        seconds = -1.0
+    if not seconds >= 0:
+        raise argparse.ArgumentTypeError(f"{word!r} has to be a number from 0, or inf")
+    return seconds
+
+
+def _number(field: Field, word: str) -> int:
+    """A whole number; its range is refused as that of a position is."""
+    try:
+        return int(word)
+    except ValueError:
+        raise argparse.ArgumentTypeError(field.told(word)) from None
+
+
+def _asked(words: Namespace) -> Asked:
+    """What the options ask for."""
+    asked = {}
+    for field in ASKED:
+        if getattr(words, field.name, None) is not None:
+            asked[field.name] = getattr(words, field.name)
+            field.refuse(asked[field.name])
+    return asked
+
+
+def _sides(words: Namespace) -> tuple[Side, ...]:
+    """The side that was given, else both."""
+    return (words.side,) if words.side else SIDES
+
+
+def _solver(words: Namespace) -> Solver:
+    return Solver(words.program)
+
+
+def _print_record(record: object) -> None:
+    print(json.dumps(record))
+
+
+def _print_notes(notes: Iterable[str]) -> None:
+    for note in notes:
+        print(f"note {note}")

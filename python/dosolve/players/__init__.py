@@ -1,0 +1,1 @@
+"""Players: plans by states, players of histories, and what they are worth."""

@@ -1,0 +1,1 @@
+"""The program and the library as calls."""

@@ -1,0 +1,1 @@
+"""Tables: any finite game, made of matrices, functions, games and files."""

@@ -16,7 +16,6 @@ from unittest import mock
 import dosolve
 from dosolve import SIDES, explore
 from dosolve.__main__ import main
-from dosolve.explore import kinds
 from support import TOP, random_game
 
 EXAMPLES = sorted((TOP / "examples").glob("*.report")) + sorted((TOP / "python" / "examples").glob("*.report"))
@@ -216,16 +215,20 @@ class Text(unittest.TestCase):
             return [(a * width + b, c * width + d) for a, b in cells for c, d in cells if (a, b) < (c, d)
                     and max(abs(a - c), abs(b - d)) == 1 and (diagonals or a == c or b == d)]
 
+        def places(nodes, pairs):
+            game = dosolve.Pursuit(nodes, pairs, 0, 1, 1)
+            report = dosolve.Report.of(*(dosolve.Sheet(game, side, 8192) for side in SIDES))
+            return data_of(explore.page(report).text)["settings"]["places"]
+
         for height, width in ((1, 4), (2, 3), (3, 2), (5, 6), (4, 4)):
             for diagonals in (False, True):
-                game = dosolve.Pursuit(height * width, edges(height, width, diagonals), 0, 1, 2)
-                self.assertEqual(kinds.settings(game)["places"],
+                self.assertEqual(places(height * width, edges(height, width, diagonals)),
                                  [[node % width, -(node // width)] for node in range(height * width)])
         for pairs in ([(0, 1), (1, 2), (2, 0)], edges(2, 3, False)[1:], [*edges(2, 3, False), (0, 5)]):
-            game = dosolve.Pursuit(max(map(max, pairs)) + 1, pairs, 0, 1, 2)
-            places = kinds.settings(game)["places"]
-            self.assertEqual(len(set(map(tuple, places))), game.nodes)
-            self.assertTrue(any(x % 1 for x, _ in places))
+            nodes = max(map(max, pairs)) + 1
+            found = places(nodes, pairs)
+            self.assertEqual(len(set(map(tuple, found))), nodes)
+            self.assertTrue(any(x % 1 for x, _ in found))
 
 
 class Losses(unittest.TestCase):

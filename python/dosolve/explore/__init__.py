@@ -14,7 +14,7 @@ from dataclasses import dataclass, replace
 from fractions import Fraction
 from importlib import resources
 from pathlib import Path
-from typing import Any, Final
+from typing import Final
 
 from .. import CHANCE, SCALE, SIDES, InvalidError, Report, Table
 from .kinds import about, meaning, settings, title
@@ -66,7 +66,7 @@ def page(report: Report, against: Report | None = None, most_states: int = MOST_
     _require(report, against, most_states)
     players = [] if against is None else player_plans(report, against)
     shown = Shown(report, players, most_states)
-    data = _head(report) | {
+    data: dict[str, object] = _head(report) | {
         "inner": shown.inner, "first": shown.first, "likely": shown.likely,
         "reached": shown.reached, "exact": shown.exact,
         "whole": not shown.outside, "compared": against is not None, "listed": MOST_LOSSES,
@@ -88,12 +88,12 @@ def _require(report: object, against: object, most_states: object) -> None:
                            f"{against.game.title()}, not {report.game.title()}")
 
 
-def _head(report: Report) -> dict[str, Any]:
+def _head(report: Report) -> dict[str, object]:
     """What a page has of the report as a whole."""
     game = report.game
     return {
-        "title": f"{title(game)}: both strategies", "game": game.name, "about": about(game),
-        "meaning": meaning(game), "settings": settings(game),
+        "title": f"{title(report)}: both strategies", "game": game.name, "about": about(report),
+        "meaning": meaning(report), "settings": settings(report),
         "low": game.low, "high": game.high, "scale": float(game.scale), "unscaled": SCALE,
         "weight": report.weight, "chance": CHANCE, "lower": report.lower, "upper": report.upper,
         "notes": list(_unscaled(report).notes()),
@@ -108,12 +108,12 @@ def _unscaled(report: Report) -> Report:
     return report.on(replace(game, scale=Fraction(1))) if isinstance(game, Table) else report
 
 
-def _filled(data: dict[str, Any]) -> str:
+def _filled(data: dict[str, object]) -> str:
     """The text of the page with this data."""
     parts = {name: (resources.files(__name__) / f"page.{name}").read_text(encoding="utf-8")
              for name in ("html", "css", "js")}
     shown = json.dumps(data, separators=(",", ":")).replace("<", "\\u003c")
-    text = parts["html"].replace("@TITLE@", html.escape(data["title"]))
+    text = parts["html"].replace("@TITLE@", html.escape(str(data["title"])))
     text = text.replace("@STYLE@", parts["css"]).replace("@SCRIPT@", parts["js"])
     before, after = text.split("@DATA@")
     size = _size(len((before + shown + after).encode()))

@@ -2,13 +2,13 @@
 numbers of a state's picture, and what a turn pays."""
 from __future__ import annotations
 
-from collections.abc import Callable, Hashable, Sequence
+from collections.abc import Hashable, Sequence
 from dataclasses import dataclass, field
-from typing import Any, Final
+from typing import Final
 
 from .. import pictures
 from .. import (
-    Game, GoofspielDrawnState, GoofspielState, Move, OshiZumoState, Pursuit, PursuitState, State,
+    GoofspielDrawnState, GoofspielState, Move, OshiZumoState, Pursuit, PursuitState, Report, State,
     TableState, TronState,
 )
 
@@ -32,10 +32,10 @@ _ANY: Final = "A payoff is what One gets; Two gets the negative."
 class Pool:
     """Lists that many states share, each once."""
 
-    items: list[list[Any]] = field(default_factory=list)
+    items: list[list[object]] = field(default_factory=list)
     places: dict[Hashable, int] = field(default_factory=dict)
 
-    def place(self, item: Sequence[Any]) -> int:
+    def place(self, item: Sequence[object]) -> int:
         """The place of a list in `items`."""
         key = tuple(item)
         if key not in self.places:
@@ -50,13 +50,14 @@ def turn_payoff(state: State, one: Move, two: Move, draw: int) -> int:
     return 0
 
 
-def title(game: Game) -> str:
+def title(report: Report) -> str:
     """The game's name in words."""
-    return pictures.TITLES.get(game.name, game.name)
+    return pictures.TITLES.get(report.game.name, report.game.name)
 
 
-def about(game: Game) -> str:
+def about(report: Report) -> str:
     """The settings in words."""
+    game = report.game
     if game.name == "table":
         return f"{game.title().capitalize()}."
     shown = dict(game.record())
@@ -67,15 +68,17 @@ def about(game: Game) -> str:
     return f"{', '.join(words)}.".capitalize()
 
 
-def meaning(game: Game) -> str:
+def meaning(report: Report) -> str:
     """What a payoff of One is."""
+    game = report.game
     if game.name in ("goofspiel", "goofspiel_drawn"):
         return _PRIZES.get(game.record()["pay"], _ANY)
     return _MEANINGS.get(game.name, _ANY)
 
 
-def settings(game: Game) -> dict[str, Any]:
+def settings(report: Report) -> dict[str, object]:
     """What pictures need of the game."""
+    game = report.game
     if game.name == "table":
         return {}
     if isinstance(game, Pursuit):
@@ -109,42 +112,21 @@ def _grid_width(nodes: int, pairs: frozenset[tuple[int, int]]) -> int | None:
     return min(found, key=lambda each: (abs(each - nodes // each), -each))
 
 
-def picture(state: State, pool: Pool) -> list[Any]:
+def picture(state: State, pool: Pool) -> list[object]:
     """The numbers that the picture of a state shows."""
-    numbers = _PICTURES.get(state.game.name)
-    return [str(state)] if numbers is None else numbers(state, pool)
-
-
-def _known_prizes(state: GoofspielState, pool: Pool) -> list[Any]:
-    """The score, the prize that is bid for, and those that follow."""
-    left = len(state.one)
-    coming = tuple(state.game.prizes[len(state.game.prizes) - left:])
-    return [state.score, coming[0] if left else 0, pool.place(coming[1:])]
-
-
-def _drawn_prizes(state: GoofspielDrawnState, pool: Pool) -> list[Any]:
-    """The score, the prize that is bid for, and those that can be drawn, in the order of draws."""
-    coming = [state.game.prizes[place] for place in state.undrawn]
-    return [state.score, 0 if state.is_end else state.prize, pool.place(coming)]
-
-
-def _field(state: OshiZumoState, pool: Pool) -> list[Any]:
-    return [state.place, state.one, state.two]
-
-
-def _grid(state: TronState, pool: Pool) -> list[Any]:
-    return [state.one, state.two, pool.place(sorted(state.taken))]
-
-
-def _graph(state: PursuitState, pool: Pool) -> list[Any]:
-    return [int(state.caught), state.rounds, state.one, state.two]
-
-
-def _name(state: TableState, pool: Pool) -> list[Any]:
-    return [state.number, state.name]
-
-
-_PICTURES: Final[dict[str, Callable[[Any, Pool], list[Any]]]] = {
-    "goofspiel": _known_prizes, "goofspiel_drawn": _drawn_prizes, "oshi_zumo": _field,
-    "tron": _grid, "pursuit": _graph, "table": _name,
-}
+    if isinstance(state, GoofspielState):
+        left = len(state.one)
+        coming = tuple(state.game.prizes[len(state.game.prizes) - left:])
+        return [state.score, coming[0] if left else 0, pool.place(coming[1:])]
+    if isinstance(state, GoofspielDrawnState):
+        coming = tuple(state.game.prizes[place] for place in state.undrawn)
+        return [state.score, 0 if state.is_end else state.prize, pool.place(coming)]
+    if isinstance(state, OshiZumoState):
+        return [state.place, state.one, state.two]
+    if isinstance(state, TronState):
+        return [state.one, state.two, pool.place(sorted(state.taken))]
+    if isinstance(state, PursuitState):
+        return [int(state.caught), state.rounds, state.one, state.two]
+    if isinstance(state, TableState):
+        return [state.number, state.name]
+    return [str(state)]

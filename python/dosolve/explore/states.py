@@ -4,7 +4,7 @@ from __future__ import annotations
 
 from collections.abc import Iterable, Iterator, Sequence
 from dataclasses import dataclass
-from typing import Any, Final
+from typing import Final
 
 from .. import CHANCE, SIDES, Move, Report, Sheet, State
 from .kinds import Pool, picture, turn_payoff
@@ -126,11 +126,11 @@ class Shown:
         self.states.update(ends)
         return cells
 
-    def data(self) -> list[list[Any]]:
+    def data(self) -> list[list[object]]:
         """The states of the page, the root first."""
         return [self._state(state) for state in self.states.values()]
 
-    def _state(self, state: State) -> list[Any]:
+    def _state(self, state: State) -> list[object]:
         """Key, picture, how likely it is; then the payoff of an end, or both players' names of
         moves, their rows, what follows each pair of moves, what these turns pay, and the rows of
         players."""
@@ -165,7 +165,7 @@ class Shown:
             return None if bound == self.report.game.opening(sheet.side) else bound
         return row.bound if tuple(row.weights) == sheet.weights(state) else None
 
-    def _played(self, player: PlayerPlan, state: State) -> list[Any]:
+    def _played(self, player: PlayerPlan, state: State) -> list[object]:
         """What a player plays; and where it comes here, what its plan guarantees in payoffs, and
         the reply that hurts it most."""
         weights, visited = player.mine.weights(state), player.visited.get(state.key)
@@ -185,7 +185,7 @@ class Shown:
             self.places[key] = -1 - self.stubs.place(bounds)
         return self.places[key]
 
-    def losses(self, player: PlayerPlan) -> list[list[Any]]:
+    def losses(self, player: PlayerPlan) -> list[list[object]]:
         """The losses of a player that are on the page: the state's place, what is given away from
         there on and here, the probability of coming there, and a way."""
         return [[self.places[loss.state.key], *(round(number, 9) for number in
@@ -193,7 +193,7 @@ class Shown:
                  [number for turn in loss.way for number in turn]]
                 for loss in player.listed() if loss.state.key in self.states]
 
-    def player(self, player: PlayerPlan) -> dict[str, Any]:
+    def player(self, player: PlayerPlan) -> dict[str, object]:
         """What a page has of a player's plan."""
         root: State = self.report.game.root()
         listed = self.losses(player)

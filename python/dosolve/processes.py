@@ -34,7 +34,7 @@ class Programs(Executor):
         self._lock = threading.Lock()
         self._is_closed = False
         self._watcher = subprocess.Popen(["/bin/sh", "-c", _WATCH], stdin=subprocess.PIPE,
-                                         process_group=0)
+                                         stdout=subprocess.DEVNULL, process_group=0)
         # An interpreter that ends by a fault waits for no daemon.
         self._threads = [threading.Thread(target=self._serve, daemon=True) for _ in range(count)]
         for thread in self._threads:
@@ -68,12 +68,12 @@ class Programs(Executor):
             self._is_closed = True
         for _ in self._threads:
             self._jobs.put(None)
+        os.killpg(self._watcher.pid, signal.SIGKILL)
         while any(thread.is_alive() for thread in self._threads) and not sys.is_finalizing():
-            # Again and again, since a thread may just have been starting a program.
-            os.killpg(self._watcher.pid, signal.SIGKILL)
             for thread in self._threads:
                 thread.join(0.01)
-        self._watcher.kill()
+            # Once more, since a thread may just have been starting a program.
+            os.killpg(self._watcher.pid, signal.SIGKILL)
         self._watcher.communicate()
 
     def _serve(self) -> None:

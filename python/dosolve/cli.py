@@ -351,10 +351,10 @@ class Explore(Command):
                             help=f"the states of a large report ({explore.MOST_STATES})")
 
     def run(self, words: Namespace) -> None:
-        sources = [words.report, *([words.against] if words.against else [])]
-        require_output(words.output, *sources)
+        require_output(words.output, words.report, *([words.against] if words.against else []))
+        report = read_report(words.report)
         against = read_report(words.against) if words.against else None
-        made = explore.save(read_report(words.report), words.output, against, words.most_states)
+        made = explore.save(report, words.output, against, words.most_states)
         if words.json:
             _print_record({"output": str(words.output), "states": made.states,
                            "is_whole": made.is_whole})

@@ -102,7 +102,7 @@ class Data(unittest.TestCase):
     def test_random_games(self):
         source = random.Random(1)
         for name in sorted(dosolve.GAMES):
-            for _ in range(6):
+            for _ in range(4):
                 game = random_game(name, source)
                 plans = [dosolve.plan(game, side, lambda state, side=side: [1] * len(state.moves(side)), ask_again=0)
                          for side in SIDES]

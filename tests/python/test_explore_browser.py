@@ -13,9 +13,9 @@ from support import TOP
 from test_explore import FIVE, MATCH_THE_PRIZE, drawn_table, player_report
 
 KINDS = ("goofspiel_mixed", "goofspiel_drawn_mixed", "oshi_zumo_mixed", "oshi_zumo_wide", "tron_corners",
-         "pursuit_grid", "table_soccer", "table_best_of_three", "table_blotto")
+         "pursuit_grid", "table_soccer", "table_blotto")
 WIDE, PHONE = 1300, 390
-TURNS = 6
+TURNS = 5
 """Random turns on each page, at each width."""
 
 

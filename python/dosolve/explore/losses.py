@@ -1,7 +1,6 @@
 """Where a player gives something away, beside the plan of a report."""
 from __future__ import annotations
 
-from collections.abc import Iterator
 from dataclasses import dataclass, field
 from functools import cached_property
 from typing import Final
@@ -21,7 +20,7 @@ class Visited:
     """A state that a player's plan can reach.
 
     - `came`: the state and the turn that first led here.
-    - `after`: for each reply of the other side the probabilities and keys of what follows, with
+    - `after`: for each reply of the other side what follows, behind its probability and before
       what the turn pays.
     - `guarantee`: what the player's plan is worth from here on against the reply that hurts it
       most, `reply`; in payoffs.
@@ -32,13 +31,18 @@ class Visited:
     """
 
     state: State
-    came: tuple[int, Turn] | None
-    after: list[list[tuple[float, int, int]]] = field(default_factory=list)
+    came: tuple[Visited, Turn] | None
+    after: list[list[tuple[float, Visited, int]]] = field(default_factory=list)
     guarantee: float = 0.0
     reply: int = 0
     solved: float | None = None
     outlook: float = 0.0
     reached: float = 0.0
+
+    @property
+    def known(self) -> float:
+        """What the report's plan guarantees from here, or from the states that come next."""
+        return self.outlook if self.solved is None else self.solved
 
 
 @dataclass(frozen=True)
@@ -70,42 +74,41 @@ class PlayerPlan:
         self.side, self.solved, self.mine = mine.side, solved, mine
         self.sign = 1 if self.side == "one" else -1
         self.visited: dict[int, Visited] = {}
-        root: State = mine.game.root()
-        self._walk(root)
-        for visited in sorted(self.visited.values(), key=lambda found: found.state.rank):
+        self._walk(mine.game.root())
+        by_rank = sorted(self.visited.values(), key=lambda found: found.state.rank)
+        for visited in by_rank:
             self._weigh(visited)
-        self.visited[root.key].reached = 1.0
-        for visited in sorted(self.visited.values(), key=lambda found: -found.state.rank):
-            for chance, key, _ in visited.after[visited.reply] if visited.after else ():
-                self.visited[key].reached += visited.reached * chance
+        by_rank[-1].reached = 1.0
+        for visited in reversed(by_rank):
+            for chance, after, _ in visited.after[visited.reply] if visited.after else ():
+                after.reached += visited.reached * chance
 
     def _walk(self, root: State) -> None:
         """Finds all states that the player can come to, ends too."""
-        self.visited[root.key] = Visited(root, None)
-        waiting = [self.visited[root.key]]
+        waiting = [Visited(root, None)]
+        self.visited[root.key] = waiting[0]
         for visited in waiting:
-            if visited.state.is_end:
-                continue
             if len(waiting) > limits.MOST_ROWS:
                 raise InvalidError(f"the player's plan reaches more than {limits.MOST_ROWS} "
                                    f"states")
-            for turn, chance, after in self._turns(visited):
-                if after.key not in self.visited:
-                    self.visited[after.key] = Visited(after, (visited.state.key, turn))
-                    waiting.append(self.visited[after.key])
+            if not visited.state.is_end:
+                self._follow(visited, waiting)
 
-    def _turns(self, visited: Visited) -> Iterator[tuple[Turn, float, State]]:
-        """What can follow a state, kept there too."""
-        state, weights = visited.state, self.mine.weights(visited.state)
+    def _follow(self, visited: Visited, waiting: list[Visited]) -> None:
+        """Finds what can follow a state, and adds to those waiting what is new."""
+        state, total = visited.state, self.mine.weight
+        shares = [weight / total for weight in self.mine.weights(state)]
         for reply in range(len(state.moves(other(self.side)))):
-            found: list[tuple[float, int, int]] = []
-            for move, weight in enumerate(weights):
-                one, two = (move, reply) if self.side == "one" else (reply, move)
-                outcomes = state.outcomes(Move(one), Move(two)) if weight else []
-                for draw, (chance, after) in enumerate(outcomes):
-                    share = weight / self.mine.weight * chance / CHANCE
-                    found.append((share, after.key, turn_payoff(state, Move(one), Move(two), draw)))
-                    yield (one, two, draw), share, after
+            found: list[tuple[float, Visited, int]] = []
+            for move, share in enumerate(shares):
+                one, two = map(Move, (move, reply) if self.side == "one" else (reply, move))
+                for draw, (chance, after) in enumerate(state.outcomes(one, two) if share else ()):
+                    key = after.key
+                    if key not in self.visited:
+                        self.visited[key] = Visited(after, (visited, (one, two, draw)))
+                        waiting.append(self.visited[key])
+                    found.append((share if chance == CHANCE else share * chance / CHANCE,
+                                  self.visited[key], turn_payoff(state, one, two, draw)))
             visited.after.append(found)
 
     def _weigh(self, visited: Visited) -> None:
@@ -114,20 +117,14 @@ class PlayerPlan:
         if state.is_end:
             visited.guarantee = visited.solved = float(state.payoff)
             return
-        worths = [sum(chance * (paid + self.visited[key].guarantee) for chance, key, paid in found)
+        worths = [sum(chance * (paid + after.guarantee) for chance, after, paid in found)
                   for found in visited.after]
-        least = min(self.sign * worth for worth in worths)
-        visited.guarantee = self.sign * least
-        visited.reply = [self.sign * worth for worth in worths].index(least)
-        visited.outlook = sum(chance * (paid + self._known(self.visited[key]))
-                              for chance, key, paid in visited.after[visited.reply])
+        visited.guarantee = min(worths) if self.side == "one" else max(worths)
+        visited.reply = worths.index(visited.guarantee)
+        visited.outlook = sum(chance * (paid + after.known)
+                              for chance, after, paid in visited.after[visited.reply])
         row = self.solved.row(state)
         visited.solved = None if row is None else row.bound / SCALE
-
-    @staticmethod
-    def _known(visited: Visited) -> float:
-        """What the report's plan guarantees from a state, or from those that come next."""
-        return visited.outlook if visited.solved is None else visited.solved
 
     @property
     def unknown(self) -> int:
@@ -152,9 +149,8 @@ class PlayerPlan:
         """The turns from the root to a state."""
         turns: list[Turn] = []
         while visited.came is not None:
-            key, turn = visited.came
+            visited, turn = visited.came
             turns.append(turn)
-            visited = self.visited[key]
         return turns[::-1]
 
     def listed(self) -> list[Loss]:

@@ -30,3 +30,12 @@ returns g c =
     let whole = is_sample_solution game n s.report (few_states n sample.setting sample.valid c.sample_game.ensures)
     (rank_is n sample.setting sample.valid c.sample_game.ensures) (size_is n sample.setting sample.valid c.sample_game.ensures) solved.solution in
     answers (IsSampled n) (status_of s.report.outcome) (sample_line n s.report) c.told.result (IsSampled.reported s.report (any, c.sample_game.ensures, whole)) c.told.ensures
+
+pub told-requires-clause-range : goal.told-requires-clause-range
+told-requires-clause-range g c =
+    let n = c.args.number in let sample = c.sample_game.result in
+    let any = Goofspiel sample in let x = c.in_ok-found.found in let s = c.in_ok-solved.solved in
+    let found = of_this (λ S m. IsFoundFor m sample_ask x) any (c.requires.finds any sample_ask (Ok x) c.in_ok-found.ensures) in
+    let report = subst (λ text. IsReportOf text sample_ask x s) c.in_ok-position.ensures c.in_ok-solved.ensures in
+    let solved = solved_game (goofspiel_game sample.setting) sample_ask x found (sample_position n) s report (is_game any) asks (in_range n) in
+    solved.solution.in_range

@@ -329,15 +329,6 @@ impl Value {
     }
 }
 
-/// The same list again.
-fn copy_of<T: Copy>(alloc: Global, list: &Seq<T>) -> Result<Seq<T>, NoMemory>
-    ensures { IfOk result (λ s. s ≡ list.now) }
-{
-    let mut items = Vec::new(alloc);
-    items.extend_from_slice(list.as_slice())?;
-    Ok(Seq::from_vec(items))
-}
-
 impl PositionText {
     /// The position of the game that has these values in its fields.
     #[tactic(auto, using(crate::proofs::PositionLaws::holds_numbers))]
@@ -490,92 +481,6 @@ impl PositionText {
             PositionText::Pursuit { .. } => GameKind::Pursuit,
             PositionText::Table { .. } => GameKind::Table,
         }
-    }
-
-    /// The same position again.
-    pub fn try_clone(&self, alloc: Global) -> Result<PositionText, NoMemory>
-        ensures { IfOk result (λ t. t ≡ self.now) }
-    {
-        Ok(match self {
-            PositionText::Goofspiel {
-                one,
-                two,
-                prizes,
-                score,
-                pay,
-            } => PositionText::Goofspiel {
-                one: copy_of(alloc, one)?,
-                two: copy_of(alloc, two)?,
-                prizes: copy_of(alloc, prizes)?,
-                score: *score,
-                pay: *pay,
-            },
-            PositionText::OshiZumo {
-                size,
-                one,
-                two,
-                least,
-                place,
-            } => PositionText::OshiZumo {
-                size: *size,
-                one: *one,
-                two: *two,
-                least: *least,
-                place: *place,
-            },
-            PositionText::Tron {
-                height,
-                width,
-                walls,
-                one,
-                two,
-            } => PositionText::Tron {
-                height: *height,
-                width: *width,
-                walls: copy_of(alloc, walls)?,
-                one: *one,
-                two: *two,
-            },
-            PositionText::GoofspielDrawn {
-                one,
-                two,
-                prizes,
-                score,
-                pay,
-            } => PositionText::GoofspielDrawn {
-                one: copy_of(alloc, one)?,
-                two: copy_of(alloc, two)?,
-                prizes: copy_of(alloc, prizes)?,
-                score: *score,
-                pay: *pay,
-            },
-            PositionText::Pursuit {
-                nodes,
-                edges,
-                one,
-                two,
-                rounds,
-            } => PositionText::Pursuit {
-                nodes: *nodes,
-                edges: copy_of(alloc, edges)?,
-                one: *one,
-                two: *two,
-                rounds: *rounds,
-            },
-            PositionText::Table {
-                ranks,
-                moves,
-                values,
-                cells,
-                draws,
-            } => PositionText::Table {
-                ranks: copy_of(alloc, ranks)?,
-                moves: copy_of(alloc, moves)?,
-                values: copy_of(alloc, values)?,
-                cells: copy_of(alloc, cells)?,
-                draws: copy_of(alloc, draws)?,
-            },
-        })
     }
 
     /// The version of the reports of the position.

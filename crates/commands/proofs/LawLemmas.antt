@@ -7,7 +7,7 @@ use Rattle.checker.specs.declared.verdict.Verdict.{Verdict}
 use Rattle.checker.specs.declared.verdict.Verdict.TheVariants.{Accepted, Refused}
 use Rattle.checker.specs.Verdicts.{IsVerdict}
 use Rattle.checker.proofs.VerdictLemmas.{verdict_once}
-use Rattle.lazy_workers.specs.Solutions.{IsSolution}
+use Rattle.solution.specs.Solutions.{IsSolution}
 use Rattle.certificate.specs.declared.report.Ask.{Ask}
 use Rattle.certificate.specs.declared.positions.PositionText.{PositionText}
 use Rattle.certificate.specs.declared.report.Report.{Report}

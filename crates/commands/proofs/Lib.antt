@@ -8,3 +8,4 @@ pub mod AnswerLemmas
 pub mod RootLemmas
 pub mod AloneLemmas
 pub mod MeasureLemmas
+pub mod FindLemmas

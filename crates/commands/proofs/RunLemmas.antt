@@ -1,13 +1,9 @@
 -- Runs, by what was taken, answered and written.
-use Rattle.std.proofs.Common.{◌≡◌, ℕ, ◌+◌, List, length, Option, Result, Ok, Err, IfOk, nat_lt, true, refl, subst}
+use Rattle.std.proofs.Common.{◌≡◌, ℕ, ◌+◌, List, length, Option, Result, Ok, Err, IfOk, nat_lt, true, refl}
 use Rattle.std.proofs.lemmas.Result.{IfOk-weaker}
 use Rattle.sim_game.specs.declared.NoMemory.{NoMemory}
-use Rattle.sim_game.specs.Model.{GameModel}
-use Rattle.certificate.specs.declared.positions.PositionText.{PositionText}
 use Rattle.position.specs.declared.games.InputError.{InputError}
 use Rattle.position.specs.declared.games.InputError.TheVariants as errors
-use Rattle.position.specs.declared.games.AnyGame.{AnyGame}
-use Rattle.position.specs.Games.{IsGameOf, OfSame, OfGame}
 use Rattle.position.specs.Position.{Fails, position_of, object_at}
 use Rattle.position.specs.Taken.{SourceState, SinkState}
 use Rattle.commands.specs.declared.run.Answer.{Answer}
@@ -45,8 +41,3 @@ fails_unless bytes e is not = is
 pub too_long : (bytes : List ℕ) → length bytes ≡ 1048576 + 1 → position_of bytes ≡ Err errors.TooLong
 unfolding position_of object_at
 too_long bytes is = let over : nat_lt 1048576 (length bytes) ≡ true = rw is refl in rw over refl
-
--- ---- games
--- what holds of a game that this is holds of the position's game, where this is that
-pub of_position : (text : PositionText) (any : AnyGame) (P : (S : Type 0) → GameModel S → Type 0) → IsGameOf text any → OfSame any P → OfGame text P
-of_position text any P is (g, same, p) = (g, subst (IsGameOf text) same is, p)

@@ -7,11 +7,11 @@ use Rattle.sim_game.specs.Model.{GameModel, HasAtMost}
 use Rattle.plan_book.specs.Serial.{tree_size}
 use Rattle.goofspiel.specs.declared.GoofspielError.{GoofspielError}
 use Rattle.goofspiel.specs.Position.{first_fault}
-use Rattle.certificate.specs.Ranges.{IsByteList, IsPositionInRange}
+use Rattle.certificate.specs.Ranges.{IsByteList, IsAskInRange, IsPositionInRange}
 use Rattle.certificate.specs.declared.report.Outcome.{Outcome}
 use Rattle.certificate.specs.declared.report.Outcome.TheVariants.{Closed, Settled, Spent, Full}
 use Rattle.certificate.specs.declared.report.Report.{Report}
-use Rattle.lazy_workers.specs.Solutions.{IsSolution}
+use Rattle.solution.specs.Solutions.{IsSolution}
 use Rattle.commands.specs.Samples.{sample_cards, rotated_left, sample_prizes, sample_position, sample_ask, IsSampleSolution}
 use Rattle.commands.specs.Runs.{status_of, IsSampled}
 use Rattle.sim_game.proofs.StateLemmas.{more_states}
@@ -37,6 +37,16 @@ prizes_below n small = let P : ℕ → Type 0 = λ n. n ≤ 255 in record {
 -- a report may have each sample
 pub in_range : (n : ℕ) → IsPositionInRange (sample_position n)
 in_range n = let cards = prizes_below 0 (omega (arith)) in (cards, (cards, (prizes_below (n % 5) (mod-lt n (omega (arith))), ((omega (arith, ints), omega (arith, ints)), (refl, tt)))))
+
+pub asks : IsAskInRange sample_ask
+asks = record {
+  gap = (omega (arith, ints), omega (arith, ints));
+  weight = (omega arith, omega arith);
+  turns = omega arith;
+  visits = omega arith;
+  rows = (omega arith, omega arith);
+  workers = (omega arith, omega arith);
+}
 
 -- nothing runs out in so small a game
 closed_or_settled : {S : Type 0} (m : GameModel S) (n : ℕ) (r : Report) → HasAtMost m 3682 → m.rank m.root ≡ 5 → IsSolution m (sample_position n) sample_ask r

@@ -3,7 +3,7 @@ use Rattle.std.specs.Prelude.{◌≡◌, ℕ, ◌+◌, List, [], take, Option, N
 use Rattle.certificate.specs.declared.report.Report.{Report}
 use Rattle.position.specs.Games.{OfGame}
 use Rattle.position.specs.Position.{TaskText, position_of}
-use Rattle.lazy_workers.specs.Solutions.{IsSolution}
+use Rattle.solution.specs.Solutions.{IsSolution}
 use Rattle.commands.specs.declared.words.Command.{Command}
 use Rattle.commands.specs.declared.words.Command.TheVariants.{Reading, Sample}
 use Rattle.commands.specs.Words.{HasFewGames}

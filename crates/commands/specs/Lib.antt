@@ -8,3 +8,4 @@ pub mod Matches
 pub mod Samples
 pub mod Runs
 pub mod Alone
+pub mod Finding

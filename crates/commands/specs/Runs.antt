@@ -10,7 +10,7 @@ use Rattle.position.specs.declared.games.InputError.{InputError}
 use Rattle.position.specs.Position.{TaskText, position_of}
 use Rattle.position.specs.Causes.{Rose}
 use Rattle.position.specs.Taken.{SourceState, SinkState, ConsumesAtMost, AppendsFront}
-use Rattle.lazy_workers.specs.Solutions.{IsSolution}
+use Rattle.solution.specs.Solutions.{IsSolution}
 use Rattle.sim_game.specs.declared.NoMemory.{NoMemory}
 use Rattle.commands.specs.declared.run.Answer.{Answer}
 use Rattle.commands.specs.declared.words.ReadingCommand.{ReadingCommand}

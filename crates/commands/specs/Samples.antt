@@ -15,7 +15,7 @@ use Rattle.certificate.specs.Outcomes.{gap_of}
 use Rattle.text.specs.Texts.{line_text}
 use Rattle.certificate.specs.Texts.{outcome_word}
 use Rattle.lazy_workers.specs.Searched.{IsPureClose}
-use Rattle.lazy_workers.specs.Solutions.{IsSolution}
+use Rattle.solution.specs.Solutions.{IsSolution}
 use Rattle.position.specs.Games.{OfGame}
 
 -- ---- the position

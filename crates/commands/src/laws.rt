@@ -9,7 +9,7 @@ ghost use Rattle.certificate.specs.declared.positions.PositionText.{PositionText
 ghost use Rattle.checker.specs.declared.verdict.Verdict.{Verdict};
 ghost use Rattle.checker.specs.declared.verdict.Verdict.TheVariants.{Accepted};
 ghost use Rattle.checker.specs.Verdicts.{IsVerdict};
-ghost use Rattle.lazy_workers.specs.Solutions.{IsSolution};
+ghost use Rattle.solution.specs.Solutions.{IsSolution};
 ghost use Rattle.certificate.specs.Texts.{report_text};
 ghost use Rattle.certificate.specs.declared.report.Report.{Report};
 ghost use Rattle.commands.specs.Checks.{IsChecked};

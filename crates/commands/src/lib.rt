@@ -4,6 +4,7 @@
 pub mod alone;
 mod bounds;
 mod check;
+mod finding;
 pub mod laws;
 mod measure;
 mod opened;

@@ -1,20 +1,27 @@
 //! A run of the program.
 
 ghost use Rattle.std.specs.Prelude.{◌≡◌, ◌≢◌, ◌≤◌, ◌+◌, ℕ, List, length, map, string_bytes, IfOk};
+ghost use Rattle.certificate.specs.Ranges.{IsAskInRange};
+ghost use Rattle.lazy_workers.specs.Findings.{IsFoundFor};
+ghost use Rattle.position.specs.Games.{OfSame};
+ghost use Rattle.commands.specs.Finding.{IsFinder};
 ghost use Rattle.commands.specs.Words.{HasFewGames, command_of};
 ghost use Rattle.commands.specs.Texts.{usage_text, input_text};
 ghost use Rattle.commands.specs.Runs.{IsAnswerTo, limit_of, IsRun, IsWritten};
 
 use crate::bounds::bounded;
 use crate::check::{checked, faulty};
+use crate::finding::find_any;
 use crate::measure::exploited;
 use crate::play::played;
 use crate::reports::ReportFault;
 use crate::sample::sampled;
 use crate::solve::solved;
 use crate::words::{Command, ReadingCommand, command_of};
+use certificate::Ask;
+use lazy_workers::Found;
 use oracle_search::Gate;
-use position::{InputError, ReadError, Sink, Source, read_all, write_all};
+use position::{AnyGame, InputError, ReadError, Sink, Source, read_all, write_all};
 use seq::Seq;
 use sim_game::NoMemory;
 use std::alloc::Global;
@@ -54,11 +61,15 @@ pub fn run<R: Threads + Sync, S: Source, K: Sink, T: Gate + Sync>(
     ensures { IsRun (command_of (map string_bytes words.now))
         (S.state source.old) (S.state source.new) (K.state sink.old) (K.state sink.new) result }
 {
+    let find = |game: AnyGame, ask: Ask| -> Result<Found, NoMemory>
+        requires { IsAskInRange ask }
+        ensures { OfSame game.entry (λ S m. IfOk result (IsFoundFor m ask)) }
+    { find_any(rt, alloc, game, &ask, gate) };
     match command_of(words) {
         None => respond(sink, usage(alloc)),
-        Some(Command::Sample(number)) => respond(sink, sampled(rt, alloc, number, gate)),
+        Some(Command::Sample(number)) => respond(sink, sampled(alloc, find, number)),
         Some(Command::Reading(command)) => match read_all(alloc, source, limit_of(command)) {
-            Ok(bytes) => respond(sink, answer_to(rt, alloc, command, &bytes, gate)),
+            Ok(bytes) => respond(sink, answer_to(alloc, find, command, &bytes)),
             Err(ReadError::TooLong) => respond(sink, too_long(alloc, command)),
             Err(ReadError::Failed) => 6,
             Err(ReadError::NoMemory) => 8,
@@ -79,19 +90,19 @@ pub(crate) fn limit_of(command: ReadingCommand) -> u64
 }
 
 /// The answer to the bytes that a command is given, where they are not too many.
-fn answer_to<R: Threads + Sync, T: Gate + Sync>(
-    rt: &R,
+pub(crate) fn answer_to<F: FnOnce(AnyGame, Ask) -> Result<Found, NoMemory>>(
     alloc: Global,
+    find: F,
     command: ReadingCommand,
     bytes: &[u8],
-    gate: &T,
 ) -> Result<Answer, NoMemory>
+    requires find { IsFinder (F.pre find) (F.post find) }
     requires short { length bytes.now ≤ limit_of command }
     requires few { HasFewGames command }
     ensures { IfOk result (λ a. IsAnswerTo command bytes.now a.status a.text) }
 {
     match command {
-        ReadingCommand::Solve => solved(rt, alloc, bytes, gate),
+        ReadingCommand::Solve => solved(alloc, find, bytes),
         ReadingCommand::Check => checked(alloc, bytes),
         ReadingCommand::Bounds => bounded(alloc, bytes),
         ReadingCommand::Exploit(side) => exploited(alloc, side, bytes),

@@ -5,6 +5,7 @@ ghost use Rattle.goofspiel.specs.Position.{IsSettingOf};
 ghost use Rattle.certificate.specs.Ranges.{IsInRange};
 ghost use Rattle.certificate.specs.Outcomes.{gap_of};
 ghost use Rattle.text.specs.Texts.{Adds, line_text};
+ghost use Rattle.commands.specs.Finding.{IsFinder};
 ghost use Rattle.commands.specs.Runs.{status_of, IsSampled};
 ghost use Rattle.commands.specs.Samples.{sample_cards, sample_prizes, sample_position, bounds_words, sample_line};
 
@@ -13,19 +14,19 @@ use crate::run::{Answer, written};
 use crate::solve::status_of;
 use certificate::{Ask, LEAST, Pay, PositionText, Report};
 use goofspiel::Goofspiel;
-use lazy_workers::solve;
-use oracle_search::Gate;
+use lazy_workers::Found;
+use position::AnyGame;
 use seq::Seq;
 use sim_game::NoMemory;
+use solution::report_of;
 use std::alloc::Global;
-use std::thread::Threads;
 use text::Text;
 
 /// The cards of each side.
 const CARDS: [u8; 5] = [1, 2, 3, 4, 5];
 
 /// What is asked of the search of each sample.
-pub(crate) const ASK: Ask = Ask {
+const ASK: Ask = Ask {
     gap: 0,
     weight: 8192,
     turns: 262_144,
@@ -36,16 +37,17 @@ pub(crate) const ASK: Ask = Ask {
 };
 
 /// The answer to the number of a sample.
-pub(crate) fn sampled<R: Threads + Sync, T: Gate + Sync>(
-    rt: &R,
+pub(crate) fn sampled<F: FnOnce(AnyGame, Ask) -> Result<Found, NoMemory>>(
     alloc: Global,
+    find: F,
     number: u32,
-    gate: &T,
 ) -> Result<Answer, NoMemory>
+    requires { IsFinder (F.pre find) (F.post find) }
     ensures { IfOk result (λ a. IsSampled number a.status a.text) }
 {
+    let found = find(AnyGame::Goofspiel(sample_game(number)), ASK)?;
     let position = sample_position(alloc, number)?;
-    let solved = solve(rt, alloc, sample_game(number), position, &ASK, gate)?;
+    let solved = report_of(alloc, found, position, &ASK)?;
     told(alloc, number, &solved.report)
 }
 
@@ -73,7 +75,7 @@ pub(crate) fn sample_game(number: u32) -> Goofspiel
     }
 }
 
-pub(crate) fn sample_position(alloc: Global, number: u32) -> Result<PositionText, NoMemory>
+fn sample_position(alloc: Global, number: u32) -> Result<PositionText, NoMemory>
     ensures { IfOk result (λ text. text ≡ sample_position number) }
 {
     let one = CARDS.to_vec(alloc)?;
@@ -89,7 +91,7 @@ pub(crate) fn sample_position(alloc: Global, number: u32) -> Result<PositionText
 }
 
 /// The answer that tells of the report of one worker.
-pub(crate) fn told(alloc: Global, number: u32, report: &Report) -> Result<Answer, NoMemory>
+fn told(alloc: Global, number: u32, report: &Report) -> Result<Answer, NoMemory>
     requires range { IsInRange report.now }
     requires worker { length report.now.spent ≡ 1 }
     ensures { IfOk result (λ a. (a.status ≡ status_of report.now.outcome) × (a.text ≡ sample_line number report.now)) }

@@ -1,62 +1,79 @@
 //! The answer to the bytes of a position that is to be solved.
 
-ghost use Rattle.std.specs.Prelude.{◌≡◌, Ok, IfOk};
+ghost use Rattle.std.specs.Prelude.{◌≡◌, Ok, IfErr, IfOk};
 ghost use Rattle.certificate.specs.Ranges.{IsAskInRange, IsInRange, IsPositionInRange};
 ghost use Rattle.certificate.specs.Reading.{read_report};
 ghost use Rattle.certificate.specs.Texts.{report_text};
-ghost use Rattle.lazy_workers.specs.Solutions.{IsSolvedGame};
-ghost use Rattle.position.specs.Games.{OfSame};
+ghost use Rattle.position.specs.Games.{OfGame};
+ghost use Rattle.position.specs.Objects.{Fails};
+ghost use Rattle.position.specs.Position.{position_of};
+ghost use Rattle.solution.specs.Solutions.{IsSolution};
+ghost use Rattle.commands.specs.Alone.{IsFoundReport};
+ghost use Rattle.commands.specs.Finding.{IsFinder};
 ghost use Rattle.commands.specs.Runs.{status_of, IsSolved};
 
 use crate::run::{Answer, refused};
-use certificate::{Ask, Outcome, PositionText, Report, write};
-use lazy_workers::{Solved, solve};
-use oracle_search::Gate;
-use position::{AnyGame, position, with_game};
+use certificate::{Ask, Outcome, Report, write};
+use lazy_workers::Found;
+use position::{AnyGame, InputError, Task, position};
 use seq::Seq;
 use sim_game::NoMemory;
+use solution::report_of;
 use std::alloc::Global;
-use std::thread::Threads;
 
-/// Solves the game of a position. A visitor of games would hide from the workers' threads what may be sent to them.
-fn solve_any<R: Threads + Sync, T: Gate + Sync>(
-    rt: &R,
+/// The report of a search of what a task asks.
+fn search_task<F: FnOnce(AnyGame, Ask) -> Result<Found, NoMemory>>(
     alloc: Global,
-    game: AnyGame,
-    position: PositionText,
-    ask: &Ask,
-    gate: &T,
-) -> Result<Solved, NoMemory>
-    requires ask { IsAskInRange ask.now }
-    requires position { IsPositionInRange position }
-    ensures { OfSame game.entry (λ S m. IfOk result (IsSolvedGame m position ask.now)) }
+    find: F,
+    task: Task,
+) -> Result<Report, NoMemory>
+    requires find { IsFinder (F.pre find) (F.post find) }
+    requires text { IsPositionInRange task.text }
+    requires ask { IsAskInRange task.ask }
+    ensures found { IfOk result (λ r. OfGame task.text (λ S m. IsSolution m task.text task.ask r)) }
+    ensures in_range { IfOk result IsInRange }
 {
-    with_game!(game, g => solve(rt, alloc, g, position, ask, gate))
+    let found = find(task.game(), task.ask)?;
+    let solved = report_of(alloc, found, task.text, &task.ask)?;
+    Ok(solved.report)
+}
+
+/// The report of a search of the position of the bytes, or the first refusal.
+pub(crate) fn search_with<F: FnOnce(AnyGame, Ask) -> Result<Found, NoMemory>>(
+    alloc: Global,
+    find: F,
+    bytes: &[u8],
+) -> Result<Report, InputError>
+    requires find { IsFinder (F.pre find) (F.post find) }
+    ensures found { IfOk result (IsFoundReport bytes.now) }
+    ensures in_range { IfOk result IsInRange }
+    ensures fault { IfErr result (λ e. Fails e (position_of bytes.now)) }
+{
+    match position(alloc, bytes) {
+        Ok(task) => match search_task(alloc, find, task) {
+            Ok(report) => Ok(report),
+            Err(_) => Err(InputError::NoMemory),
+        },
+        Err(error) => Err(error),
+    }
 }
 
 /// The answer to the bytes of a position: the text of the report of a search, or a refusal.
-pub(crate) fn solved<R: Threads + Sync, T: Gate + Sync>(
-    rt: &R,
+pub(crate) fn solved<F: FnOnce(AnyGame, Ask) -> Result<Found, NoMemory>>(
     alloc: Global,
+    find: F,
     bytes: &[u8],
-    gate: &T,
 ) -> Result<Answer, NoMemory>
+    requires { IsFinder (F.pre find) (F.post find) }
     ensures { IfOk result (λ a. IsSolved bytes.now a.status a.text) }
 {
-    match position(alloc, bytes) {
-        Ok(task) => {
-            // The game borrows from the text, and the report keeps a text.
-            let text = task.text.try_clone(alloc)?;
-            match solve_any(rt, alloc, task.game(), text, &task.ask, gate) {
-                Ok(solved) => reported(alloc, &solved.report),
-                Err(_) => Err(NoMemory),
-            }
-        }
+    match search_with(alloc, find, bytes) {
+        Ok(report) => reported(alloc, &report),
         Err(error) => refused(alloc, error),
     }
 }
 
-pub(crate) fn reported(alloc: Global, report: &Report) -> Result<Answer, NoMemory>
+fn reported(alloc: Global, report: &Report) -> Result<Answer, NoMemory>
     requires { IsInRange report.now }
     ensures { IfOk result (λ a. (a.status ≡ status_of report.now.outcome) × (a.text ≡ report_text report.now)
         × (read_report (report_text report.now) ≡ Ok report.now)) }

@@ -1,6 +1,6 @@
 pub mod JoinLemmas
 pub mod KeptLemmas
 pub mod RowLemmas
-pub mod SolutionLemmas
+pub mod FoundLemmas
 pub mod SummaryLemmas
 pub mod WorkerLemmas

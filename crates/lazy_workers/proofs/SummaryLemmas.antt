@@ -1,18 +1,16 @@
 -- What the sheets of the best entries say.
-use Rattle.std.proofs.Common.{◌≡◌, ℕ, suc, ◌<◌, ◌≤◌, ℤ, pos, neg_ℤ, ◌≤ℤ◌, Bool, true, false, eqb, ◌||◌, Option, Some, List, [], ◌∷◌, length, map, sum, All, refl, sym, ap, subst, ◌∙◌, arith}
+use Rattle.std.proofs.Common.{◌≡◌, ℕ, suc, ◌<◌, ◌≤◌, ℤ, pos, neg_ℤ, ◌≤ℤ◌, Bool, true, false, eqb, ◌||◌, Option, Some, List, [], ◌∷◌, length, map, All, refl, sym, ap, subst, ◌∙◌, arith}
 use Rattle.std.specs.List.{IsDistinct, AllByRecursion, list_any}
 use Rattle.std.specs.List.Sorted.{IsStrictlyIncreasing}
 use Rattle.std.proofs.lemmas.List.Kept.{AllPairs-from_increasing}
 use Rattle.std.proofs.lemmas.Map.Made.{IsDistinct-from_AllPairs}
 use Rattle.std.proofs.lemmas.Bool.Decides.{Decides-eqb}
 use Rattle.std.proofs.lemmas.Map.Steps.{length-le_from_distinct_below}
-use Rattle.std.proofs.lemmas.List.Elements.{recursion_from_All, All-from_recursion, All-map, All-weaker}
+use Rattle.std.proofs.lemmas.List.Elements.{recursion_from_All, All-map, All-weaker}
 use Rattle.std.proofs.lemmas.List.{length-map}
-use Rattle.std.proofs.lemmas.List.Sums.{sum_by-cons}
 use Rattle.std.proofs.lemmas.Int.{ints}
 use Rattle.std.specs.Int.RustNames.{unsigned_abs}
 use Rattle.std.proofs.lemmas.Bool.{eqb-true, eqb-false}
-use Rattle.sim_game.specs.declared.Side.{Side}
 use Rattle.sim_game.specs.declared.Side.TheVariants.{One, Two}
 use Rattle.sim_game.specs.Model.{GameModel, IsGame}
 use Rattle.sim_game.specs.Sides.{opening_bound}
@@ -20,9 +18,7 @@ use Rattle.plan_book.specs.declared.Entry.{Entry}
 use Rattle.plan_book.specs.declared.Sheet.{Sheet}
 use Rattle.plan_book.specs.declared.SheetRow.{SheetRow}
 use Rattle.plan_book.specs.Books.{IsClosed, IsBooked, IsBestSheet, best_row, book_bound}
-use Rattle.plan_book.specs.Sheets.{IsLawful, IsLawfulRow, IsReached, row_at, bound_or, root_bound}
-use Rattle.plan_book.proofs.SheetLemmas.{reached_reachable}
-use Rattle.certificate.specs.Ranges.{IsRowInRange, IsSheetInRange}
+use Rattle.plan_book.specs.Sheets.{IsReached, bound_or, root_bound}
 use Rattle.plan_book.proofs.BestLemmas.{book_row, reached_root, row_entry}
 use Rattle.plan_book.proofs.ExpectedLemmas.{is_other}
 use Rattle.sim_game.proofs.ReachLemmas.{reachable_root}
@@ -86,11 +82,7 @@ module _ {S : Type 0} (m : GameModel S) (game : IsGame m) (total : ℕ) (entries
             let behind = row_entry (λ e. IsKept rows held.key_at e.key) sheet.side entries r.key r held.held only.3 in
             subst (IsKept rows held.key_at) behind.1.is_key behind.1.holds
 
--- ---- the ranges of what a report tells
-parts_small : (ws : List ℕ) (most : ℕ) → sum ws ≤ most → AllByRecursion (λ w. w ≤ most) ws
-parts_small [] most h = tt
-parts_small (w ∷ ws) most h = (omega (arith, sum_by-cons (λ x. x) w ws), parts_small ws most (omega (arith, sum_by-cons (λ x. x) w ws)))
-
+-- ---- the range of a bound
 pub abs_small : (z : ℤ) → neg_ℤ (pos 4000000000) ≤ℤ z → z ≤ℤ pos 4000000000 → unsigned_abs z ≤ 4000000000
 abs_small z low high = omega (arith, ints)
 
@@ -100,25 +92,3 @@ module _ {S : Type 0} (m : GameModel S) (game : IsGame m) where
 
   pub scaled_high : (z : ℤ) → z ≤ℤ opening_bound m Two → z ≤ℤ pos 4000000000
   scaled_high z high = let most = game.high_most in omega (arith, ints)
-
-  row_in_range : (side : Side) (total : ℕ) (rows : List SheetRow) (r : SheetRow) → total ≤ 1048576 → IsLawfulRow m side total rows r → IsRowInRange r
-  row_in_range side total rows r small lawful =
-      let reached = reached_reachable m side (row_at rows) lawful.state lawful.reached in
-      let key = game.key_high lawful.state reached in
-      let some = game.other_moves side lawful.state reached lawful.step.goes_on in
-      let few = game.moves_high side lawful.state reached in let width = game.width_high in
-      let one_each = lawful.step.one_each in let is_key = lawful.is_key in let sums = lawful.step.sums in record {
-        key = omega arith;
-        bound = abs_small r.bound (scaled_low r.bound lawful.low) (scaled_high r.bound lawful.high);
-        moves = (omega arith, omega arith);
-        weights = All-from_recursion (λ w. w ≤ 1048576) r.weights (parts_small r.weights 1048576 (omega arith));
-      }
-
-  pub sheet_in_range : (sheet : Sheet) → IsLawful m sheet → sheet.total ≤ 1048576 → length sheet.rows ≤ 1048576 → IsSheetInRange sheet.side sheet.total sheet
-  sheet_in_range sheet lawful small few = record {
-    side_is = refl;
-    total_is = refl;
-    few = few;
-    rows = All-weaker (IsLawfulRow m sheet.side sheet.total sheet.rows) IsRowInRange (λ r. row_in_range sheet.side sheet.total sheet.rows r small) sheet.rows lawful.rows;
-    rising = lawful.rising;
-  }

@@ -1,5 +1,5 @@
 -- The rows of the closed board, and the finished states among them.
-use Rattle.std.specs.Prelude.{◌≡◌, ℕ, ◌+◌, ◌*◌, ◌≤◌, ◌<◌, ℤ, pos, ◌-ℤ◌, ◌*ℤ◌, ◌≤ℤ◌, List, [], length, map, All, Contains}
+use Rattle.std.specs.Prelude.{◌≡◌, ℕ, ◌+◌, ◌*◌, ◌≤◌, ℤ, pos, ◌-ℤ◌, ◌*ℤ◌, ◌≤ℤ◌, List, [], length, All, Contains}
 use Rattle.sim_game.specs.Model.{GameModel, IsEnd}
 use Rattle.bounds_board.specs.Views.{IsInnerKey, IsEnclosure}
 use Rattle.matrix_game.specs.Budget.{Budget}
@@ -10,17 +10,11 @@ use Rattle.plan_book.specs.Plans.{one_move}
 use Rattle.sim_game.specs.declared.Side.{Side}
 use Rattle.certificate.specs.declared.report.Ask.{Ask}
 use Rattle.certificate.specs.declared.report.StageMethod.TheVariants.{Regret}
-use Rattle.certificate.specs.declared.report.Outcome.TheVariants.{Spent, Full}
-use Rattle.certificate.specs.declared.report.Report.{Report}
 
 -- the turns are those asked, and no more of them were spent
 pub record HasLimit (ask : Ask) (t : Budget) : Type 0 where
   pub limit : t.limit ≡ ask.turns
   pub spent : t.spent ≤ ask.turns
-
--- how many turns each worker has spent
-abbrev pub spent_of : List Budget → List ℕ
-spent_of turns = map (λ t. t.spent) turns
 
 -- a row of the sheet is kept: its key has a row, with its bound on its side
 pub record IsSheetRowKept (side : Side) (kept : List Kept) (r : SheetRow) : Type 0 where
@@ -58,11 +52,3 @@ module _ {S : Type 0} (m : GameModel S) where
     pub few : length kept ≤ rows
     pub distinct : IsDistinct kept
     pub each : All IsKeptState kept
-
-  -- what the rows show of an outcome short of the resolution
-  pub record IsLeft (ask : Ask) (r : Report) (kept : List Kept) : Type 0 where
-    pub rows : AreRows ask.rows kept
-    -- with a row left on the board, the root has one
-    pub rooted : 1 ≤ m.rank m.root → length kept < ask.rows → HasKey kept (m.key m.root)
-    pub full : r.outcome ≡ Full → length kept ≡ ask.rows
-    pub spent : r.outcome ≡ Spent → length kept < ask.rows → AreOwed ask r.resolution kept

@@ -1,5 +1,5 @@
 pub mod Keeping
 pub mod Searched
-pub mod Solutions
+pub mod Findings
 pub mod Workers
 pub mod Solvers

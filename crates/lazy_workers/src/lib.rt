@@ -1,9 +1,9 @@
-//! The search of a whole game by several workers on one board, and its report.
+//! The search of a whole game by several workers on one board.
 #![tactic(auto)]
 
 mod jobs;
 mod summary;
 mod workers;
 
-pub use summary::Solved;
-pub use workers::{solve, solve_alone};
+pub use summary::Found;
+pub use workers::{find, find_alone};

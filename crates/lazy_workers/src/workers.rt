@@ -1,16 +1,16 @@
 //! The search of a whole game.
 
 ghost use Rattle.std.specs.Prelude.{◌≡◌, ◌+◌, ◌≤◌, [], length, All, IfOk};
-ghost use Rattle.certificate.specs.Ranges.{IsAskInRange, IsPositionInRange};
+ghost use Rattle.certificate.specs.Ranges.{IsAskInRange};
 ghost use Rattle.plan_book.specs.Books.{book_bound};
 ghost use Rattle.shared_board.specs.Values.{IsPassOf};
+ghost use Rattle.lazy_workers.specs.Findings.{IsFoundFor};
 ghost use Rattle.lazy_workers.specs.Searched.{AnswersToo, IsSearched};
-ghost use Rattle.lazy_workers.specs.Solutions.{IsSolvedGame};
 ghost use Rattle.lazy_workers.specs.Workers.{IsBoardFor, IsLead, IsJob, IsJobDone, IsNoLooser};
 
 use crate::jobs::{Done, Job, join_all, split_all, work};
-use crate::summary::{Found, Solved, report_of};
-use certificate::{Ask, PositionText};
+use crate::summary::{Found, Gathered, found_in};
+use certificate::Ask;
 use matrix_game::Turns;
 use oracle_search::Gate;
 use plan_book::Book;
@@ -21,34 +21,32 @@ use std::alloc::Global;
 use std::thread;
 use std::thread::Threads;
 
-/// Searches the game by so many workers as asked, and reports what was found. Each worker searches the root on a board
-/// that all share. The caller does the work of a single worker, and of one whose thread cannot be started.
-pub fn solve<R: Threads + Sync, G: Game + Send + Sync, T: Gate + Sync>(
+/// Searches the game by so many workers as asked, each on one board that all share, and gives the best plans found. The
+/// caller does the work of a single worker, and of one whose thread cannot be started.
+pub fn find<R: Threads + Sync, G: Game + Send + Sync, T: Gate + Sync>(
     rt: &R,
     alloc: Global,
     g: G,
-    position: PositionText,
     ask: &Ask,
     gate: &T,
-) -> Result<Solved, NoMemory>
+) -> Result<Found, NoMemory>
 where
     G::State: Send + Sync,
-    requires ask { IsAskInRange ask.now }
-    requires position { IsPositionInRange position }
-    ensures { IfOk result (IsSolvedGame (G.model g) position ask.now) }
+    requires { IsAskInRange ask.now }
+    ensures { IfOk result (IsFoundFor (G.model g) ask.now) }
 {
-    let found = if g.rank(g.root()) == 0 {
+    let gathered = if g.rank(g.root()) == 0 {
         nothing(alloc, g, ask)?
     } else if ask.workers == 1 {
         search_alone(alloc, g, ask, gate)?
     } else {
         search_all(rt, alloc, g, ask, gate)?
     };
-    report_of(alloc, g, position, ask, found)
+    found_in(g, ask, gathered)
 }
 
 /// What is found where the root is an end: it needs no search.
-fn nothing<G: Game>(alloc: Global, g: G, ask: &Ask) -> Result<Found, NoMemory>
+fn nothing<G: Game>(alloc: Global, g: G, ask: &Ask) -> Result<Gathered, NoMemory>
     requires ask { IsAskInRange ask.now }
     requires end { (G.model g).rank (G.model g).root ≡ 0 }
     ensures total { IfOk result (λ found. found.book.total ≡ ask.now.weight) }
@@ -59,7 +57,7 @@ fn nothing<G: Game>(alloc: Global, g: G, ask: &Ask) -> Result<Found, NoMemory>
     for _worker in 0..ask.workers {
         turns.push(Turns::new(ask.turns))?;
     }
-    Ok(Found {
+    Ok(Gathered {
         book: Book::new(alloc, ask.weight),
         kept: Seq::from_vec(Vec::new(alloc)),
         turns: Seq::from_vec(turns),
@@ -74,7 +72,7 @@ fn search_all<R: Threads + Sync, G: Game + Send + Sync, T: Gate + Sync>(
     g: G,
     ask: &Ask,
     gate: &T,
-) -> Result<Found, NoMemory>
+) -> Result<Gathered, NoMemory>
 where
     G::State: Send + Sync,
     requires ask { IsAskInRange ask.now }
@@ -116,24 +114,22 @@ fn with_rows_for<G: Game>(g: G, ask: &Ask) -> Ask
     enough
 }
 
-/// As `solve`, but the caller does the work of each worker, one after the other. It starts no thread.
-pub fn solve_alone<G: Game, T: Gate>(
+/// As `find`, but the caller does the work of each worker, one after the other. It starts no thread.
+pub fn find_alone<G: Game, T: Gate>(
     alloc: Global,
     g: G,
-    position: PositionText,
     ask: &Ask,
     gate: &T,
-) -> Result<Solved, NoMemory>
-    requires ask { IsAskInRange ask.now }
-    requires position { IsPositionInRange position }
-    ensures { IfOk result (IsSolvedGame (G.model g) position ask.now) }
+) -> Result<Found, NoMemory>
+    requires { IsAskInRange ask.now }
+    ensures { IfOk result (IsFoundFor (G.model g) ask.now) }
 {
-    let found = if g.rank(g.root()) == 0 {
+    let gathered = if g.rank(g.root()) == 0 {
         nothing(alloc, g, ask)?
     } else {
         search_alone(alloc, g, ask, gate)?
     };
-    report_of(alloc, g, position, ask, found)
+    found_in(g, ask, gathered)
 }
 
 /// What all workers find on one board, one after the other.
@@ -142,7 +138,7 @@ fn search_alone<G: Game, T: Gate>(
     g: G,
     ask: &Ask,
     gate: &T,
-) -> Result<Found, NoMemory>
+) -> Result<Gathered, NoMemory>
     requires ask { IsAskInRange ask.now }
     requires goes_on { 1 ≤ (G.model g).rank (G.model g).root }
     ensures total { IfOk result (λ found. found.book.total ≡ ask.now.weight) }
@@ -189,7 +185,7 @@ fn gather<G: Game>(
     ask: &Ask,
     mut lead: Pass<G>,
     found: Vec<Result<Done<G>, NoMemory>>,
-) -> Result<Found, NoMemory>
+) -> Result<Gathered, NoMemory>
     requires board { IsBoardFor G.model g board ask.now }
     requires ours { IsPassOf board lead }
     requires lead { IsLead lead.view (1 + ask.now.workers) 1 }
@@ -206,7 +202,7 @@ fn gather<G: Game>(
     let mut turns = Vec::with_capacity(alloc, ask.workers as usize)?;
     let was_full = join_all(g, &board, ask, &mut lead, found, &mut turns)?;
     match board.close(lead) {
-        Ok(closed) => Ok(Found {
+        Ok(closed) => Ok(Gathered {
             book: closed.book,
             kept: closed.kept,
             turns: Seq::from_vec(turns),

@@ -1,6 +1,6 @@
 use Rattle.std.proofs.Common.{◌≡◌, take}
-use Rattle.lazy_workers.specs.Keeping.{spent_of}
-use Rattle.lazy_workers.proofs.summary.spent_of.Given as goal
+use Rattle.solution.specs.Solutions.{spent_of}
+use Rattle.solution.proofs.report.spent_of.Given as goal
 
 abbrev pub invariant-loop-own : goal.invariant-loop-own
 invariant-loop-own l = l.spent.items ≡ spent_of (take l.own-index l.turns)

@@ -1,5 +1,5 @@
 -- What a report says of a game.
-use Rattle.std.specs.Prelude.{◌≡◌, ℕ, ◌≤◌, ℤ, pos, ◌≤ℤ◌, ◌<ℤ◌, Bool, true, false, length, All, Contains}
+use Rattle.std.specs.Prelude.{◌≡◌, ℕ, ◌<◌, ◌≤◌, ℤ, pos, ◌≤ℤ◌, List, length, map, All, Contains}
 use Rattle.sim_game.specs.declared.Side.TheVariants.{One, Two}
 use Rattle.sim_game.specs.Model.{GameModel}
 use Rattle.sim_game.specs.Resolution.{IsResolution}
@@ -8,22 +8,46 @@ use Rattle.plan_book.specs.Sheets.{IsLawful, plan_of, root_bound}
 use Rattle.plan_book.specs.Serial.{serial_bound}
 use Rattle.certificate.specs.declared.report.Ask.{Ask}
 use Rattle.certificate.specs.declared.report.Outcome.{Outcome}
-use Rattle.certificate.specs.declared.report.Outcome.TheVariants.{Closed, Settled, Spent, Full}
+use Rattle.certificate.specs.declared.report.Outcome.TheVariants.{Closed, Spent, Full}
 use Rattle.certificate.specs.declared.positions.PositionText.{PositionText}
 use Rattle.certificate.specs.declared.report.Report.{Report}
 use Rattle.certificate.specs.Outcomes.{IsAllowed}
 use Rattle.certificate.specs.Ranges.{IsInRange}
 use Rattle.shared_board.specs.declared.close.Kept.{Kept}
-use Rattle.lazy_workers.specs.declared.summary.Solved.{Solved}
-use Rattle.lazy_workers.specs.Keeping.{HasLimit, spent_of, IsPureRow, IsSheetRowKept, IsLeft}
+use Rattle.shared_board.specs.Closing.{HasKey}
+use Rattle.matrix_game.specs.Budget.{Budget}
+use Rattle.lazy_workers.specs.declared.summary.Found.{Found}
+use Rattle.lazy_workers.specs.Findings.{found_gap}
+use Rattle.lazy_workers.specs.Keeping.{HasLimit, IsPureRow, IsSheetRowKept, AreOwed, AreRows}
+use Rattle.solution.specs.declared.report.Solved.{Solved}
+use Rattle.solution.specs.Outcomes.{IsOutcomeFor}
 use Rattle.lazy_workers.specs.Searched.{HasRoom, HasVisits, IsPureClose, TooFewTurns}
 
--- which outcome tells of a gap
-abbrev pub IsOutcomeFor : ℤ → ℤ → ℤ → Bool → Outcome → Type 0
-IsOutcomeFor gap asked resolution was_full Closed = gap ≤ℤ asked
-IsOutcomeFor gap asked resolution was_full Settled = asked <ℤ gap × gap ≤ℤ resolution
-IsOutcomeFor gap asked resolution was_full Spent = (asked <ℤ gap) × (resolution <ℤ gap) × (was_full ≡ false)
-IsOutcomeFor gap asked resolution was_full Full = (asked <ℤ gap) × (resolution <ℤ gap) × (was_full ≡ true)
+-- how many turns each worker has spent
+abbrev pub spent_of : List Budget → List ℕ
+spent_of turns = map (λ t. t.spent) turns
+
+-- the report of what was found, with the outcome
+abbrev pub report_with : PositionText → Ask → Found → Outcome → Report
+report_with text ask x outcome = record {
+  position = text;
+  weight = ask.weight;
+  turns = ask.turns;
+  asked = ask.gap;
+  resolution = x.resolution;
+  outcome = outcome;
+  lower = x.lower;
+  upper = x.upper;
+  spent = spent_of x.turns;
+  one = x.one;
+  two = x.two;
+}
+
+-- what was found is reported, with the outcome of its gap
+pub record IsReportOf (text : PositionText) (ask : Ask) (x : Found) (s : Solved) : Type 0 where
+  pub outcome : Outcome
+  pub is_outcome : IsOutcomeFor (found_gap x) ask.gap x.resolution x.was_full outcome
+  pub is_solved : s ≡ record { report = report_with text ask x outcome; turns = x.turns; kept = x.kept }
 
 -- the report tells what was asked
 pub record IsOfAsk (text : PositionText) (ask : Ask) (r : Report) : Type 0 where
@@ -59,6 +83,14 @@ pub record IsSolution {S : Type 0} (m : GameModel S) (text : PositionText) (ask 
   pub pure_upper : HasRoom m ask → HasVisits m ask → r.upper ≤ℤ serial_bound m Two m.root
   pub at_once : HasRoom m ask → HasVisits m ask → IsPureClose m ask
       → (r.outcome ≡ Closed) × All (λ n. n ≡ 0) r.spent
+
+-- what the rows show of an outcome short of the resolution
+pub record IsLeft {S : Type 0} (m : GameModel S) (ask : Ask) (r : Report) (kept : List Kept) : Type 0 where
+  pub rows : AreRows m ask.rows kept
+  -- with a row left on the board, the root has one
+  pub rooted : 1 ≤ m.rank m.root → length kept < ask.rows → HasKey kept (m.key m.root)
+  pub full : r.outcome ≡ Full → length kept ≡ ask.rows
+  pub spent : r.outcome ≡ Spent → length kept < ask.rows → AreOwed m ask r.resolution kept
 
 -- what is told of a game: a report that is a solution, the turns of each worker, and the rows of the closed board
 pub record IsSolvedGame {S : Type 0} (m : GameModel S) (text : PositionText) (ask : Ask) (x : Solved) : Type 0 where

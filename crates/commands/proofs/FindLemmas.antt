@@ -1,0 +1,24 @@
+-- What is found for a game of a position, and its report.
+use Rattle.std.proofs.Common.{subst}
+use Rattle.certificate.specs.declared.positions.PositionText.{PositionText}
+use Rattle.certificate.specs.declared.report.Ask.{Ask}
+use Rattle.certificate.specs.Ranges.{IsAskInRange, IsPositionInRange}
+use Rattle.position.specs.declared.games.AnyGame.{AnyGame}
+use Rattle.position.specs.Games.{IsGameOf, model_of, OfSame, OfGame}
+use Rattle.position.proofs.GameLemmas.{is_game}
+use Rattle.lazy_workers.specs.declared.summary.Found.{Found}
+use Rattle.lazy_workers.specs.Findings.{IsFoundFor}
+use Rattle.solution.specs.declared.report.Solved.{Solved}
+use Rattle.solution.specs.Outcomes.{HasGap}
+use Rattle.solution.specs.Solutions.{IsReportOf, IsSolvedGame}
+use Rattle.solution.proofs.ReportLemmas.{has_gap, solved_game}
+
+module _ (any : AnyGame) (ask : Ask) (x : Found) (found : OfSame any (λ S m. IsFoundFor m ask x)) where
+  pub found_gap : HasGap x
+  found_gap = has_gap (model_of found.0) ask x found.2
+
+  -- the report of what was found is a solution of the position's game
+  pub found_solution : (text : PositionText) (s : Solved) → IsGameOf text any → IsAskInRange ask → IsPositionInRange text → IsReportOf text ask x s
+      → OfGame text (λ S m. IsSolvedGame m text ask s)
+  found_solution text s is asks place of =
+      (found.0, subst (IsGameOf text) found.1 is, solved_game (model_of found.0) ask x found.2 text s of (is_game found.0) asks place)

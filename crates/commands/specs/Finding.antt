@@ -1,0 +1,15 @@
+-- The search that the commands are given.
+use Rattle.std.specs.Prelude.{Result, IfOk}
+use Rattle.sim_game.specs.declared.NoMemory.{NoMemory}
+use Rattle.certificate.specs.declared.report.Ask.{Ask}
+use Rattle.certificate.specs.Ranges.{IsAskInRange}
+use Rattle.position.specs.declared.games.AnyGame.{AnyGame}
+use Rattle.position.specs.Games.{OfSame}
+use Rattle.lazy_workers.specs.declared.summary.Found.{Found}
+use Rattle.lazy_workers.specs.Findings.{IsFoundFor}
+
+-- a function that may be called with each game and with all that can be asked, and gives what is found
+pub record IsFinder (pre : AnyGame → Ask → Type 0) (post : AnyGame → Ask → Result Found NoMemory → Type 0) : Type 0 where
+  pub may_find : (game : AnyGame) (ask : Ask) → IsAskInRange ask → pre game ask
+  pub finds : (game : AnyGame) (ask : Ask) (result : Result Found NoMemory) → post game ask result
+      → OfSame game (λ S m. IfOk result (IsFoundFor m ask))

@@ -1,0 +1,37 @@
+//! The search of a game, whatever its kind. A visitor of games cannot start threads: the compiler refuses a method of a
+//! trait that sends a value to a thread whose type is a parameter.
+
+ghost use Rattle.std.specs.Prelude.{IfOk};
+ghost use Rattle.certificate.specs.Ranges.{IsAskInRange};
+ghost use Rattle.lazy_workers.specs.Findings.{IsFoundFor};
+ghost use Rattle.position.specs.Games.{OfSame};
+
+use certificate::Ask;
+use lazy_workers::{Found, find, find_alone};
+use oracle_search::{Gate, OpenGate};
+use position::{AnyGame, with_game};
+use sim_game::NoMemory;
+use std::alloc::Global;
+use std::thread::Threads;
+
+/// Searches the game by so many workers as asked, each in a thread of its own where there are several.
+pub(crate) fn find_any<R: Threads + Sync, T: Gate + Sync>(
+    rt: &R,
+    alloc: Global,
+    game: AnyGame,
+    ask: &Ask,
+    gate: &T,
+) -> Result<Found, NoMemory>
+    requires { IsAskInRange ask.now }
+    ensures { OfSame game.entry (λ S m. IfOk result (IsFoundFor m ask.now)) }
+{
+    with_game!(game, g => find(rt, alloc, g, ask, gate))
+}
+
+/// As `find_any`, but the caller does the work of each worker, one after the other.
+pub(crate) fn find_any_alone(alloc: Global, game: AnyGame, ask: &Ask) -> Result<Found, NoMemory>
+    requires { IsAskInRange ask.now }
+    ensures { OfSame game.entry (λ S m. IfOk result (IsFoundFor m ask.now)) }
+{
+    with_game!(game, g => find_alone(alloc, g, ask, &OpenGate))
+}

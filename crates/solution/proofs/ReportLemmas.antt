@@ -1,0 +1,131 @@
+-- That the report of what was found is a solution.
+use Rattle.std.proofs.Common.{◌≡◌, ℕ, ◌≤◌, ℤ, ◌-ℤ◌, ◌≤ℤ◌, List, [], ◌∷◌, length, All, w64, SFits, to_z, of_z, refl, sym, subst, ◌∙◌, arith}
+use Rattle.std.specs.List.{AllByRecursion}
+use Rattle.std.proofs.lemmas.Int.{ints, to_z-of_z}
+use Rattle.std.proofs.lemmas.List.{length-map}
+use Rattle.std.proofs.lemmas.List.Elements.{All-from_recursion, All-map, All-weaker, recursion_from_All}
+use Rattle.sim_game.specs.declared.Side.{Side}
+use Rattle.sim_game.specs.declared.Side.TheVariants.{One, Two}
+use Rattle.sim_game.specs.Model.{GameModel, IsGame}
+use Rattle.plan_book.specs.declared.Sheet.{Sheet}
+use Rattle.certificate.specs.declared.report.Ask.{Ask}
+use Rattle.certificate.specs.declared.report.Outcome.{Outcome}
+use Rattle.certificate.specs.declared.report.Outcome.TheVariants.{Closed, Spent, Full}
+use Rattle.certificate.specs.declared.positions.PositionText.{PositionText}
+use Rattle.certificate.specs.declared.report.Report.{Report}
+use Rattle.certificate.specs.Outcomes.{Allows}
+use Rattle.certificate.specs.Ranges.{Within, IsAskInRange, IsPositionInRange, IsSheetInRange, IsInRange}
+use Rattle.matrix_game.specs.Budget.{Budget}
+use Rattle.lazy_workers.specs.declared.summary.Found.{Found}
+use Rattle.lazy_workers.specs.Findings.{found_gap, IsFoundPlan, AreSpent, IsFoundFor}
+use Rattle.lazy_workers.specs.Keeping.{HasLimit}
+use Rattle.lazy_workers.specs.Searched.{HasRoom}
+use Rattle.solution.specs.declared.report.Solved.{Solved}
+use Rattle.solution.specs.Outcomes.{HasGap, IsOutcomeFor}
+use Rattle.solution.specs.Solutions.{spent_of, report_with, IsReportOf, IsSolution, IsSolvedGame}
+use Rattle.solution.proofs.RangeLemmas.{sheet_in_range}
+
+-- what holds of each worker's spent turns holds of its turns
+from_spent : (P : ℕ → Type 0) (turns : List Budget) → AllByRecursion P (spent_of turns) → AllByRecursion (λ t. P t.spent) turns
+from_spent P [] each = tt
+from_spent P (t ∷ turns) each = (each.0, from_spent P turns each.1)
+
+module _ {S : Type 0} (m : GameModel S) (ask : Ask) (x : Found) (found : IsFoundFor m ask x) where
+  pub has_gap : HasGap x
+  has_gap = record { lower = found.one.small; upper = found.two.small }
+
+  module _ (game : IsGame m) (asks : IsAskInRange ask) (text : PositionText) (place : IsPositionInRange text)
+      (outcome : Outcome) (ends : IsOutcomeFor (found_gap x) ask.gap x.resolution x.was_full outcome) where
+    abbrev r : Report
+    r = report_with text ask x outcome
+
+    -- what holds of each worker's turns holds of what it has spent, and the other way round
+    each_spent : (P : ℕ → Type 0) → All (λ t. P t.spent) x.turns → All P (spent_of x.turns)
+    each_spent P each = All-map P (λ t. t.spent) x.turns each
+
+    none_spent : All (λ n. n ≡ 0) (spent_of x.turns) → All (λ t. t.spent ≡ 0) x.turns
+    none_spent each = All-from_recursion (λ t. t.spent ≡ 0) x.turns (from_spent (λ n. n ≡ 0) x.turns (recursion_from_All (λ n. n ≡ 0) (spent_of x.turns) each))
+
+    in_sheet : (side : Side) (sheet : Sheet) (bound : ℤ) → IsFoundPlan m ask x side sheet bound → IsSheetInRange side ask.weight sheet
+    in_sheet side sheet bound plan =
+        let few = plan.few in let rows = asks.rows in let weight = asks.weight in let total = plan.total_is in
+        let ranged = sheet_in_range m game sheet plan.lawful (omega arith) (omega arith) in
+        record { side_is = plan.side_is; total_is = total; few = ranged.few; rows = ranged.rows; rising = ranged.rising }
+
+    allowed : (o : Outcome) → IsOutcomeFor (found_gap x) ask.gap x.resolution x.was_full o → Allows (report_with text ask x o) o
+    allowed Spent e = (record { asked = e.0; resolution = e.1 }, each_spent (λ n. n ≡ ask.turns) (found.spent e.2 e.0 e.1).all)
+    allowed Full e = record { asked = e.0; resolution = e.1 }
+    allowed o e = e
+
+    full_by : (o : Outcome) → o ≡ Full → IsOutcomeFor (found_gap x) ask.gap x.resolution x.was_full o → (length x.kept ≡ ask.rows) × (HasRoom m ask → ⊥)
+    full_by Full is e = found.full e.2
+    full_by o is e = absurd (cc)
+
+    spent_by : (o : Outcome) → o ≡ Spent → IsOutcomeFor (found_gap x) ask.gap x.resolution x.was_full o → AreSpent m ask x
+    spent_by Spent is e = found.spent e.2 e.0 e.1
+    spent_by o is e = absurd (cc)
+
+    closed_by : (o : Outcome) → found_gap x ≤ℤ ask.gap → IsOutcomeFor (found_gap x) ask.gap x.resolution x.was_full o → o ≡ Closed
+    closed_by Closed near e = refl
+    closed_by o near e = let wide = e.0 in absurd (omega (arith, ints))
+
+    in_range : IsInRange r
+    in_range = record {
+      position = place;
+      weight = asks.weight;
+      turns = asks.turns;
+      asked = asks.gap;
+      resolution = (omega (arith, ints, found.resolution.1), found.resolution_high);
+      lower = found.one.small;
+      upper = found.two.small;
+      workers = subst (λ (n : ℕ). Within 1 16 n) (sym (length-map x.turns (λ t. t.spent) ∙ found.workers)) asks.workers;
+      spent = each_spent (λ n. n ≤ 1099511627776) (All-weaker (HasLimit ask) (λ t. t.spent ≤ 1099511627776) (λ t h. omega (arith, h.spent, asks.turns)) x.turns found.within);
+      one = in_sheet One x.one x.lower found.one;
+      two = in_sheet Two x.two x.upper found.two;
+    }
+
+    solution : IsSolution m text ask r
+    solution = record {
+      of_ask = record { position = refl; weight = refl; turns = refl; asked = refl; workers = length-map x.turns (λ t. t.spent) ∙ found.workers };
+      in_range = in_range;
+      resolution = found.resolution;
+      outcome = allowed outcome ends;
+      within = each_spent (λ n. n ≤ ask.turns) (All-weaker (HasLimit ask) (λ t. t.spent ≤ ask.turns) (λ t h. h.spent) x.turns found.within);
+      alone = λ none. (found.one.alone (none_spent none), found.two.alone (none_spent none));
+      one_lawful = found.one.lawful;
+      two_lawful = found.two.lawful;
+      lower = found.one.bound_is;
+      upper = found.two.bound_is;
+      lower_guaranteed = found.one.guaranteed;
+      upper_guaranteed = found.two.guaranteed;
+      one_few = found.one.few;
+      two_few = found.two.few;
+      full = λ is. (full_by outcome is ends).1;
+      spent = λ is. (spent_by outcome is ends).too_few;
+      pure_lower = found.one.pure;
+      pure_upper = found.two.pure;
+      at_once = λ has many near.
+          let low = found.one.pure has many in let high = found.two.pure has many in
+          (closed_by outcome (omega (arith, ints)) ends, each_spent (λ n. n ≡ 0) (found.at_once has many near));
+    }
+
+    solved_with : IsSolvedGame m text ask (record { report = r; turns = x.turns; kept = x.kept })
+    solved_with = record {
+      solution = solution;
+      within = found.within;
+      spent = refl;
+      one_kept = found.one.kept;
+      two_kept = found.two.kept;
+      left = record { rows = found.rows; rooted = found.rooted; full = λ is. (full_by outcome is ends).0; spent = λ is. (spent_by outcome is ends).owed };
+      root = λ row held at. (found.one.root row held at, found.two.root row held at);
+    }
+
+  -- the report of what was found of a game is a solution of it
+  pub solved_game : (text : PositionText) (s : Solved) → IsReportOf text ask x s → IsGame m → IsAskInRange ask → IsPositionInRange text → IsSolvedGame m text ask s
+  solved_game text s is game asks place =
+      subst (IsSolvedGame m text ask) (sym is.is_solved) (solved_with game asks text place is.outcome is.is_outcome)
+
+pub gap_fits : (x : Found) → HasGap x → SFits w64 x.lower → SFits w64 x.upper → SFits w64 (to_z w64 (of_z w64 x.upper) -ℤ to_z w64 (of_z w64 x.lower))
+gap_fits x small lower_fits upper_fits =
+    let a = small.lower in let b = small.upper in
+    rw (to_z-of_z w64 x.lower lower_fits, to_z-of_z w64 x.upper upper_fits) (omega (arith, ints))

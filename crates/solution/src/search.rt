@@ -1,0 +1,49 @@
+//! The search of a position's game, and its report.
+
+ghost use Rattle.std.specs.Prelude.{IfOk};
+ghost use Rattle.certificate.specs.Ranges.{IsAskInRange, IsPositionInRange};
+ghost use Rattle.solution.specs.Solutions.{IsSolvedGame};
+
+use crate::report::{Solved, report_of};
+use certificate::{Ask, PositionText};
+use lazy_workers::{find, find_alone};
+use oracle_search::Gate;
+use sim_game::{Game, NoMemory};
+use std::alloc::Global;
+use std::thread::Threads;
+
+/// Searches the game by so many workers as asked, and reports what was found. The caller does the work of a single
+/// worker, and of one whose thread cannot be started.
+pub fn solve<R: Threads + Sync, G: Game + Send + Sync, T: Gate + Sync>(
+    rt: &R,
+    alloc: Global,
+    g: G,
+    position: PositionText,
+    ask: &Ask,
+    gate: &T,
+) -> Result<Solved, NoMemory>
+where
+    G::State: Send + Sync,
+    requires ask { IsAskInRange ask.now }
+    requires position { IsPositionInRange position }
+    ensures { IfOk result (IsSolvedGame (G.model g) position ask.now) }
+{
+    let found = find(rt, alloc, g, ask, gate)?;
+    report_of(alloc, found, position, ask)
+}
+
+/// As `solve`, but the caller does the work of each worker, one after the other. It starts no thread.
+pub fn solve_alone<G: Game, T: Gate>(
+    alloc: Global,
+    g: G,
+    position: PositionText,
+    ask: &Ask,
+    gate: &T,
+) -> Result<Solved, NoMemory>
+    requires ask { IsAskInRange ask.now }
+    requires position { IsPositionInRange position }
+    ensures { IfOk result (IsSolvedGame (G.model g) position ask.now) }
+{
+    let found = find_alone(alloc, g, ask, gate)?;
+    report_of(alloc, found, position, ask)
+}

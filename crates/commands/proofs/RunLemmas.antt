@@ -3,13 +3,13 @@ use Rattle.std.proofs.Common.{◌≡◌, ℕ, ◌+◌, List, length, Option, Res
 use Rattle.std.proofs.lemmas.Result.{IfOk-weaker}
 use Rattle.sim_game.specs.declared.NoMemory.{NoMemory}
 use Rattle.sim_game.specs.Model.{GameModel}
-use Rattle.certificate.specs.declared.positions.PositionText.{PositionText}
+use Rattle.fields.specs.declared.positions.PositionText.{PositionText}
 use Rattle.position.specs.declared.games.InputError.{InputError}
 use Rattle.position.specs.declared.games.InputError.TheVariants as errors
 use Rattle.position.specs.declared.games.AnyGame.{AnyGame}
 use Rattle.position.specs.Games.{IsGameOf, OfSame, OfGame}
 use Rattle.position.specs.Position.{Fails, position_of, object_at}
-use Rattle.position.specs.Taken.{SourceState, SinkState}
+use Rattle.devices.specs.Taken.{SourceState, SinkState}
 use Rattle.commands.specs.declared.run.Answer.{Answer}
 use Rattle.commands.specs.declared.words.Command.{Command}
 use Rattle.commands.specs.Runs.{IsAnswer, IsTaken, IsTakenInPart, IsRun, IsWritten}

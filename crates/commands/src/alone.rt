@@ -1,7 +1,8 @@
 //! Answers to bytes in memory, made by the caller alone: no thread is started, and no device is used.
 
 ghost use Rattle.std.specs.Prelude.{◌+◌, ◌≤◌, length, take, IfErr, IfOk};
-ghost use Rattle.certificate.specs.Ranges.{IsAskInRange, IsInRange, IsPositionInRange};
+ghost use Rattle.fields.specs.Ranges.{IsAskInRange, IsPositionInRange};
+ghost use Rattle.certificate.specs.Ranges.{IsInRange};
 ghost use Rattle.position.specs.Games.{OfGame};
 ghost use Rattle.position.specs.Objects.{Fails};
 ghost use Rattle.position.specs.Position.{position_of};

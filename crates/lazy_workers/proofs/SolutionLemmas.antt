@@ -25,13 +25,14 @@ use Rattle.plan_book.proofs.BookLemmas.{best_range}
 use Rattle.plan_book.proofs.ExpectedLemmas.{is_same, is_other}
 use Rattle.plan_book.proofs.SheetLemmas.{sheet_guarantees}
 use Rattle.serial_ab.specs.Searches.{IsPureEntry}
-use Rattle.certificate.specs.declared.report.Ask.{Ask}
+use Rattle.fields.specs.declared.ask.Ask.{Ask}
 use Rattle.certificate.specs.declared.report.Outcome.{Outcome}
 use Rattle.certificate.specs.declared.report.Outcome.TheVariants.{Closed, Spent, Full}
-use Rattle.certificate.specs.declared.positions.PositionText.{PositionText}
+use Rattle.fields.specs.declared.positions.PositionText.{PositionText}
 use Rattle.certificate.specs.declared.report.Report.{Report}
 use Rattle.certificate.specs.Outcomes.{gap_of, Allows}
-use Rattle.certificate.specs.Ranges.{Within, Between, IsAskInRange, IsPositionInRange, IsSheetInRange, IsInRange}
+use Rattle.fields.specs.Ranges.{Within, Between, IsAskInRange, IsPositionInRange}
+use Rattle.certificate.specs.Ranges.{IsSheetInRange, IsInRange}
 use Rattle.matrix_game.specs.Budget.{Budget}
 use Rattle.shared_board.specs.Closing.{HasKey, IsKeptRow, kept_bound}
 use Rattle.shared_board.specs.declared.close.Kept.{Kept}

@@ -1,12 +1,13 @@
 //! The report of what was found.
 
 ghost use Rattle.std.specs.Prelude.{◌≡◌, IfOk};
-ghost use Rattle.certificate.specs.Ranges.{IsAskInRange, IsPositionInRange};
+ghost use Rattle.fields.specs.Ranges.{IsAskInRange, IsPositionInRange};
 ghost use Rattle.lazy_workers.specs.Keeping.{spent_of};
 ghost use Rattle.lazy_workers.specs.Searched.{IsSearched};
 ghost use Rattle.lazy_workers.specs.Solutions.{IsOutcomeFor, IsSolvedGame};
 
-use certificate::{Ask, Outcome, PositionText, Report};
+use certificate::{Outcome, Report};
+use fields::{Ask, PositionText};
 use matrix_game::Turns;
 use plan_book::{Book, bound_of};
 use seq::Seq;

@@ -1,6 +1,6 @@
 use Rattle.std.proofs.Common.{subst, sym}
 use Rattle.goofspiel.specs.Rules.{goofspiel_game}
-use Rattle.certificate.specs.Ranges.{IsPositionInRange}
+use Rattle.fields.specs.Ranges.{IsPositionInRange}
 use Rattle.position.specs.declared.games.AnyGame.TheVariants.{Goofspiel}
 use Rattle.lazy_workers.specs.Solutions.{IsSolution}
 use Rattle.commands.specs.Samples.{sample_ask, sample_line}

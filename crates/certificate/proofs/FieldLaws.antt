@@ -11,7 +11,8 @@ use Rattle.plan_book.specs.declared.SheetRow.{SheetRow}
 use Rattle.certificate.specs.declared.error.TextError.{TextError}
 use Rattle.certificate.specs.declared.error.TextError.TheVariants.{Number}
 use Rattle.certificate.specs.Unread.{Unread}
-use Rattle.certificate.specs.Numbers.{natural_in, integer_in, Within, Between}
+use Rattle.certificate.specs.Numbers.{natural_in, integer_in}
+use Rattle.fields.specs.Numbers.{Within, Between}
 use Rattle.text.specs.Texts.{line_text}
 use Rattle.certificate.specs.Texts.{row_fields}
 use Rattle.certificate.specs.Readers.{◌>>=◌, or_fault, Reads, ◌followed_by◌, ◌before◌, made_by, first_field, field, spelled, natural, integer, naturals_in, naturals, expected_word}

@@ -10,7 +10,8 @@ use Rattle.std.proofs.lemmas.Int.Digits.{digits_value_more}
 use Rattle.std.proofs.lemmas.Slice.Eq.{bytes_eq-Decides}
 use Rattle.std.proofs.lemmas.Str.{digit_value_digit}
 use Rattle.std.proofs.lemmas.Str.Parse.{numerals_by_value, tells_digits, tells_by_index, digits_value-take-le, digit_at}
-use Rattle.certificate.specs.Numbers.{numeral_in, natural_in, signed_in, Within}
+use Rattle.certificate.specs.Numbers.{numeral_in, natural_in, signed_in}
+use Rattle.fields.specs.Numbers.{Within}
 
 -- ---- digits
 

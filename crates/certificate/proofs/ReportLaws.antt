@@ -13,14 +13,16 @@ use Rattle.plan_book.specs.declared.Sheet.{Sheet}
 use Rattle.plan_book.specs.declared.SheetRow.{SheetRow}
 use Rattle.certificate.specs.declared.error.TextError.{TextError}
 use Rattle.certificate.specs.declared.error.TextError.TheVariants.{Line, Head, NoMemory}
-use Rattle.certificate.specs.declared.positions.GameKind.{GameKind}
+use Rattle.fields.specs.declared.positions.GameKind.{GameKind}
 use Rattle.certificate.specs.declared.report.Outcome.{Outcome}
 use Rattle.certificate.specs.declared.report.Report.{Report}
 use Rattle.certificate.specs.Unread.{Unread}
 use Rattle.text.specs.Texts.{line_text, text_of}
-use Rattle.certificate.specs.Positions.{newest_version, position_fields, kind_of, version_of, game_version}
+use Rattle.certificate.specs.Positions.{newest_version, position_fields, version_of, game_version}
+use Rattle.fields.specs.Positions.{kind_of}
 use Rattle.certificate.specs.Texts.{outcome_word, row_fields, sheet_lines, report_lines, report_text}
-use Rattle.certificate.specs.Ranges.{Within, Between, IsPositionInRange, IsRowInRange, IsSheetInRange, IsInRange}
+use Rattle.fields.specs.Ranges.{Within, Between, IsPositionInRange}
+use Rattle.certificate.specs.Ranges.{IsRowInRange, IsSheetInRange, IsInRange}
 use Rattle.certificate.specs.Readers.{Fails, lines_in}
 use Rattle.certificate.specs.Reading.{game_line, natural_line, integer_line, outcome, outcome_line, spent_line, end_line, row_line, rises, next_row, rows, sheet, sheets, terms, findings, report_of, report, version_line, or_head, head, ended, read_report}
 use Rattle.certificate.proofs.Spelling.{IsField, clean_word, outcome_spells}

@@ -15,9 +15,10 @@ use Rattle.std.proofs.lemmas.Slice.Eq.{bytes_eq-Decides}
 use Rattle.certificate.specs.declared.report.Outcome.{Outcome}
 use Rattle.certificate.specs.declared.report.Outcome.TheVariants.{Closed, Settled, Spent, Full}
 use Rattle.text.specs.Texts.{list_text}
-use Rattle.certificate.specs.Numbers.{natural_in, integer_in, Within, Between, IsByteList, IsNumberList}
+use Rattle.certificate.specs.Numbers.{natural_in, integer_in}
+use Rattle.fields.specs.Numbers.{Within, Between, IsByteList, IsNumberList}
 use Rattle.certificate.specs.Readers.{each_in, has_parts, list_parts, list_in}
-use Rattle.certificate.specs.Fields.{joined_list}
+use Rattle.certificate.specs.Spellings.{joined_list}
 use Rattle.certificate.specs.Texts.{outcome_word}
 use Rattle.certificate.specs.Reading.{outcome_of}
 use Rattle.certificate.proofs.NumberLemmas.{neither, natural_takes, natural_again, signed_takes, signed_again}

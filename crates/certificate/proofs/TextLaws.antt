@@ -7,7 +7,7 @@ use Rattle.std.proofs.lemmas.List.Splits.{slice_split_at, join_with_byte-slice_s
 use Rattle.certificate.specs.declared.error.TextError.TheVariants.{Short}
 use Rattle.certificate.specs.Unread.{Unread}
 use Rattle.text.specs.Texts.{line_text}
-use Rattle.certificate.specs.Ranges.{Within}
+use Rattle.fields.specs.Ranges.{Within}
 use Rattle.certificate.specs.Readers.{or_fault, Reads, ◌followed_by◌, made_by, lines_in, fields_in, cut_line, first_line, has_parts, next_line, in_line}
 use Rattle.certificate.proofs.Spelling.{IsField, All-join, split-join, has_parts-bounds, has_parts-true, without}
 use Rattle.certificate.proofs.FieldLaws.{FieldLaw, bind_ok, or_ok, test_ok, ok_is}

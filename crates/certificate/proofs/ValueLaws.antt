@@ -1,5 +1,5 @@
 -- Reading and writing the values of fields undo each other, whatever the fields.
-use Rattle.std.proofs.Common.{◌≡◌, ℕ, suc, ◌+◌, ◌*◌, ◌^◌, ◌<◌, ◌≤◌, ℤ, unsigned_abs, List, [], ◌∷◌, length, map, Bool, true, ◌&&◌, ltb, ltb-true, leb-true, Option, Some, None, IfSome, Ok, All, refl, sym, ap, ap₂, subst, ◌∙◌, arith}
+use Rattle.std.proofs.Common.{◌≡◌, ℕ, ◌+◌, ◌*◌, ◌^◌, ◌<◌, ◌≤◌, ℤ, unsigned_abs, List, [], ◌∷◌, length, map, Bool, true, ◌&&◌, ltb, ltb-true, leb-true, Some, Ok, All, refl, sym, ap, ap₂, subst, ◌∙◌, arith}
 use Rattle.std.proofs.lemmas.Int.{ints}
 use Rattle.std.proofs.lemmas.Bool.{and_parts}
 use Rattle.std.proofs.lemmas.List.{nil_from_length}
@@ -7,17 +7,19 @@ use Rattle.std.proofs.lemmas.List.Elements.{All-cons, All-nil}
 use Rattle.std.proofs.lemmas.Slice.Eq.{bytes_eq-Decides}
 use Rattle.text.specs.Texts.{line_text}
 use Rattle.certificate.specs.declared.error.TextError.TheVariants.{Line, Number as NumberFault}
-use Rattle.certificate.specs.declared.fields.Word.{Word}
-use Rattle.certificate.specs.declared.fields.Word.TheVariants.{Margin, Win, Regret, Linear}
-use Rattle.certificate.specs.declared.fields.Choices.{Choices}
-use Rattle.certificate.specs.declared.fields.FieldKind.{FieldKind}
-use Rattle.certificate.specs.declared.fields.FieldKind.TheVariants.{Number, List as ListOf, Numbers as NumbersOf, Word as WordOf}
-use Rattle.certificate.specs.declared.fields.Value.{Value}
-use Rattle.certificate.specs.declared.fields.Value.TheVariants as holds
+use Rattle.fields.specs.declared.field.Word.{Word}
+use Rattle.fields.specs.declared.field.Word.TheVariants.{Margin, Win, Regret, Linear}
+use Rattle.fields.specs.declared.field.Choices.{Choices}
+use Rattle.fields.specs.declared.field.FieldKind.{FieldKind}
+use Rattle.fields.specs.declared.field.FieldKind.TheVariants.{Number, List as ListOf, Numbers as NumbersOf, Word as WordOf}
+use Rattle.fields.specs.declared.field.Value.{Value}
+use Rattle.fields.specs.declared.field.Value.TheVariants as holds
 use Rattle.certificate.specs.Unread.{Unread}
-use Rattle.certificate.specs.Numbers.{natural_in, integer_in, Between, IsByteList, IsNumberList}
+use Rattle.certificate.specs.Numbers.{natural_in, integer_in}
+use Rattle.fields.specs.Numbers.{Between, IsByteList, IsNumberList}
 use Rattle.certificate.specs.Readers.{list_in}
-use Rattle.certificate.specs.Fields.{spelling, choices_of, word_in, has_word, Fits, AllFit, value_text, value_in}
+use Rattle.fields.specs.Fields.{spelling, choices_of, word_in, Fits, AllFit}
+use Rattle.certificate.specs.Spellings.{has_word, value_text, value_in}
 use Rattle.certificate.specs.Positions.{have_words, value, values, line_values}
 use Rattle.certificate.proofs.Spelling.{IsField, is_word, clean_word, find_passes, option_map_some, integer_takes, integer_spells, list_spells, numbers_take, numbers_spells}
 use Rattle.certificate.proofs.FieldLaws.{FieldLaw, line_more, bind_ok, test_ok, ok_is, spelled_takes, spelled_again}
@@ -48,11 +50,6 @@ are_near low high small z fits =
 
 word_is : (choices : Choices) (text : List ℕ) (w : Word) → word_in choices text ≡ Some w → text ≡ spelling w
 word_is choices text w e = (bytes_eq-Decides text (spelling w)).0 (find_passes _ (choices_of choices) w e)
-
--- a word that was read is one of the words
-pub word_fits : (choices : Choices) (text : List ℕ) (o : Option Word) → o ≡ word_in choices text → IfSome o (λ w. word_in choices (spelling w) ≡ Some w)
-word_fits choices text None e = tt
-word_fits choices text (Some w) e = subst (λ t. word_in choices t ≡ Some w) (word_is choices text w (sym e)) (sym e)
 
 -- a list that was read fits
 pub list_fits : (most : ℕ) (text ns : List ℕ) → Some ns ≡ list_in (natural_in 0 255) most text → IsByteList most ns
@@ -114,12 +111,6 @@ are_small (k ∷ ks) = is_small k && are_small ks
 abbrev pub longest_line : List FieldKind → ℕ
 longest_line [] = 1
 longest_line (k ∷ ks) = longest k + 1 + longest_line ks
-
-pub as_many : (ks : List FieldKind) (vs : List Value) → AllFit ks vs → length vs ≡ length ks
-as_many [] [] fits = refl
-as_many [] (v ∷ vs) fits = absurd fits
-as_many (k ∷ ks) [] fits = absurd fits
-as_many (k ∷ ks) (v ∷ vs) fits = ap suc (as_many ks vs fits.1)
 
 values_take : (ks : List FieldKind) (u : Unread) (x : List Value × Unread) → are_small ks ≡ true → values ks u ≡ Ok x → length u.parts ≤ length ks → (u.parts ≡ map value_text x.0) × AllFit ks x.0
 unfolding values value

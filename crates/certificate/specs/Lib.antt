@@ -1,10 +1,9 @@
 pub mod Unread
 pub mod Numbers
 pub mod Readers
-pub mod Fields
+pub mod Spellings
 pub mod Positions
 pub mod Texts
 pub mod Ranges
 pub mod Reading
 pub mod Outcomes
-pub mod Asks

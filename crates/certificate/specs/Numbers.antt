@@ -1,5 +1,5 @@
 -- Numbers as a report spells them: just as they are written.
-use Rattle.std.specs.Prelude.{ℕ, ◌≤◌, ◌^◌, ℤ, ◌≤ℤ◌, All, length, ◌&&◌, ◌||◌, List, bytes_eq, nat_lt, int_lt, unsigned_abs, decimal, if◌then◌else◌, Option, Some, None, option_and_then}
+use Rattle.std.specs.Prelude.{ℕ, ◌^◌, ℤ, ◌&&◌, ◌||◌, List, bytes_eq, nat_lt, int_lt, unsigned_abs, decimal, if◌then◌else◌, Option, Some, None, option_and_then}
 use Rattle.std.specs.Fmt.{signed_decimal}
 use Rattle.std.specs.Str.Parse.{digits_value, signed_digits_value}
 
@@ -18,20 +18,3 @@ signed_in s = let z = signed_digits_value 10 s in if bytes_eq s (signed_decimal 
 -- the same, from low to high
 unfoldable pub integer_in : ℤ → ℤ → List ℕ → Option ℤ
 integer_in low high s = option_and_then (λ z. if int_lt z low || int_lt high z then None else Some z) (signed_in s)
-
--- ---- ranges
-abbrev pub Within : ℕ → ℕ → ℕ → Type 0
-Within low high n = (low ≤ n) × (n ≤ high)
-
-abbrev pub Between : ℤ → ℤ → ℤ → Type 0
-Between low high z = low ≤ℤ z × z ≤ℤ high
-
--- at most so many numbers from 0 to 255
-pub record IsByteList (most : ℕ) (ns : List ℕ) : Type 0 where
-  pub few : length ns ≤ most
-  pub small : All (λ n. n ≤ 255) ns
-
--- at most so many whole numbers from low to high
-pub record IsNumberList (low high : ℤ) (most : ℕ) (zs : List ℤ) : Type 0 where
-  pub few : length zs ≤ most
-  pub within : All (Between low high) zs

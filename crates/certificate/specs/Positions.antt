@@ -1,33 +1,16 @@
--- The games, one by one: their words, their fields, and positions as values of these fields. Then the line of a
--- position, which is read and written by the fields of its game, whatever the game.
-use Rattle.std.specs.Prelude.{ℕ, ℤ, pos, unsigned_abs, ◌==◌, Bool, true, ◌&&◌, if◌then◌else◌, List, [], ◌∷◌, map, drop, get_or, codes, bytes_eq, find, Option, None, Some, option_and_then, Ok, Err}
-use Rattle.goofspiel.specs.declared.Pay.{Pay}
-use Rattle.goofspiel.specs.declared.Pay.TheVariants.{Margin, Win}
+-- The line of a position, which is read and written by the fields of its game, whatever the game.
+use Rattle.std.specs.Prelude.{ℕ, ◌==◌, Bool, true, ◌&&◌, if◌then◌else◌, List, [], ◌∷◌, map, drop, Option, None, Some, option_and_then, Ok, Err}
 use Rattle.certificate.specs.declared.error.TextError.TheVariants as errors
-use Rattle.certificate.specs.declared.fields.FieldKind.{FieldKind}
-use Rattle.certificate.specs.declared.fields.Value.{Value}
-use Rattle.certificate.specs.declared.fields.Value.TheVariants as values_are
-use Rattle.certificate.specs.declared.fields.Word.{Word}
-use Rattle.certificate.specs.declared.fields.Word.TheVariants as words
-use Rattle.certificate.specs.declared.positions.TheConstants.{GAMES, GOOFSPIEL, OSHI_ZUMO, TRON, PURSUIT, TABLE}
-use Rattle.certificate.specs.declared.positions.PositionText.{PositionText}
-use Rattle.certificate.specs.declared.positions.PositionText.TheVariants as texts
-use Rattle.certificate.specs.declared.positions.Shown.{Shown}
-use Rattle.certificate.specs.declared.positions.Shown.TheVariants as shown
-use Rattle.certificate.specs.declared.positions.GameKind.{GameKind}
-use Rattle.certificate.specs.declared.positions.GameKind.TheVariants.{Goofspiel, OshiZumo, Tron, GoofspielDrawn, Pursuit, Table}
-use Rattle.certificate.specs.Fields.{FieldRow, AllFit, value_text, value_in, has_word}
+use Rattle.fields.specs.declared.field.FieldKind.{FieldKind}
+use Rattle.fields.specs.declared.field.Value.{Value}
+use Rattle.fields.specs.declared.positions.PositionText.{PositionText}
+use Rattle.fields.specs.declared.positions.GameKind.{GameKind}
+use Rattle.fields.specs.declared.positions.GameKind.TheVariants.{Goofspiel, OshiZumo, Tron, GoofspielDrawn, Pursuit, Table}
+use Rattle.fields.specs.Positions.{game_word, kinds_of, kind_of, values_of, position_with, game_of}
+use Rattle.certificate.specs.Spellings.{value_text, value_in, has_word}
 use Rattle.certificate.specs.Readers.{◌>>=◌, Reads, spelled}
 
--- ---- the games
-abbrev pub game_word : GameKind → List ℕ
-game_word Goofspiel = codes "goofspiel"
-game_word OshiZumo = codes "oshi_zumo"
-game_word Tron = codes "tron"
-game_word GoofspielDrawn = codes "goofspiel_drawn"
-game_word Pursuit = codes "pursuit"
-game_word Table = codes "table"
-
+-- ---- versions
 -- the version of the reports of the game
 abbrev pub game_version : GameKind → ℕ
 game_version Goofspiel = 1
@@ -41,116 +24,17 @@ game_version Table = 2
 abbrev pub newest_version : ℕ
 newest_version = 2
 
--- the fields of the game, in the order of a line and of refusals
-abbrev pub fields_of : GameKind → List FieldRow
-fields_of Goofspiel = GOOFSPIEL
-fields_of OshiZumo = OSHI_ZUMO
-fields_of Tron = TRON
-fields_of GoofspielDrawn = GOOFSPIEL
-fields_of Pursuit = PURSUIT
-fields_of Table = TABLE
-
-abbrev pub kinds_of : GameKind → List FieldKind
-kinds_of game = map (λ (row : FieldRow). row.1) (fields_of game)
-
-abbrev pub kind_of : PositionText → GameKind
-kind_of (texts.Goofspiel one two prizes score pay) = Goofspiel
-kind_of (texts.OshiZumo size one two least place) = OshiZumo
-kind_of (texts.Tron height width walls one two) = Tron
-kind_of (texts.GoofspielDrawn one two prizes score pay) = GoofspielDrawn
-kind_of (texts.Pursuit nodes edges one two rounds) = Pursuit
-kind_of (texts.Table ranks moves values cells draws) = Table
-
 abbrev pub version_of : PositionText → ℕ
 version_of text = game_version (kind_of text)
 
--- ---- positions as values of their fields
-abbrev pub pay_named : Word → Pay
-pay_named words.Win = Win
-pay_named word = Margin
-
-abbrev pub pay_word : Pay → Word
-pay_word Margin = words.Margin
-pay_word Win = words.Win
-
-abbrev whole : ℕ → Value
-whole n = values_are.Number (pos n)
-
-abbrev pub values_of : PositionText → List Value
-values_of (texts.Goofspiel one two prizes score pay) = values_are.List one ∷ values_are.List two ∷ values_are.List prizes ∷ values_are.Number score ∷ values_are.Word (pay_word pay) ∷ []
-values_of (texts.OshiZumo size one two least place) = whole size ∷ whole one ∷ whole two ∷ whole least ∷ values_are.Number place ∷ []
-values_of (texts.Tron height width walls one two) = whole height ∷ whole width ∷ values_are.List walls ∷ whole one ∷ whole two ∷ []
-values_of (texts.GoofspielDrawn one two prizes score pay) = values_are.List one ∷ values_are.List two ∷ values_are.List prizes ∷ values_are.Number score ∷ values_are.Word (pay_word pay) ∷ []
-values_of (texts.Pursuit nodes edges one two rounds) = whole nodes ∷ values_are.List edges ∷ whole one ∷ whole two ∷ whole rounds ∷ []
-values_of (texts.Table ranks moves values cells draws) = values_are.Numbers ranks ∷ values_are.Numbers moves ∷ values_are.Numbers values ∷ values_are.Numbers cells ∷ values_are.Numbers draws ∷ []
-
-abbrev pub number_in_value : Value → ℤ
-number_in_value (values_are.Number z) = z
-number_in_value v = pos 0
-
-abbrev pub list_in_value : Value → List ℕ
-list_in_value (values_are.List ns) = ns
-list_in_value v = []
-
-abbrev pub numbers_in_value : Value → List ℤ
-numbers_in_value (values_are.Numbers zs) = zs
-numbers_in_value v = []
-
-abbrev pub HoldsNumbers : Value → Type 0
-HoldsNumbers (values_are.Numbers zs) = Unit {0}
-HoldsNumbers v = ⊥
-
-abbrev pub word_in_value : Value → Word
-word_in_value (values_are.Word w) = w
-word_in_value v = words.Margin
-
--- the value at a place, from 0
-abbrev pub number_at : ℕ → List Value → ℤ
-number_at i vs = number_in_value (get_or vs i (whole 0))
-
-abbrev pub count_at : ℕ → List Value → ℕ
-count_at i vs = unsigned_abs (number_at i vs)
-
-abbrev pub list_at : ℕ → List Value → List ℕ
-list_at i vs = list_in_value (get_or vs i (whole 0))
-
-abbrev pub numbers_at : ℕ → List Value → List ℤ
-numbers_at i vs = numbers_in_value (get_or vs i (whole 0))
-
-abbrev pub word_value_at : ℕ → List Value → Word
-word_value_at i vs = word_in_value (get_or vs i (whole 0))
-
--- the position of the game with these values
-abbrev pub position_with : GameKind → List Value → PositionText
-position_with Goofspiel vs = texts.Goofspiel (list_at 0 vs) (list_at 1 vs) (list_at 2 vs) (number_at 3 vs) (pay_named (word_value_at 4 vs))
-position_with OshiZumo vs = texts.OshiZumo (count_at 0 vs) (count_at 1 vs) (count_at 2 vs) (count_at 3 vs) (number_at 4 vs)
-position_with Tron vs = texts.Tron (count_at 0 vs) (count_at 1 vs) (list_at 2 vs) (count_at 3 vs) (count_at 4 vs)
-position_with GoofspielDrawn vs = texts.GoofspielDrawn (list_at 0 vs) (list_at 1 vs) (list_at 2 vs) (number_at 3 vs) (pay_named (word_value_at 4 vs))
-position_with Pursuit vs = texts.Pursuit (count_at 0 vs) (list_at 1 vs) (count_at 2 vs) (count_at 3 vs) (count_at 4 vs)
-position_with Table vs = texts.Table (numbers_at 0 vs) (numbers_at 1 vs) (numbers_at 2 vs) (numbers_at 3 vs) (numbers_at 4 vs)
-
--- the positions that have a line: each value fits its field
-abbrev pub IsPositionInRange : PositionText → Type 0
-IsPositionInRange text = AllFit (kinds_of (kind_of text)) (values_of text)
-
 -- ---- the line
-abbrev pub shown_value : Shown → Value
-shown_value (shown.Number z) = values_are.Number z
-shown_value (shown.List ns) = values_are.List ns.now
-shown_value (shown.Numbers zs) = values_are.Numbers zs.now
-shown_value (shown.Word w) = values_are.Word w
-
 abbrev pub position_numbers : PositionText → List (List ℕ)
 position_numbers text = map value_text (values_of text)
 
 abbrev pub position_fields : PositionText → List (List ℕ)
 position_fields text = game_word (kind_of text) ∷ position_numbers text
 
--- the game whose word it is
-unfoldable pub game_of : List ℕ → Option GameKind
-game_of word = find (λ k. bytes_eq word (game_word k)) GAMES
-
--- the same, for a report of a version
+-- the game whose word it is, in a report of a version
 unfoldable pub game_in : ℕ → List ℕ → Option GameKind
 game_in version word = option_and_then (λ k. if game_version k == version then Some k else None) (game_of word)
 

@@ -5,10 +5,8 @@ use Rattle.sim_game.specs.declared.Side.{Side}
 use Rattle.sim_game.specs.declared.Side.TheVariants.{One, Two}
 use Rattle.plan_book.specs.declared.Sheet.{Sheet}
 use Rattle.plan_book.specs.declared.SheetRow.{SheetRow}
-use Rattle.certificate.specs.declared.report.Ask.{Ask}
 use Rattle.certificate.specs.declared.report.Report.{Report}
-pub use Rattle.certificate.specs.Numbers.{Within, Between, IsByteList}
-pub use Rattle.certificate.specs.Positions.{IsPositionInRange}
+use Rattle.fields.specs.Ranges.{Within, Between, IsPositionInRange}
 
 pub record IsRowInRange (row : SheetRow) : Type 0 where
   pub key : row.key ≤ 9223372036854775807
@@ -36,11 +34,3 @@ pub record IsInRange (r : Report) : Type 0 where
   pub spent : All (λ n. n ≤ 1099511627776) r.spent
   pub one : IsSheetInRange One r.weight r.one
   pub two : IsSheetInRange Two r.weight r.two
-
-pub record IsAskInRange (ask : Ask) : Type 0 where
-  pub gap : Between (pos 0) (pos 8000000000) ask.gap
-  pub weight : Within 8192 1048576 ask.weight
-  pub turns : ask.turns ≤ 1099511627776
-  pub visits : ask.visits ≤ 1099511627776
-  pub rows : Within 1 1048576 ask.rows
-  pub workers : Within 1 16 ask.workers

@@ -4,7 +4,7 @@ use Rattle.sim_game.specs.declared.Side.TheVariants as sides
 use Rattle.plan_book.specs.declared.SheetRow.{SheetRow}
 use Rattle.certificate.specs.declared.error.TextError.{TextError}
 use Rattle.certificate.specs.declared.error.TextError.TheVariants as errors
-use Rattle.certificate.specs.declared.positions.PositionText.{PositionText}
+use Rattle.fields.specs.declared.positions.PositionText.{PositionText}
 use Rattle.certificate.specs.declared.report.Outcome.{Outcome}
 use Rattle.certificate.specs.declared.report.Outcome.TheVariants.{Closed, Settled, Spent, Full}
 use Rattle.certificate.specs.declared.report.Report.{Report}

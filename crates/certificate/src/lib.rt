@@ -2,7 +2,6 @@
 #![tactic(auto)]
 
 mod error;
-mod fields;
 mod lines;
 mod lists;
 mod numbers;
@@ -11,13 +10,16 @@ mod positions;
 mod reading;
 mod report;
 mod rows;
+mod values;
 mod writing;
 
 pub use error::TextError;
-pub use fields::{Absent, AskRow, Choices, Field, FieldKind, FieldRow, Value, Word};
-pub use goofspiel::Pay;
+pub use fields::{
+    ASK, ASKED, Absent, Ask, AskRow, Choices, FIELDS, Field, FieldKind, FieldRow, GameKind, LEAST,
+    Pay, PositionText, StageMethod, Value, Word,
+};
 pub use numbers::natural;
-pub use positions::{FIELDS, GameKind, PositionText};
+pub use positions::version;
 pub use reading::{read, reading_undoes_writing, texts_are_short};
-pub use report::{ASK, ASKED, Ask, LEAST, Outcome, Report, StageMethod};
+pub use report::{Outcome, Report};
 pub use writing::write;

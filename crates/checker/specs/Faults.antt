@@ -9,7 +9,8 @@ use Rattle.plan_book.specs.declared.SheetRow.{SheetRow}
 use Rattle.plan_book.specs.Plans.{AreWeights}
 use Rattle.plan_book.specs.Sheets.{row_at, bound_at, IsReached, IsLawfulRow, IsLawful}
 use Rattle.plan_book.specs.Steps.{worth, cell}
-use Rattle.certificate.specs.Ranges.{Within, IsRowInRange}
+use Rattle.fields.specs.Ranges.{Within}
+use Rattle.certificate.specs.Ranges.{IsRowInRange}
 use Rattle.checker.specs.declared.verdict.Why.{Why}
 use Rattle.checker.specs.declared.verdict.Why.TheVariants.{Weights, Bound, Idle, Outside}
 

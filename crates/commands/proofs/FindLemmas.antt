@@ -1,8 +1,8 @@
 -- What is found for a game of a position, and its report.
 use Rattle.std.proofs.Common.{subst}
-use Rattle.certificate.specs.declared.positions.PositionText.{PositionText}
-use Rattle.certificate.specs.declared.report.Ask.{Ask}
-use Rattle.certificate.specs.Ranges.{IsAskInRange, IsPositionInRange}
+use Rattle.fields.specs.declared.positions.PositionText.{PositionText}
+use Rattle.fields.specs.declared.ask.Ask.{Ask}
+use Rattle.fields.specs.Ranges.{IsAskInRange, IsPositionInRange}
 use Rattle.position.specs.declared.games.AnyGame.{AnyGame}
 use Rattle.position.specs.Games.{IsGameOf, model_of, OfSame, OfGame}
 use Rattle.position.proofs.GameLemmas.{is_game}

@@ -8,8 +8,8 @@ use Rattle.checker.specs.declared.verdict.Verdict.TheVariants.{Accepted, Refused
 use Rattle.checker.specs.Verdicts.{IsVerdict}
 use Rattle.checker.proofs.VerdictLemmas.{verdict_once}
 use Rattle.solution.specs.Solutions.{IsSolution}
-use Rattle.certificate.specs.declared.report.Ask.{Ask}
-use Rattle.certificate.specs.declared.positions.PositionText.{PositionText}
+use Rattle.fields.specs.declared.ask.Ask.{Ask}
+use Rattle.fields.specs.declared.positions.PositionText.{PositionText}
 use Rattle.certificate.specs.declared.report.Report.{Report}
 use Rattle.certificate.specs.Ranges.{IsInRange}
 use Rattle.certificate.specs.Texts.{report_text}

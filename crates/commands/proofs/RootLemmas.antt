@@ -8,7 +8,7 @@ use Rattle.serial_ab.specs.Counts.{VisitsView, spent_on}
 use Rattle.serial_ab.specs.declared.roots.RootEnd.{RootEnd}
 use Rattle.serial_ab.specs.declared.roots.RootEnd.TheVariants.{Found, Cut, Full}
 use Rattle.serial_ab.specs.Roots.{IsRootEnd}
-use Rattle.certificate.specs.declared.report.Ask.{Ask}
+use Rattle.fields.specs.declared.ask.Ask.{Ask}
 use Rattle.commands.specs.Bounded.{unspent, IsSearchedRoot}
 
 found_whole : {S : Type 0} (m : GameModel S) (ask : Ask) (spent : VisitsView) (end : RootEnd) → IsRootEnd m ask.rows (unspent ask) spent end → HasAtMost m ask.rows → tree_size m m.root ≤ ask.visits

@@ -5,7 +5,7 @@ use Rattle.sim_game.specs.declared.NoMemory.{NoMemory}
 use Rattle.position.specs.declared.games.InputError.{InputError}
 use Rattle.position.specs.declared.games.InputError.TheVariants as errors
 use Rattle.position.specs.Position.{Fails, position_of, object_at}
-use Rattle.position.specs.Taken.{SourceState, SinkState}
+use Rattle.devices.specs.Taken.{SourceState, SinkState}
 use Rattle.commands.specs.declared.run.Answer.{Answer}
 use Rattle.commands.specs.declared.words.Command.{Command}
 use Rattle.commands.specs.Runs.{IsAnswer, IsTaken, IsTakenInPart, IsRun, IsWritten}

@@ -7,7 +7,7 @@ use Rattle.sim_game.specs.Model.{GameModel, HasAtMost}
 use Rattle.plan_book.specs.Serial.{tree_size}
 use Rattle.goofspiel.specs.declared.GoofspielError.{GoofspielError}
 use Rattle.goofspiel.specs.Position.{first_fault}
-use Rattle.certificate.specs.Ranges.{IsByteList, IsAskInRange, IsPositionInRange}
+use Rattle.fields.specs.Ranges.{IsByteList, IsAskInRange, IsPositionInRange}
 use Rattle.certificate.specs.declared.report.Outcome.{Outcome}
 use Rattle.certificate.specs.declared.report.Outcome.TheVariants.{Closed, Settled, Spent, Full}
 use Rattle.certificate.specs.declared.report.Report.{Report}

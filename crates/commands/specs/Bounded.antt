@@ -9,7 +9,7 @@ use Rattle.serial_ab.specs.Counts.{VisitsView, spent_on}
 use Rattle.serial_ab.specs.declared.roots.RootEnd.{RootEnd}
 use Rattle.serial_ab.specs.declared.roots.RootEnd.TheVariants.{Found, Cut, Full}
 use Rattle.serial_ab.specs.Roots.{IsRootEnd}
-use Rattle.certificate.specs.declared.report.Ask.{Ask}
+use Rattle.fields.specs.declared.ask.Ask.{Ask}
 use Rattle.position.specs.declared.games.InputError.{InputError}
 use Rattle.position.specs.Position.{TaskText, position_of}
 use Rattle.position.specs.Games.{OfGame}

@@ -1,8 +1,8 @@
 -- The search that the commands are given.
 use Rattle.std.specs.Prelude.{Result, IfOk}
 use Rattle.sim_game.specs.declared.NoMemory.{NoMemory}
-use Rattle.certificate.specs.declared.report.Ask.{Ask}
-use Rattle.certificate.specs.Ranges.{IsAskInRange}
+use Rattle.fields.specs.declared.ask.Ask.{Ask}
+use Rattle.fields.specs.Ranges.{IsAskInRange}
 use Rattle.position.specs.declared.games.AnyGame.{AnyGame}
 use Rattle.position.specs.Games.{OfSame}
 use Rattle.lazy_workers.specs.declared.summary.Found.{Found}

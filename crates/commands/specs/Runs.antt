@@ -8,8 +8,8 @@ use Rattle.certificate.specs.Texts.{report_text}
 use Rattle.certificate.specs.Reading.{read_report}
 use Rattle.position.specs.declared.games.InputError.{InputError}
 use Rattle.position.specs.Position.{TaskText, position_of}
-use Rattle.position.specs.Causes.{Rose}
-use Rattle.position.specs.Taken.{SourceState, SinkState, ConsumesAtMost, AppendsFront}
+use Rattle.devices.specs.Causes.{Rose}
+use Rattle.devices.specs.Taken.{SourceState, SinkState, ConsumesAtMost, AppendsFront}
 use Rattle.solution.specs.Solutions.{IsSolution}
 use Rattle.sim_game.specs.declared.NoMemory.{NoMemory}
 use Rattle.commands.specs.declared.run.Answer.{Answer}

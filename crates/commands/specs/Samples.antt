@@ -5,12 +5,12 @@ use Rattle.sim_game.specs.declared.Side.TheVariants.{One, Two}
 use Rattle.sim_game.specs.Model.{GameModel}
 use Rattle.plan_book.specs.Serial.{serial_bound}
 use Rattle.goofspiel.specs.declared.Pay.TheVariants.{Margin}
-use Rattle.certificate.specs.declared.report.Ask.{Ask}
+use Rattle.fields.specs.declared.ask.Ask.{Ask}
 use Rattle.certificate.specs.declared.report.Outcome.TheVariants.{Closed, Settled}
-use Rattle.certificate.specs.declared.positions.PositionText.{PositionText}
-use Rattle.certificate.specs.declared.positions.PositionText.TheVariants.{Goofspiel}
+use Rattle.fields.specs.declared.positions.PositionText.{PositionText}
+use Rattle.fields.specs.declared.positions.PositionText.TheVariants.{Goofspiel}
 use Rattle.certificate.specs.declared.report.Report.{Report}
-use Rattle.certificate.specs.Asks.{ask_of}
+use Rattle.fields.specs.Asks.{ask_of}
 use Rattle.certificate.specs.Outcomes.{gap_of}
 use Rattle.text.specs.Texts.{line_text}
 use Rattle.certificate.specs.Texts.{outcome_word}

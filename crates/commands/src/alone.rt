@@ -1,7 +1,8 @@
 //! Answers to bytes in memory, made by the caller alone: no thread is started, and no device is used.
 
 ghost use Rattle.std.specs.Prelude.{◌+◌, take, IfErr, IfOk};
-ghost use Rattle.certificate.specs.Ranges.{IsAskInRange, IsInRange};
+ghost use Rattle.fields.specs.Ranges.{IsAskInRange};
+ghost use Rattle.certificate.specs.Ranges.{IsInRange};
 ghost use Rattle.lazy_workers.specs.Findings.{IsFoundFor};
 ghost use Rattle.position.specs.Games.{OfSame};
 ghost use Rattle.position.specs.Objects.{Fails};

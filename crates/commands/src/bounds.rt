@@ -1,7 +1,7 @@
 //! The serial bounds of a position.
 
 ghost use Rattle.std.specs.Prelude.{◌≡◌, OnOk, IfOk};
-ghost use Rattle.certificate.specs.Ranges.{IsAskInRange};
+ghost use Rattle.fields.specs.Ranges.{IsAskInRange};
 ghost use Rattle.text.specs.Texts.{Adds};
 ghost use Rattle.commands.specs.Bounded.{bounds_status, bounds_text, IsSearchedRoot, IsBounded};
 

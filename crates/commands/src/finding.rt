@@ -2,7 +2,7 @@
 //! trait that sends a value to a thread whose type is a parameter.
 
 ghost use Rattle.std.specs.Prelude.{IfOk};
-ghost use Rattle.certificate.specs.Ranges.{IsAskInRange};
+ghost use Rattle.fields.specs.Ranges.{IsAskInRange};
 ghost use Rattle.lazy_workers.specs.Findings.{IsFoundFor};
 ghost use Rattle.position.specs.Games.{OfSame};
 

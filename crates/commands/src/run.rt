@@ -1,7 +1,7 @@
 //! A run of the program.
 
 ghost use Rattle.std.specs.Prelude.{◌≡◌, ◌≢◌, ◌≤◌, ◌+◌, ℕ, List, length, map, string_bytes, IfOk};
-ghost use Rattle.certificate.specs.Ranges.{IsAskInRange};
+ghost use Rattle.fields.specs.Ranges.{IsAskInRange};
 ghost use Rattle.lazy_workers.specs.Findings.{IsFoundFor};
 ghost use Rattle.position.specs.Games.{OfSame};
 ghost use Rattle.commands.specs.Finding.{IsFinder};

@@ -1,7 +1,8 @@
 //! The answer to the bytes of a position that is to be solved.
 
 ghost use Rattle.std.specs.Prelude.{◌≡◌, Ok, IfErr, IfOk};
-ghost use Rattle.certificate.specs.Ranges.{IsAskInRange, IsInRange, IsPositionInRange};
+ghost use Rattle.fields.specs.Ranges.{IsAskInRange, IsPositionInRange};
+ghost use Rattle.certificate.specs.Ranges.{IsInRange};
 ghost use Rattle.certificate.specs.Reading.{read_report};
 ghost use Rattle.certificate.specs.Texts.{report_text};
 ghost use Rattle.position.specs.Games.{OfGame};

@@ -24,8 +24,8 @@ use Rattle.plan_book.proofs.BookLemmas.{best_range}
 use Rattle.plan_book.proofs.ExpectedLemmas.{is_same, is_other}
 use Rattle.plan_book.proofs.SheetLemmas.{sheet_guarantees}
 use Rattle.serial_ab.specs.Searches.{IsPureEntry}
-use Rattle.certificate.specs.declared.report.Ask.{Ask}
-use Rattle.certificate.specs.Ranges.{IsAskInRange}
+use Rattle.fields.specs.declared.ask.Ask.{Ask}
+use Rattle.fields.specs.Ranges.{IsAskInRange}
 use Rattle.shared_board.specs.Closing.{HasKey, IsKeptRow, kept_bound}
 use Rattle.shared_board.specs.declared.close.Kept.{Kept}
 use Rattle.lazy_workers.specs.declared.summary.Found.{Found}

@@ -19,7 +19,7 @@ use Rattle.shared_board.specs.declared.view.View.{View}
 use Rattle.shared_board.specs.declared.pass.BarePass.{BarePass}
 use Rattle.oracle_search.specs.declared.ends.SearchEnd.{SearchEnd}
 use Rattle.oracle_search.specs.declared.ends.SearchEnd.TheVariants.{Full}
-use Rattle.certificate.specs.declared.report.Ask.{Ask}
+use Rattle.fields.specs.declared.ask.Ask.{Ask}
 use Rattle.lazy_workers.specs.declared.jobs.Done.{Done}
 use Rattle.matrix_game.specs.Budget.{Budget}
 use Rattle.serial_ab.specs.Searches.{IsPureEntry}

@@ -22,7 +22,7 @@ use Rattle.shared_board.specs.Closing.{AreKeptRows, IsKeptRow, IsDistinct, HasKe
 use Rattle.shared_board.specs.declared.view.View.{View}
 use Rattle.shared_board.specs.declared.close.Kept.{Kept}
 use Rattle.oracle_search.specs.Finished.{AreApart, rank_gap}
-use Rattle.certificate.specs.declared.report.Ask.{Ask}
+use Rattle.fields.specs.declared.ask.Ask.{Ask}
 use Rattle.lazy_workers.specs.Keeping.{IsKeptState, IsFinishedRow, AreOwed, AreRows}
 use Rattle.lazy_workers.specs.Searched.{HasKeysIn, IsOwed, IsRooted, IsSearched}
 use Rattle.lazy_workers.specs.Workers.{rows_of, KnowsEach, IsFinishedKey, AreOwedTo, IsDueTo, HasView}

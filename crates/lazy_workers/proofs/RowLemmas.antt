@@ -8,7 +8,7 @@ use Rattle.sim_game.proofs.StateLemmas.{more_states}
 use Rattle.shared_board.specs.Rule.{Has}
 use Rattle.shared_board.specs.Closing.{IsDistinct}
 use Rattle.shared_board.specs.declared.close.Kept.{Kept}
-use Rattle.certificate.specs.declared.report.Ask.{Ask}
+use Rattle.fields.specs.declared.ask.Ask.{Ask}
 use Rattle.lazy_workers.specs.Keeping.{HasLimit, IsKeptState, IsFinishedRow, AreOwed}
 use Rattle.lazy_workers.specs.Searched.{IsFar, HasRoom, TooFewTurns, AnswersToo}
 

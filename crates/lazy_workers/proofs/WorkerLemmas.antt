@@ -29,10 +29,10 @@ use Rattle.oracle_search.specs.Sweeps.{TakesSweeps}
 use Rattle.oracle_search.specs.declared.worker.MemoryLimits.{MemoryLimits}
 use Rattle.oracle_search.specs.Searches.{IsWorked, IsBoardFull, Ends, TakesTurns, HasTaken, IsPureTight, HasVisitsBelow as Whole}
 use Rattle.oracle_search.specs.Workers.{WorkView, is_linear}
-use Rattle.certificate.specs.declared.report.Ask.{Ask}
-use Rattle.certificate.specs.declared.report.StageMethod.{StageMethod}
-use Rattle.certificate.specs.declared.report.StageMethod.TheVariants.{Regret}
-use Rattle.certificate.specs.declared.report.StageMethod.TheVariants as methods
+use Rattle.fields.specs.declared.ask.Ask.{Ask}
+use Rattle.fields.specs.declared.ask.StageMethod.{StageMethod}
+use Rattle.fields.specs.declared.ask.StageMethod.TheVariants.{Regret}
+use Rattle.fields.specs.declared.ask.StageMethod.TheVariants as methods
 use Rattle.lazy_workers.specs.Solvers.{solver_kind}
 use Rattle.lazy_workers.specs.Workers.{Rows, KnowsEach, IsFinishedKey, AreOwedTo, IsDueTo, HaveFound}
 use Rattle.lazy_workers.specs.Keeping.{HasLimit}

@@ -9,7 +9,7 @@ use Rattle.plan_book.specs.declared.Sheet.{Sheet}
 use Rattle.plan_book.specs.Expected.{Guarantees}
 use Rattle.plan_book.specs.Sheets.{IsLawful, plan_of, root_bound}
 use Rattle.plan_book.specs.Serial.{serial_bound}
-use Rattle.certificate.specs.declared.report.Ask.{Ask}
+use Rattle.fields.specs.declared.ask.Ask.{Ask}
 use Rattle.shared_board.specs.Closing.{HasKey, kept_bound}
 use Rattle.shared_board.specs.declared.close.Kept.{Kept}
 use Rattle.lazy_workers.specs.declared.summary.Found.{Found}

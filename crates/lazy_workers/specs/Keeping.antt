@@ -8,8 +8,8 @@ use Rattle.shared_board.specs.Closing.{IsDistinct, HasKey, kept_bound}
 use Rattle.plan_book.specs.declared.SheetRow.{SheetRow}
 use Rattle.plan_book.specs.Plans.{one_move}
 use Rattle.sim_game.specs.declared.Side.{Side}
-use Rattle.certificate.specs.declared.report.Ask.{Ask}
-use Rattle.certificate.specs.declared.report.StageMethod.TheVariants.{Regret}
+use Rattle.fields.specs.declared.ask.Ask.{Ask}
+use Rattle.fields.specs.declared.ask.StageMethod.TheVariants.{Regret}
 
 -- the turns are those asked, and no more of them were spent
 pub record HasLimit (ask : Ask) (t : Budget) : Type 0 where

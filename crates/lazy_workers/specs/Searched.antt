@@ -12,7 +12,7 @@ use Rattle.serial_ab.specs.Searches.{IsPureEntry}
 use Rattle.matrix_game.specs.Budget.{Budget}
 use Rattle.shared_board.specs.Closing.{HasKey, IsKeptRow}
 use Rattle.shared_board.specs.declared.close.Kept.{Kept}
-use Rattle.certificate.specs.declared.report.Ask.{Ask}
+use Rattle.fields.specs.declared.ask.Ask.{Ask}
 use Rattle.lazy_workers.specs.Keeping.{HasLimit, AreOwed, AreRows}
 
 -- each entry's key is that of one of so many rows

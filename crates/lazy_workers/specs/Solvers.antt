@@ -1,7 +1,7 @@
 -- How a worker solves matrix games.
 use Rattle.std.specs.Prelude.{ℕ}
-use Rattle.certificate.specs.declared.report.StageMethod.{StageMethod}
-use Rattle.certificate.specs.declared.report.StageMethod.TheVariants as methods
+use Rattle.fields.specs.declared.ask.StageMethod.{StageMethod}
+use Rattle.fields.specs.declared.ask.StageMethod.TheVariants as methods
 use Rattle.matrix_game.specs.declared.solver.SolverKind.{SolverKind}
 use Rattle.matrix_game.specs.declared.solver.SolverKind.TheVariants as kinds
 

@@ -8,9 +8,9 @@ use Rattle.sim_game.specs.Resolution.{IsStageGap}
 use Rattle.matrix_game.specs.Budget.{Budget}
 use Rattle.bounds_board.specs.Views.{IsInnerKey}
 use Rattle.serial_ab.specs.Searches.{IsPureEntry}
-use Rattle.certificate.specs.declared.report.Ask.{Ask}
-use Rattle.certificate.specs.declared.report.StageMethod.TheVariants.{Regret}
-use Rattle.certificate.specs.Ranges.{IsAskInRange}
+use Rattle.fields.specs.declared.ask.Ask.{Ask}
+use Rattle.fields.specs.declared.ask.StageMethod.TheVariants.{Regret}
+use Rattle.fields.specs.Ranges.{IsAskInRange}
 use Rattle.shared_board.specs.Rule.{Has}
 use Rattle.shared_board.specs.Passes.{seen_by}
 use Rattle.shared_board.specs.Values.{BoardValue, IsPassOf}

@@ -7,7 +7,7 @@ ghost use Rattle.shared_board.specs.Passes.{seen_by};
 ghost use Rattle.lazy_workers.specs.Solvers.{solver_kind};
 ghost use Rattle.lazy_workers.specs.Workers.{IsBoardFor, IsLead, IsJob, IsJobDone, IsNoLooser, HasView};
 
-use certificate::{Ask, StageMethod};
+use fields::{Ask, StageMethod};
 use matrix_game::{SolverKind, Turns};
 use oracle_search::{Gate, MemoryLimits, SearchEnd, Setup, Worker, search};
 use serial_ab::Visits;

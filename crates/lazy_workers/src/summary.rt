@@ -1,11 +1,11 @@
 //! What was found, without the book: the plans of the best entries, and their bounds.
 
 ghost use Rattle.std.specs.Prelude.{◌≡◌, IfOk};
-ghost use Rattle.certificate.specs.Ranges.{IsAskInRange};
+ghost use Rattle.fields.specs.Ranges.{IsAskInRange};
 ghost use Rattle.lazy_workers.specs.Findings.{IsFoundFor};
 ghost use Rattle.lazy_workers.specs.Searched.{IsSearched};
 
-use certificate::Ask;
+use fields::Ask;
 use matrix_game::Turns;
 use plan_book::{Book, Sheet, bound_of};
 use seq::Seq;

@@ -1,7 +1,7 @@
 //! The search of a whole game.
 
 ghost use Rattle.std.specs.Prelude.{◌≡◌, ◌+◌, ◌≤◌, [], length, All, IfOk};
-ghost use Rattle.certificate.specs.Ranges.{IsAskInRange};
+ghost use Rattle.fields.specs.Ranges.{IsAskInRange};
 ghost use Rattle.plan_book.specs.Books.{book_bound};
 ghost use Rattle.shared_board.specs.Values.{IsPassOf};
 ghost use Rattle.lazy_workers.specs.Findings.{IsFoundFor};
@@ -10,7 +10,7 @@ ghost use Rattle.lazy_workers.specs.Workers.{IsBoardFor, IsLead, IsJob, IsJobDon
 
 use crate::jobs::{Done, Job, join_all, split_all, work};
 use crate::summary::{Found, Gathered, found_in};
-use certificate::Ask;
+use fields::Ask;
 use matrix_game::Turns;
 use oracle_search::Gate;
 use plan_book::Book;

@@ -18,8 +18,8 @@ use Rattle.pursuit.proofs.PositionLemmas as pursuit_position
 use Rattle.table.specs.Laws.{table_is_game}
 use Rattle.table.specs.Rules.{table_game}
 use Rattle.table.specs.Setting.{lists_of}
-use Rattle.certificate.specs.declared.positions.PositionText.{PositionText}
-use Rattle.certificate.specs.declared.positions.PositionText.TheVariants as texts
+use Rattle.fields.specs.declared.positions.PositionText.{PositionText}
+use Rattle.fields.specs.declared.positions.PositionText.TheVariants as texts
 use Rattle.position.specs.declared.games.AnyGame.{AnyGame}
 use Rattle.position.specs.declared.games.AnyGame.TheVariants.{Goofspiel, OshiZumo, Tron, GoofspielDrawn, Pursuit, Table}
 use Rattle.position.specs.Games.{IsGameOf, state_type, model_of, OfSame, OfGame, IsSameGame}

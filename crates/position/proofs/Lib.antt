@@ -1,9 +1,3 @@
-pub mod SourceLemmas
 pub mod ValueLemmas
 pub mod JsonLemmas
 pub mod GameLemmas
-pub mod StateKinds
-pub mod StateCounts
-pub mod StateLists
-pub mod StateRanks
-pub mod StateTexts

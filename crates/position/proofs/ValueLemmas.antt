@@ -1,5 +1,5 @@
 -- A `Value`'s items and members as the lists that the definitions read.
-use Rattle.std.proofs.Common.{◌≡◌, ℕ, ◌≤◌, ℤ, pos, negsuc, All, Some, None, arith, ltb, ltb-true, List, [], ◌∷◌, Bool, cond, ◌&&◌, length, nat_le, map, Option, String, Global, Ok, Err, string_bytes, refl, ap}
+use Rattle.std.proofs.Common.{◌≡◌, ℕ, ◌≤◌, ℤ, pos, negsuc, All, Some, None, arith, ltb, ltb-true, List, [], ◌∷◌, Bool, cond, ◌&&◌, length, nat_le, map, Option, String, Global, Ok, Err, string_bytes, refl}
 use Rattle.std.specs.List.{list_all, filter_map, cons_option}
 use Rattle.std.specs.Map.{keys_of}
 use Rattle.std.proofs.lemmas.Option.{cond_some, option_and_then_some}
@@ -7,16 +7,14 @@ use Rattle.std.proofs.lemmas.List.{length-map}
 use Rattle.std.proofs.lemmas.List.Elements.{All-nil, All-cons}
 use Rattle.std.proofs.lemmas.List.Folds.{list_all-map}
 use Rattle.serde_json.specs.Data.{Data}
-use Rattle.serde_json.specs.View.{view, items_view, members_view}
+use Rattle.serde_json.specs.View.{view, members_view}
 use Rattle.serde_json.specs.declared.value.Value.{Value}
 use Rattle.position.specs.declared.games.InputError.TheVariants.{Kind, Range}
-use Rattle.certificate.specs.declared.fields.Field.{Field}
-use Rattle.certificate.specs.declared.positions.GameKind.{GameKind}
-use Rattle.position.specs.Objects.{list_of, names_of, is_known, is_whole, is_byte, byte_of, byte_in, whole_in, bytes_in}
-
-pub list_of_items : (vs : List Value) → list_of (items_view vs) ≡ map view vs
-list_of_items [] = refl
-list_of_items (v ∷ vs) = ap (λ (ds : List Data). view v ∷ ds) (list_of_items vs)
+use Rattle.fields.specs.declared.field.Field.{Field}
+use Rattle.fields.specs.declared.positions.GameKind.{GameKind}
+use Rattle.table_text.specs.Elements.{is_whole, whole_in}
+pub use Rattle.table_text.proofs.StateKinds.{list_of_items}
+use Rattle.position.specs.Objects.{names_of, is_known, is_byte, byte_of, byte_in, bytes_in}
 
 pub known_members : (game : GameKind) (ms : List (String Global × Value)) → list_all (is_known game) (names_of (members_view ms)) ≡ list_all (λ k. is_known game (string_bytes k)) (keys_of ms)
 known_members game [] = refl

@@ -33,18 +33,18 @@ use Rattle.table.specs.Lists.{lists_from}
 use Rattle.table.specs.Refusals as table_refusals
 use Rattle.table.specs.Rules.{table_game}
 use Rattle.table.specs.Setting.{lists_of, IsSettingOf}
-use Rattle.certificate.specs.declared.positions.GameKind.{GameKind}
-use Rattle.certificate.specs.declared.positions.GameKind.TheVariants as kinds
-use Rattle.certificate.specs.declared.positions.PositionText.{PositionText}
-use Rattle.certificate.specs.declared.positions.PositionText.TheVariants as texts
-use Rattle.certificate.specs.Fields.{name_of}
-use Rattle.certificate.specs.Positions.{fields_of, position_with}
+use Rattle.fields.specs.declared.positions.GameKind.{GameKind}
+use Rattle.fields.specs.declared.positions.GameKind.TheVariants as kinds
+use Rattle.fields.specs.declared.positions.PositionText.{PositionText}
+use Rattle.fields.specs.declared.positions.PositionText.TheVariants as texts
+use Rattle.fields.specs.Fields.{name_of}
+use Rattle.fields.specs.Positions.{fields_of, position_with}
 use Rattle.position.specs.declared.games.InputError.{InputError}
 use Rattle.position.specs.declared.games.InputError.TheVariants as errors
 use Rattle.position.specs.declared.games.AnyGame.{AnyGame}
 use Rattle.position.specs.declared.games.AnyGame.TheVariants.{Goofspiel, OshiZumo, Tron, GoofspielDrawn, Pursuit, Table}
 use Rattle.position.specs.Objects.{◌>>=◌, values_at}
-use Rattle.position.specs.States.{table_text_in}
+use Rattle.position.specs.States.{states_at}
 
 -- a table tells its states, and each other game its fields
 abbrev pub is_table : GameKind → Bool
@@ -52,7 +52,7 @@ is_table kinds.Table = true
 is_table game = false
 
 unfoldable pub position_text_in : GameKind → Data → Result PositionText InputError
-position_text_in game d = if is_table game then table_text_in d else do
+position_text_in game d = if is_table game then states_at d else do
   vs ← values_at (fields_of game) d
   Ok (position_with game vs)
 

@@ -1,14 +1,14 @@
 -- The positions that have a game.
 use Rattle.std.specs.Prelude.{◌≡◌, List, [], ◌∷◌, false, is_some}
 use Rattle.std.proofs.Props.{props}
-use Rattle.certificate.specs.declared.fields.FieldKind.{FieldKind}
-use Rattle.certificate.specs.declared.fields.FieldKind.TheVariants as holds
-use Rattle.certificate.specs.declared.fields.Value.{Value}
-use Rattle.certificate.specs.declared.fields.Value.TheVariants as values
-use Rattle.certificate.specs.declared.positions.PositionText.{PositionText}
-use Rattle.certificate.specs.Fields.{Fits, AllFit}
-use Rattle.certificate.specs.Positions.{kind_of, kinds_of, values_of}
-use Rattle.certificate.specs.Ranges.{IsPositionInRange}
+use Rattle.fields.specs.declared.field.FieldKind.{FieldKind}
+use Rattle.fields.specs.declared.field.FieldKind.TheVariants as holds
+use Rattle.fields.specs.declared.field.Value.{Value}
+use Rattle.fields.specs.declared.field.Value.TheVariants as values
+use Rattle.fields.specs.declared.positions.PositionText.{PositionText}
+use Rattle.fields.specs.Fields.{Fits, AllFit}
+use Rattle.fields.specs.Positions.{kind_of, kinds_of, values_of}
+use Rattle.fields.specs.Ranges.{IsPositionInRange}
 use Rattle.position.specs.Games.{fault_of}
 
 -- the position has a line and breaks no rule, so that a game is built of it

@@ -2,21 +2,22 @@
 use Rattle.std.specs.Prelude.{◌≡◌, ℕ, ℤ, pos, negsuc, Bool, true, false, ◌&&◌, ◌||◌, List, [], ◌∷◌, length, nat_lt, int_lt, nat_le, if◌then◌else◌, bytes_eq, is_some, Option, Some, None, option_and_then, Result, Ok, Err}
 use Rattle.std.specs.List.{list_any, list_all, filter_map}
 use Rattle.std.specs.Str.{is_utf8}
-use Rattle.serde_json.specs.Data.{Data, Members, no_members, member, Items, no_items, item}
-use Rattle.serde_json.specs.Find.{get, as_number, as_i64, as_str, as_array, as_object}
+use Rattle.serde_json.specs.Data.{Data, Members, no_members, member, Items}
+use Rattle.serde_json.specs.Find.{get, as_str, as_array, as_object}
 use Rattle.serde_json.specs.Read.{read}
-use Rattle.certificate.specs.declared.fields.Field.{Field}
-use Rattle.certificate.specs.declared.fields.Field.TheVariants as fields
-use Rattle.certificate.specs.declared.fields.FieldKind.{FieldKind}
-use Rattle.certificate.specs.declared.fields.FieldKind.TheVariants as holds
-use Rattle.certificate.specs.declared.fields.Absent.{Absent}
-use Rattle.certificate.specs.declared.fields.Absent.TheVariants.{Refused, Number, Word}
-use Rattle.certificate.specs.declared.fields.Value.{Value}
-use Rattle.certificate.specs.declared.fields.Value.TheVariants as values
-use Rattle.certificate.specs.declared.positions.GameKind.{GameKind}
-use Rattle.certificate.specs.declared.report.TheConstants.{ASK}
-use Rattle.certificate.specs.Fields.{name_of, word_in, FieldRow, AskRow, Fits}
-use Rattle.certificate.specs.Positions.{fields_of}
+use Rattle.fields.specs.declared.field.Field.{Field}
+use Rattle.fields.specs.declared.field.Field.TheVariants as fields
+use Rattle.fields.specs.declared.field.FieldKind.{FieldKind}
+use Rattle.fields.specs.declared.field.FieldKind.TheVariants as holds
+use Rattle.fields.specs.declared.field.Absent.{Absent}
+use Rattle.fields.specs.declared.field.Absent.TheVariants.{Refused, Number, Word}
+use Rattle.fields.specs.declared.field.Value.{Value}
+use Rattle.fields.specs.declared.field.Value.TheVariants as values
+use Rattle.fields.specs.declared.positions.GameKind.{GameKind}
+use Rattle.fields.specs.declared.ask.TheConstants.{ASK}
+use Rattle.fields.specs.Fields.{name_of, word_in, FieldRow, AskRow, Fits}
+use Rattle.fields.specs.Positions.{fields_of}
+use Rattle.table_text.specs.Elements.{list_of, whole_in, is_whole}
 use Rattle.position.specs.declared.games.InputError.{InputError}
 use Rattle.position.specs.declared.games.InputError.TheVariants as errors
 
@@ -44,9 +45,6 @@ or_refuse (Some x) e = Ok x
 unfoldable pub member_at : Field → Data → Result Data InputError
 member_at field d = or_refuse (get (name_of field) d) (errors.Missing field)
 
-abbrev pub whole_in : Data → Option ℤ
-whole_in d = option_and_then as_i64 (as_number d)
-
 unfoldable pub whole_at : Field → Data → Result ℤ InputError
 whole_at field d = do
   v ← member_at field d
@@ -64,14 +62,6 @@ text_at field d = do
   or_refuse (as_str v) (errors.Kind field)
 
 -- ---- lists
-
--- the items as a list
-abbrev pub list_of : Items → List Data
-list_of no_items = []
-list_of (item d ds) = d ∷ list_of ds
-
-abbrev pub is_whole : Data → Bool
-is_whole d = is_some (whole_in d)
 
 abbrev pub byte_of : ℤ → Option ℕ
 byte_of (pos n) = if nat_lt n 256 then Some n else None

@@ -2,13 +2,13 @@
 use Rattle.std.specs.Prelude.{ℕ, List, length, nat_lt, if◌then◌else◌, is_some, Option, Some, None, Result, Ok, Err}
 use Rattle.serde_json.specs.Data.{Data}
 use Rattle.serde_json.specs.Find.{as_object}
-use Rattle.certificate.specs.declared.positions.GameKind.{GameKind}
-use Rattle.certificate.specs.declared.positions.PositionText.{PositionText}
-use Rattle.certificate.specs.declared.report.Ask.{Ask}
-use Rattle.certificate.specs.declared.report.TheConstants.{ASK}
-use Rattle.certificate.specs.Positions.{game_of}
-use Rattle.certificate.specs.Asks.{ask_with}
-use Rattle.certificate.specs.declared.fields.Field.TheVariants as fields
+use Rattle.fields.specs.declared.positions.GameKind.{GameKind}
+use Rattle.fields.specs.declared.positions.PositionText.{PositionText}
+use Rattle.fields.specs.declared.ask.Ask.{Ask}
+use Rattle.fields.specs.declared.ask.TheConstants.{ASK}
+use Rattle.fields.specs.Positions.{game_of}
+use Rattle.fields.specs.Asks.{ask_with}
+use Rattle.fields.specs.declared.field.Field.TheVariants as fields
 use Rattle.position.specs.declared.games.InputError.{InputError}
 use Rattle.position.specs.declared.games.InputError.TheVariants as errors
 use Rattle.position.specs.Objects.{◌>>=◌, or_refuse, text_at, json_of, known_at, all_asked_at}

@@ -4,17 +4,17 @@ ghost use Rattle.std.specs.Prelude.{◌≡◌, ◌++◌, Some, None, IfOk, OnOk,
 ghost use Rattle.serde_json.specs.View.{view};
 ghost use Rattle.sim_game.specs.Model.{GameModel};
 ghost use Rattle.text.specs.Texts.{Adds};
-ghost use Rattle.certificate.specs.Fields.{name_of};
-ghost use Rattle.certificate.specs.declared.positions.PositionText.{PositionText};
-ghost use Rattle.certificate.specs.Ranges.{IsPositionInRange};
+ghost use Rattle.fields.specs.Fields.{name_of};
+ghost use Rattle.fields.specs.declared.positions.PositionText.{PositionText};
+ghost use Rattle.fields.specs.Ranges.{IsPositionInRange};
 ghost use Rattle.position.specs.declared.games.AnyGame.{AnyGame};
 ghost use Rattle.position.specs.Objects.{Gives};
 ghost use Rattle.position.specs.Games.{code_of, words_of, is_table, position_text_in, fault_of, IsGameOf, model_of, OfSame, IsSameGame};
 ghost use Rattle.position.specs.HasGame.{HasGame};
 
 use crate::object::values;
-use crate::states::table_text;
-use certificate::{Field, GameKind, PositionText};
+use crate::states::states_in;
+use fields::{Field, GameKind, PositionText};
 use goofspiel::{Goofspiel, GoofspielDrawn, GoofspielError};
 use oshi_zumo::{OshiError, OshiZumo};
 use pursuit::{Pursuit, PursuitError};
@@ -306,7 +306,7 @@ pub(crate) fn position_text(
     ensures in_range { IfOk result IsPositionInRange }
 {
     if is_table(game) {
-        return table_text(alloc, object);
+        return states_in(alloc, object);
     }
     let values = values(alloc, game.fields(), object)?;
     Ok(PositionText::with_values(game, values))

@@ -1,27 +1,18 @@
-//! Positions read from bytes, and the sources and sinks of bytes.
+//! Positions read from bytes.
 #![tactic(auto)]
 
 mod error;
 mod games;
-mod memory_sink;
-mod memory_source;
 mod object;
-mod pieces;
-mod plain;
 mod reading;
-mod sink;
-mod source;
-mod standard;
 mod states;
 mod task;
 
-pub use certificate::Field;
+pub use devices::{
+    Failed, MemorySink, MemorySource, PlainSink, PlainSource, ReadError, Sink, Source, StdSink,
+    StdSource, read_all, write_all,
+};
+pub use fields::Field;
 pub use games::{AnyGame, GameVisitor, InputError, build, game_of, position_has_one_game};
-pub use memory_sink::MemorySink;
-pub use memory_source::MemorySource;
-pub use plain::{PlainSink, PlainSource};
 pub use reading::position;
-pub use sink::{Sink, write_all};
-pub use source::{Failed, ReadError, Source, read_all};
-pub use standard::{StdSink, StdSource};
 pub use task::Task;

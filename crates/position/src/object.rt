@@ -4,14 +4,15 @@ ghost use Rattle.std.specs.Prelude.{◌≡◌, ◌≤ℤ◌, ◌&&◌, length, n
 ghost use Rattle.std.specs.List.{list_all, list_any, filter_map};
 ghost use Rattle.std.specs.BTreeMap.{keys};
 ghost use Rattle.serde_json.specs.View.{view, items_view, members_view};
-ghost use Rattle.certificate.specs.declared.report.TheConstants.{ASK};
-ghost use Rattle.certificate.specs.Asks.{asked_kinds};
-ghost use Rattle.certificate.specs.Fields.{name_of, Fits, AllFit};
-ghost use Rattle.certificate.specs.Ranges.{IsByteList};
-ghost use Rattle.position.specs.Objects.{Gives, member_at, whole_at, between, text_at, json_of, byte_in, is_whole, is_byte, bytes_in, bytes_at, is_known, known_at, items_at, members_at, value_at, values_at, IsDefaultOf, asked_at, all_asked_at};
+ghost use Rattle.fields.specs.declared.ask.TheConstants.{ASK};
+ghost use Rattle.fields.specs.Asks.{asked_kinds};
+ghost use Rattle.fields.specs.Fields.{name_of, Fits, AllFit};
+ghost use Rattle.fields.specs.Ranges.{IsByteList};
+ghost use Rattle.position.specs.Objects.{Gives, member_at, whole_at, between, text_at, json_of, byte_in, is_byte, bytes_in, bytes_at, is_known, known_at, items_at, members_at, value_at, values_at, IsDefaultOf, asked_at, all_asked_at};
+ghost use Rattle.table_text.specs.Elements.{is_whole};
 
 use crate::{Field, InputError};
-use certificate::{
+use fields::{
     ASK, ASKED, Absent, AskRow, FIELDS, FieldKind, FieldRow, GameKind, Value as FieldValue,
     each_asked,
 };

@@ -2,13 +2,13 @@
 
 ghost use Rattle.std.specs.Prelude.{◌≡◌, ◌<◌, ◌≤◌, length, Err, IfOk};
 ghost use Rattle.serde_json.specs.View.{view};
-ghost use Rattle.certificate.specs.Ranges.{IsAskInRange, IsPositionInRange};
+ghost use Rattle.fields.specs.Ranges.{IsAskInRange, IsPositionInRange};
 ghost use Rattle.position.specs.Position.{Gives, game_at, ask_at, object_at, task_of, position_of};
 
 use crate::games::position_text;
 use crate::object::{all_asked, json, only_known, text};
 use crate::{Field, InputError, Task, build};
-use certificate::{Ask, GameKind};
+use fields::{Ask, GameKind};
 use serde_json::Value;
 use std::alloc::Global;
 

@@ -3,7 +3,7 @@
 ghost use Rattle.position.specs.HasGame.{HasGame, HasGame-prop};
 
 use crate::{AnyGame, game_of};
-use certificate::{Ask, PositionText};
+use fields::{Ask, PositionText};
 
 /// A position that breaks no rule of its game, and what is asked of the search.
 #[derive(Debug, Drop)]

@@ -8,13 +8,14 @@ use Rattle.sim_game.specs.declared.Side.{Side}
 use Rattle.sim_game.specs.declared.Side.TheVariants.{One, Two}
 use Rattle.sim_game.specs.Model.{GameModel, IsGame}
 use Rattle.plan_book.specs.declared.Sheet.{Sheet}
-use Rattle.certificate.specs.declared.report.Ask.{Ask}
+use Rattle.fields.specs.declared.ask.Ask.{Ask}
 use Rattle.certificate.specs.declared.report.Outcome.{Outcome}
 use Rattle.certificate.specs.declared.report.Outcome.TheVariants.{Closed, Spent, Full}
-use Rattle.certificate.specs.declared.positions.PositionText.{PositionText}
+use Rattle.fields.specs.declared.positions.PositionText.{PositionText}
 use Rattle.certificate.specs.declared.report.Report.{Report}
 use Rattle.certificate.specs.Outcomes.{Allows}
-use Rattle.certificate.specs.Ranges.{Within, IsAskInRange, IsPositionInRange, IsSheetInRange, IsInRange}
+use Rattle.fields.specs.Ranges.{Within, IsAskInRange, IsPositionInRange}
+use Rattle.certificate.specs.Ranges.{IsSheetInRange, IsInRange}
 use Rattle.matrix_game.specs.Budget.{Budget}
 use Rattle.lazy_workers.specs.declared.summary.Found.{Found}
 use Rattle.lazy_workers.specs.Findings.{found_gap, IsFoundPlan, AreSpent, IsFoundFor}

@@ -6,10 +6,10 @@ use Rattle.sim_game.specs.Resolution.{IsResolution}
 use Rattle.plan_book.specs.Expected.{Guarantees}
 use Rattle.plan_book.specs.Sheets.{IsLawful, plan_of, root_bound}
 use Rattle.plan_book.specs.Serial.{serial_bound}
-use Rattle.certificate.specs.declared.report.Ask.{Ask}
+use Rattle.fields.specs.declared.ask.Ask.{Ask}
 use Rattle.certificate.specs.declared.report.Outcome.{Outcome}
 use Rattle.certificate.specs.declared.report.Outcome.TheVariants.{Closed, Spent, Full}
-use Rattle.certificate.specs.declared.positions.PositionText.{PositionText}
+use Rattle.fields.specs.declared.positions.PositionText.{PositionText}
 use Rattle.certificate.specs.declared.report.Report.{Report}
 use Rattle.certificate.specs.Outcomes.{IsAllowed}
 use Rattle.certificate.specs.Ranges.{IsInRange}

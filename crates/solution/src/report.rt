@@ -1,9 +1,9 @@
 //! The report of what was found.
 
 ghost use Rattle.std.specs.Prelude.{◌≡◌, IfOk};
-ghost use Rattle.certificate.specs.Ranges.{IsAskInRange, IsPositionInRange};
-ghost use Rattle.certificate.specs.declared.positions.PositionText.{PositionText};
-ghost use Rattle.certificate.specs.declared.report.Ask.{Ask};
+ghost use Rattle.fields.specs.Ranges.{IsAskInRange, IsPositionInRange};
+ghost use Rattle.fields.specs.declared.positions.PositionText.{PositionText};
+ghost use Rattle.fields.specs.declared.ask.Ask.{Ask};
 ghost use Rattle.lazy_workers.specs.Findings.{IsFoundFor};
 ghost use Rattle.lazy_workers.specs.declared.summary.Found.{Found};
 ghost use Rattle.solution.specs.declared.report.Solved.{Solved};

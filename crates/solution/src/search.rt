@@ -1,7 +1,7 @@
 //! The search of a position's game, and its report.
 
 ghost use Rattle.std.specs.Prelude.{IfOk};
-ghost use Rattle.certificate.specs.Ranges.{IsAskInRange, IsPositionInRange};
+ghost use Rattle.fields.specs.Ranges.{IsAskInRange, IsPositionInRange};
 ghost use Rattle.solution.specs.Solutions.{IsSolvedGame};
 
 use crate::report::{Solved, report_of};

@@ -1,6 +1,6 @@
 use Rattle.std.proofs.lemmas.Result.{on_ok_weaker}
 use Rattle.text.proofs.TextLemmas.{then, as_text}
-use Rattle.certificate.specs.Positions.{game_word, kind_of}
+use Rattle.fields.specs.Positions.{game_word, kind_of}
 use Rattle.certificate.proofs.PositionLaws.{line_written}
 use Rattle.certificate.proofs.positions.add_position.Goals as goal
 

@@ -1,7 +1,7 @@
 use Rattle.std.proofs.Common.{◌∷◌, flat_map, take}
 use Rattle.text.specs.Texts.{Adds}
-use Rattle.certificate.specs.Fields.{value_text}
-use Rattle.certificate.specs.Positions.{shown_value}
+use Rattle.certificate.specs.Spellings.{value_text}
+use Rattle.fields.specs.Positions.{shown_value}
 use Rattle.certificate.proofs.positions.add_values.Given as goal
 
 abbrev pub invariant-loop-value : goal.invariant-loop-value

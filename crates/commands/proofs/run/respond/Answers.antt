@@ -1,6 +1,6 @@
 use Rattle.std.proofs.Common.{refl, subst}
 use Rattle.std.specs.Io.KnownBytes.{Appends}
-use Rattle.position.specs.Taken.{AppendsFront}
+use Rattle.devices.specs.Taken.{AppendsFront}
 use Rattle.commands.specs.Runs.{IsWritten}
 use Rattle.commands.proofs.run.respond.Goals as goal
 

@@ -6,7 +6,7 @@ use Rattle.shared_board.proofs.SeenLemmas.{has_key_of}
 use Rattle.shared_board.specs.Values.{IsPassOf, desk_view}
 use Rattle.shared_board.specs.Bare.{pass_of}
 use Rattle.matrix_game.specs.Solvers.{solver_of}
-use Rattle.certificate.specs.declared.report.StageMethod.TheVariants.{Regret}
+use Rattle.fields.specs.declared.ask.StageMethod.TheVariants.{Regret}
 use Rattle.oracle_search.specs.Workers.{at_start, at_work, is_linear}
 use Rattle.oracle_search.specs.Searches.{IsWorked}
 use Rattle.oracle_search.proofs.WorkLemmas.{kept_none}

@@ -1,0 +1,98 @@
+//! A source of bytes.
+
+ghost use Rattle.std.specs.Prelude.{◌≡◌, ◌≢◌, ◌<◌, ◌≤◌, ◌+◌, length, IfOk, OnOk};
+ghost use Rattle.std.specs.Io.KnownBytes.{ReadConsumes, Consumes, IsAtEnd};
+ghost use Rattle.devices.specs.Causes.{Rose, HasCause, IsCalm};
+ghost use Rattle.devices.specs.Taken.{SourceState, Takes, ConsumesAtMost};
+ghost use Rattle.devices.specs.declared.source.ReadError.TheVariants.{NoMemory};
+
+use std::alloc::{AllocError, AllocFailed, Global};
+use thiserror::Error;
+
+/// A call of a device failed.
+#[derive(Clone, Copy, Debug, PartialEq, Eq)]
+pub struct Failed;
+
+pub trait Source {
+    /// The bytes still to come, where the source tells them, and how often a call failed.
+    ghost state: { Self → SourceState };
+
+    /// Moves the next bytes into the front of the piece, and says how many. None is the end.
+    fn read(&mut self, into: &mut [u8]) -> Result<usize, Failed>
+        requires { 0 < length into.old }
+        ensures bound { IfOk result (λ n. n ≤ length into.new) }
+        ensures bytes { ReadConsumes (state self.old).left (state self.new).left result into.new }
+        ensures cause { HasCause (state self.old).faults (state self.new).faults result }
+        ensures calm { OnOk result (IsCalm (state self.old).faults (state self.new).faults) };
+}
+
+/// Why a source was not read to its end.
+#[derive(Clone, Copy, Debug, PartialEq, Eq, Error)]
+pub enum ReadError {
+    /// One byte more than the limit was taken.
+    #[error("the input is too long")]
+    TooLong,
+    /// The source failed.
+    #[error("the source failed")]
+    Failed,
+    #[error("out of memory")]
+    NoMemory,
+}
+
+impl From<Failed> for ReadError {
+    ghost use Rattle.std.specs.Prelude.{◌≡◌};
+    ghost use Rattle.devices.specs.declared.source.ReadError.TheVariants as errors;
+
+    ghost from_gives = { λ _ e. e ≡ errors.Failed };
+
+    fn from(_: Failed) -> Self {
+        ReadError::Failed
+    }
+}
+
+impl From<AllocError> for ReadError {
+    ghost from_gives = { λ _ e. e ≡ NoMemory };
+
+    fn from(_: AllocError) -> Self {
+        ReadError::NoMemory
+    }
+}
+
+impl<T: Drop> From<AllocFailed<T>> for ReadError {
+    ghost from_gives = { λ _ e. e ≡ NoMemory };
+
+    fn from(_: AllocFailed<T>) -> Self {
+        ReadError::NoMemory
+    }
+}
+
+const PIECE: usize = 4096;
+
+/// All bytes of a source up to its end, if there are at most `limit`.
+pub fn read_all<S: Source>(alloc: Global, source: &mut S, limit: u64) -> Result<Vec<u8>, ReadError>
+    ensures ok { IfOk result (λ v. Consumes (S.state source.old).left (S.state source.new).left v.items
+        × IsAtEnd (S.state source.new).left) }
+    ensures within { IfOk result (λ v. length v.items ≤ limit) }
+    // Too long is one byte more than the limit, and with any other answer no more than the limit is taken.
+    ensures too_long { result ≡ Err ReadError.TooLong
+        → Takes (S.state source.old).left (S.state source.new).left (limit + 1) }
+    ensures others { result ≢ Err ReadError.TooLong
+        → ConsumesAtMost (S.state source.old).left (S.state source.new).left limit }
+    ensures failed { result ≡ Err ReadError.Failed → Rose (S.state source.old).faults (S.state source.new).faults }
+    ensures calm { result ≢ Err ReadError.Failed → IsCalm (S.state source.old).faults (S.state source.new).faults }
+{
+    let mut bytes = Vec::new(alloc);
+    let mut piece = [0u8; PIECE];
+    'pieces: loop {
+        let room = limit - bytes.len() as u64;
+        let size = room.min(PIECE as u64 - 1) as usize + 1;
+        let n = source.read(&mut piece[..size])?;
+        if n == 0 {
+            return Ok(bytes);
+        }
+        if n as u64 > room {
+            return Err(ReadError::TooLong);
+        }
+        bytes.extend_from_slice(&piece[..n])?;
+    }
+}

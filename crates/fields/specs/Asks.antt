@@ -1,0 +1,43 @@
+-- What is asked, as values of its fields.
+use Rattle.std.specs.Prelude.{ℕ, ℤ, List, map}
+use Rattle.fields.specs.declared.field.FieldKind.{FieldKind}
+use Rattle.fields.specs.declared.field.Value.{Value}
+use Rattle.fields.specs.declared.field.Word.{Word}
+use Rattle.fields.specs.declared.field.Word.TheVariants as words
+use Rattle.fields.specs.declared.ask.Ask.{Ask}
+use Rattle.fields.specs.declared.ask.StageMethod.{StageMethod}
+use Rattle.fields.specs.declared.ask.StageMethod.TheVariants.{Regret, Linear}
+use Rattle.fields.specs.declared.ask.TheConstants.{ASK}
+use Rattle.fields.specs.Fields.{AskRow}
+use Rattle.fields.specs.Positions.{number_at, count_at, word_value_at}
+
+abbrev pub asked_kinds : List FieldKind
+asked_kinds = map (λ (row : AskRow). row.1) ASK
+
+abbrev pub method_of : Word → StageMethod
+method_of words.Linear = Linear
+method_of word = Regret
+
+-- what the values of the fields ask
+abbrev pub ask_with : List Value → Ask
+ask_with vs = record {
+  gap = number_at 0 vs;
+  weight = count_at 1 vs;
+  turns = count_at 2 vs;
+  visits = count_at 3 vs;
+  rows = count_at 4 vs;
+  workers = count_at 5 vs;
+  stages = method_of (word_value_at 6 vs);
+}
+
+-- what these numbers ask, where each other field has its default
+abbrev pub ask_of : ℤ → ℕ → ℕ → ℕ → ℕ → ℕ → Ask
+ask_of gap weight turns visits rows workers = record {
+  gap = gap;
+  weight = weight;
+  turns = turns;
+  visits = visits;
+  rows = rows;
+  workers = workers;
+  stages = Regret;
+}

@@ -1,0 +1,5 @@
+pub mod Numbers
+pub mod Fields
+pub mod Positions
+pub mod Asks
+pub mod Ranges

@@ -1,0 +1,13 @@
+-- The positions and the asks whose numbers are all in range.
+use Rattle.std.specs.Prelude.{ℕ, ◌≤◌, pos}
+use Rattle.fields.specs.declared.ask.Ask.{Ask}
+pub use Rattle.fields.specs.Numbers.{Within, Between, IsByteList}
+pub use Rattle.fields.specs.Positions.{IsPositionInRange}
+
+pub record IsAskInRange (ask : Ask) : Type 0 where
+  pub gap : Between (pos 0) (pos 8000000000) ask.gap
+  pub weight : Within 8192 1048576 ask.weight
+  pub turns : ask.turns ≤ 1099511627776
+  pub visits : ask.visits ≤ 1099511627776
+  pub rows : Within 1 1048576 ask.rows
+  pub workers : Within 1 16 ask.workers

@@ -1,0 +1,163 @@
+//! The fields of positions and of what is asked: their names, and what each holds.
+
+ghost use Rattle.std.specs.Prelude.{◌≡◌, [], ◌∷◌, find, bytes_eq, IfSome};
+ghost use Rattle.fields.specs.Fields.{name_of, spelling, choices_of, word_in, Fits};
+
+use seq::Seq;
+
+/// A field of the object of a position.
+#[derive(Clone, Copy, Debug, PartialEq, Eq)]
+pub enum Field {
+    Game,
+    One,
+    Two,
+    Prizes,
+    Score,
+    Pay,
+    Size,
+    Least,
+    Place,
+    Height,
+    Width,
+    Walls,
+    Nodes,
+    Edges,
+    Rounds,
+    States,
+    Gap,
+    Weight,
+    Turns,
+    Visits,
+    Rows,
+    Workers,
+    Stages,
+}
+
+impl Field {
+    /// The field's name in the object.
+    pub fn name(self) -> &'static str
+        ensures { result.now ≡ name_of self }
+    {
+        match self {
+            Field::Game => "game",
+            Field::One => "one",
+            Field::Two => "two",
+            Field::Prizes => "prizes",
+            Field::Score => "score",
+            Field::Pay => "pay",
+            Field::Size => "size",
+            Field::Least => "least",
+            Field::Place => "place",
+            Field::Height => "height",
+            Field::Width => "width",
+            Field::Walls => "walls",
+            Field::Nodes => "nodes",
+            Field::Edges => "edges",
+            Field::Rounds => "rounds",
+            Field::States => "states",
+            Field::Gap => "gap",
+            Field::Weight => "weight",
+            Field::Turns => "turns",
+            Field::Visits => "visits",
+            Field::Rows => "rows",
+            Field::Workers => "workers",
+            Field::Stages => "stages",
+        }
+    }
+}
+
+/// A word that a field can hold.
+#[derive(Clone, Copy, Debug, PartialEq, Eq)]
+pub enum Word {
+    Margin,
+    Win,
+    Regret,
+    Linear,
+}
+
+impl Word {
+    pub fn text(self) -> &'static [u8]
+        ensures { result.now ≡ spelling self }
+    {
+        match self {
+            Word::Margin => b"margin",
+            Word::Win => b"win",
+            Word::Regret => b"regret",
+            Word::Linear => b"linear",
+        }
+    }
+}
+
+/// Words of which a field holds one.
+#[derive(Clone, Copy, Debug, PartialEq, Eq)]
+pub enum Choices {
+    Pay,
+    Stages,
+}
+
+impl Choices {
+    fn both(self) -> (Word, Word)
+        ensures { choices_of self ≡ result.0 ∷ result.1 ∷ [] }
+    {
+        match self {
+            Choices::Pay => (Word::Margin, Word::Win),
+            Choices::Stages => (Word::Regret, Word::Linear),
+        }
+    }
+
+    /// The word of these that is spelled so.
+    pub fn word(self, text: &[u8]) -> Option<Word>
+        ensures exact { result ≡ word_in self text.now }
+        ensures fits { IfSome result (λ w. Fits (FieldKind.Word self) (Value.Word w)) }
+    {
+        let (first, second) = self.both();
+        either(text, first, second)
+    }
+}
+
+fn either(text: &[u8], first: Word, second: Word) -> Option<Word>
+    ensures { result ≡ find (λ w. bytes_eq text.now (spelling w)) (first ∷ second ∷ []) }
+{
+    if text == first.text() {
+        Some(first)
+    } else if text == second.text() {
+        Some(second)
+    } else {
+        None
+    }
+}
+
+/// What a field holds.
+#[derive(Clone, Copy, Debug, PartialEq, Eq)]
+pub enum FieldKind {
+    /// A whole number from the first to the second.
+    Number(i64, i64),
+    /// At most so many numbers from 0 to 255.
+    List(usize),
+    /// At most so many whole numbers from the first to the second.
+    Numbers(i32, i32, usize),
+    Word(Choices),
+}
+
+/// What stands in a field.
+#[derive(Debug, Drop)]
+pub enum Value {
+    Number(i64),
+    List(Seq<u8>),
+    Numbers(Seq<i32>),
+    Word(Word),
+}
+
+/// What is meant where a field is absent.
+#[derive(Clone, Copy, Debug, PartialEq, Eq)]
+pub enum Absent {
+    Refused,
+    Number(i64),
+    Word(Word),
+}
+
+/// A field of a game, which each of its positions has.
+pub type FieldRow = (Field, FieldKind);
+
+/// A field of what is asked, and what is meant where it is absent.
+pub type AskRow = (Field, FieldKind, Absent);

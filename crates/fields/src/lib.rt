@@ -1,0 +1,11 @@
+//! The fields of a position and of what is asked of a search, and their values.
+#![tactic(auto)]
+
+mod ask;
+mod field;
+mod positions;
+
+pub use ask::{ASK, ASKED, Ask, LEAST, StageMethod};
+pub use field::{Absent, AskRow, Choices, Field, FieldKind, FieldRow, Value, Word};
+pub use goofspiel::Pay;
+pub use positions::{FIELDS, GameKind, PositionText, Shown};

@@ -1,0 +1,5 @@
+pub mod StateKinds
+pub mod StateCounts
+pub mod StateLists
+pub mod StateRanks
+pub mod StateTexts

@@ -1,0 +1,14 @@
+use Rattle.std.proofs.Common.{◌≡◌, ℕ, ◌+◌, ◌∙◌, min, length, rules}
+use Rattle.std.specs.List.{fold}
+use Rattle.serde_json.specs.View.{view}
+use Rattle.serde_json.specs.declared.value.Value.{Value}
+use Rattle.table.specs.Nested.{given_cells}
+use Rattle.table_text.specs.States.{state_form_of}
+use Rattle.table_text.proofs.StateCounts.{cells_in_states}
+use Rattle.table_text.proofs.ranges.cells_of_states.Goals as goal
+
+pub returns : goal.returns
+returns c =
+    let folded : c.fold.result ≡ fold (λ (n : ℕ) (v : Value). min (n + min (length (given_cells (state_form_of (view v)))) 18446744073709551615) 18446744073709551615) 0 c.args.states.now
+    = search rules in
+    folded ∙ cells_in_states 18446744073709551615 c.args.states.now

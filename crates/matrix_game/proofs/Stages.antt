@@ -15,9 +15,11 @@ use Rattle.matrix_game.proofs.Mixtures.{length-mixture_of}
 use Rattle.matrix_game.proofs.Law.{weight_before, length-regrets_before, weight-reply_counts, length-reply_counts, get_or-all_on, weight-all_on, stage_law, resolution_of}
 use Rattle.matrix_game.proofs.Loop.{floor_before, best_mixture_is}
 use Rattle.sums.specs.Sums.{sum_below}
+use Rattle.std.specs.Prelude.{Result, Ok, Err, IfOk}
+use Rattle.matrix_game.specs.declared.stage.StageError.{StageError}
 use Rattle.matrix_game.specs.declared.stage.StagePlans.{StagePlans}
 use Rattle.matrix_game.specs.Grid.{Grid, IsShaped, IsMatrix, IsSaddle, IsFirstSaddle, cell_at, column_sum, row_sum, best_reply, row_floor, col_ceiling, first_greatest}
-use Rattle.matrix_game.specs.Plans.{AreStagePlans, AreWeighed, plans_by}
+use Rattle.matrix_game.specs.Plans.{AreStagePlans, AreWeighed, IsPureAtSaddle, plans_by}
 use Rattle.matrix_game.specs.Rounds.{regrets_before, rounds, all_on, IsStage, pure, mixed, IsWeighted, HasSmallGap}
 
 pub all_on_written : (n i w : ℕ) (xs : List ℕ) → i < n → xs ≡ replicate n 0 → set xs i w ≡ all_on n i w
@@ -132,3 +134,12 @@ plans_of_stage m w p v i h stage =
     plans_of_gap m w (plans_by m p v) i
     (record { rows = stage-rows m w p v i.shaped h stage; cols = stage-cols m w p v i.shaped stage; low = refl; high = refl })
     (stage_law m w p v i.shaped stage)
+
+-- an answer by rounds is pure at the first saddle
+pub pure_of_stage : (m : Grid) (w : ℕ) (plans : StagePlans) → IsStage m w plans.p plans.v → IsPureAtSaddle m w plans
+pure_of_stage m w plans (pure a b first rows cols) c d s = record { row = a; col = b; first = first; rows = rows; cols = cols }
+pure_of_stage m w plans (mixed none rows cols) c d s = absurd (none c d s)
+
+pub pure_if_ok : (m : Grid) (w : ℕ) (r : Result StagePlans StageError) → IfOk r (λ plans. IsStage m w plans.p plans.v) → IfOk r (IsPureAtSaddle m w)
+pure_if_ok m w (Ok plans) stage = pure_of_stage m w plans stage
+pure_if_ok m w (Err e) stage = tt

@@ -2,7 +2,7 @@
 
 ghost use Rattle.std.specs.Prelude.{◌≡◌, IsTrue, IfOk, ◌≤◌};
 ghost use Rattle.sums.specs.declared.TheConstants.{MOST_WEIGHT};
-ghost use Rattle.matrix_game.specs.Plans.{AreStagePlans, AreWeighed, TakesTurn};
+ghost use Rattle.matrix_game.specs.Plans.{AreStagePlans, AreWeighed, IsPureAtSaddle, TakesTurn};
 
 use crate::budget::Turns;
 use crate::cells::Matrix;
@@ -154,7 +154,8 @@ impl Matrix {
     ) -> Result<StagePlans, AllocError>
         requires some { 1 ≤ total }
         requires light { total ≤ MOST_WEIGHT }
-        ensures { IfOk result (AreStagePlans self.now total) }
+        ensures plans { IfOk result (AreStagePlans self.now total) }
+        ensures pure { IfOk result (IsPureAtSaddle self.now total) }
     {
         if self.saddle().is_none() {
             buffers.open(alloc)?;
@@ -181,6 +182,7 @@ impl Matrix {
         requires some { 1 ≤ total }
         requires light { total ≤ MOST_WEIGHT }
         ensures plans { IfOk result (AreStagePlans self.now total) }
+        ensures pure { IfOk result (IsPureAtSaddle self.now total) }
         ensures turn { TakesTurn turns.old turns.new result }
     {
         self.solve_linear_in(alloc, total, turns, &mut LinearBuffers::new())
@@ -198,6 +200,7 @@ impl Matrix {
         requires some { 1 ≤ total }
         requires light { total ≤ MOST_WEIGHT }
         ensures plans { IfOk result (AreStagePlans self.now total) }
+        ensures pure { IfOk result (IsPureAtSaddle self.now total) }
         ensures turn { TakesTurn turns.old turns.new result }
     {
         if turns.left() == 0 {

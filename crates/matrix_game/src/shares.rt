@@ -24,7 +24,8 @@ impl Scale {
         let drop = 76u32.saturating_sub(all.wide().leading_zeros());
         Scale {
             drop,
-            factor: f64::from(weight) / all.about(drop),
+            // With no regret nothing is estimated, and 1 keeps clear of a division by zero; else the sum is at least 1.
+            factor: f64::from(weight) / all.about(drop).max(1.0),
             mask: u32::MAX.wrapping_shr(weight.leading_zeros()) & 0x1f_ffff,
         }
     }

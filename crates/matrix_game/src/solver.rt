@@ -2,7 +2,7 @@
 
 ghost use Rattle.std.specs.Prelude.{◌≡◌, ◌↔◌, IfOk, ◌≤◌};
 ghost use Rattle.sums.specs.declared.TheConstants.{MOST_WEIGHT};
-ghost use Rattle.matrix_game.specs.Plans.{AreStagePlans, TakesTurn};
+ghost use Rattle.matrix_game.specs.Plans.{AreStagePlans, IsPureAtSaddle, TakesTurn};
 ghost use Rattle.matrix_game.specs.Rounds.{IsStage};
 ghost use Rattle.matrix_game.specs.Solvers.{UsesRegret, solver_of};
 
@@ -42,8 +42,9 @@ impl StageSolver {
         }
     }
 
-    /// Solves the matrix by weights that sum to `total`, for one turn. Without a turn left the answer is `Spent`, and no
-    /// memory is taken.
+    /// Solves the matrix by weights that sum to `total`, for one turn: pure at the first saddle. Without a turn left the
+    /// answer is `Spent`, and no memory is taken.
+    #[tactic(auto, using(crate::proofs::Stages::pure_if_ok))]
     pub fn solve(
         &mut self,
         alloc: Global,
@@ -55,6 +56,7 @@ impl StageSolver {
         requires light { total ≤ MOST_WEIGHT }
         ensures stage { UsesRegret self.old → IfOk result (λ plans. IsStage matrix.now total plans.p plans.v) }
         ensures plans { IfOk result (AreStagePlans matrix.now total) }
+        ensures pure { IfOk result (IsPureAtSaddle matrix.now total) }
         ensures turn { TakesTurn turns.old turns.new result }
         ensures kind { UsesRegret self.new ↔ UsesRegret self.old }
     {

@@ -20,16 +20,16 @@ CRATES = TOP / "crates"
 MOST_COLUMNS, MOST_PROOF_COLUMNS, MOST_PARAMETERS, MOST_CLAUSES, MOST_LINES, MOST_EDITS = 120, 200, 7, 10, 40, 10
 
 # Flat matches with one arm a game or field.
-FLAT = {"build", "try_clone", "values", "with_values"}
+FLAT = {"build", "values", "with_values"}
 # Contracts of more than ten clauses, with how many they have.
 LONG = {
+    "devices write": 13,
     "lazy_workers join_all": 12,
     "matrix_game lane_reply": 11,
     "matrix_game play": 12,
     "matrix_game reply": 11,
     "oracle_search search": 11,
     "oracle_search take_turn": 14,
-    "position write": 13,
     "restricted_game claim": 11,
     "restricted_game post_both": 12,
     "restricted_game post_plan": 11,

@@ -36,6 +36,13 @@ pub fn version(game: GameKind) -> u32
     }
 }
 
+/// The version of the reports of the position.
+pub(crate) fn version_of(position: &PositionText) -> u32
+    ensures { result ≡ version_of position.now }
+{
+    version(position.game())
+}
+
 /// The game of the word, where its reports have the version.
 #[tactic(auto, unfolding(crate::specs::Positions::game_in))]
 fn game_in_version(word: &[u8], wanted: u32) -> Option<GameKind>

@@ -6,7 +6,7 @@ ghost use Rattle.certificate.specs.Ranges.{IsInRange};
 ghost use Rattle.certificate.specs.Reading.{read_report};
 ghost use Rattle.certificate.specs.Texts.{outcome_word, row_fields, sheet_lines, report_lines, report_text};
 
-use crate::positions::{add_position, version};
+use crate::positions::{add_position, version_of};
 use crate::{Outcome, Report};
 use plan_book::SheetRow;
 use sim_game::NoMemory;
@@ -56,7 +56,7 @@ fn add_sheet(text: &mut Text, word: &[u8], rows: &[SheetRow]) -> Result<(), NoMe
 fn add_report(text: &mut Text, r: &Report) -> Result<(), NoMemory>
     ensures { OnOk result (Adds text.old text.new (report_text r.now)) }
 {
-    text.named(b"dosolve report", &version(r.position.game()))?;
+    text.named(b"dosolve report", &version_of(&r.position))?;
     add_position(text, &r.position)?;
     text.named(b"weight", &r.weight)?;
     text.named(b"turns", &r.turns)?;

@@ -78,7 +78,8 @@ pub enum GameKind {
     Table,
 }
 
-const GAMES: [GameKind; 6] = [
+/// All kinds of games.
+pub const GAMES: [GameKind; 6] = [
     GameKind::Goofspiel,
     GameKind::OshiZumo,
     GameKind::Tron,

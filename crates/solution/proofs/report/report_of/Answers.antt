@@ -23,7 +23,7 @@ returns c =
     let spent = c.from_vec.ensures ∙ c.in_ok-spent.ensures ∙ ap spent_of c.as_slice.ensures in
     let gap_is = to_z-of_z w64 (to_z w64 (of_z w64 x.upper) -ℤ to_z w64 (of_z w64 x.lower)) (gap_fits x c.requires lower_fits upper_fits) in
     let ends : IsOutcomeFor (found_gap x) c.args.ask.now.gap x.resolution x.was_full c.outcome_for-outcome.result =
-        rw (gap_is, upper, lower, asked, resolution) at c.outcome_for-outcome.ensures in
+    rw (gap_is, upper, lower, asked, resolution) at c.outcome_for-outcome.ensures in
     record {
       outcome = c.outcome_for-outcome.result;
       is_outcome = ends;

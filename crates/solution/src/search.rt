@@ -2,11 +2,12 @@
 
 ghost use Rattle.std.specs.Prelude.{IfOk};
 ghost use Rattle.fields.specs.Ranges.{IsAskInRange, IsPositionInRange};
+ghost use Rattle.lazy_workers.specs.Findings.{IsFoundFor};
 ghost use Rattle.solution.specs.Solutions.{IsSolvedGame};
 
 use crate::report::{Solved, report_of};
 use certificate::{Ask, PositionText};
-use lazy_workers::{find, find_alone};
+use lazy_workers::{Found, find, find_alone};
 use oracle_search::Gate;
 use sim_game::{Game, NoMemory};
 use std::alloc::Global;
@@ -29,7 +30,7 @@ where
     ensures { IfOk result (IsSolvedGame (G.model g) position ask.now) }
 {
     let found = find(rt, alloc, g, ask, gate)?;
-    report_of(alloc, found, position, ask)
+    report_for(alloc, &g, found, position, ask)
 }
 
 /// As `solve`, but the caller does the work of each worker, one after the other. It starts no thread.
@@ -45,5 +46,21 @@ pub fn solve_alone<G: Game, T: Gate>(
     ensures { IfOk result (IsSolvedGame (G.model g) position ask.now) }
 {
     let found = find_alone(alloc, g, ask, gate)?;
+    report_for(alloc, &g, found, position, ask)
+}
+
+/// The report of what was found of the game.
+fn report_for<G: Game>(
+    alloc: Global,
+    g: &G,
+    found: Found,
+    position: PositionText,
+    ask: &Ask,
+) -> Result<Solved, NoMemory>
+    requires ask { IsAskInRange ask.now }
+    requires position { IsPositionInRange position }
+    requires found { IsFoundFor (G.model g.now) ask.now found }
+    ensures { IfOk result (IsSolvedGame (G.model g.now) position ask.now) }
+{
     report_of(alloc, found, position, ask)
 }

@@ -52,7 +52,7 @@ enum { DOSOLVE_ONE = 0, DOSOLVE_TWO = 1 };
  * plan of each side. */
 uint32_t dosolve_solve(const uint8_t *input, size_t count, uint8_t *output, size_t room, uint64_t *size);
 
-/* Verifies the report of the input, at most 1073741824 bytes. */
+/* Verifies the report of the input, at most 1073741824 bytes, or 4294967296 where it begins with the first line of version 3. */
 uint32_t dosolve_check(const uint8_t *input, size_t count, uint8_t *output, size_t room, uint64_t *size);
 
 /* Bounds of the value of the position of the input, by pure plans. */

@@ -39,16 +39,18 @@ Any finite game:
     Table.repeated(payoffs, rounds)            a matrix played for some rounds
     Table.from_functions(root, moves, after, payoff)   a game told by functions
     Table.from_openspiel(game)                 anything with OpenSpiel's calls
-    Table.from_game(game)                      a game of this package, or a subclass of `Game`
+    Table.from_game(game)                      a game of this package, or a `PythonGame`
     Table.from_gambit(path)                    a file of Gambit
 
 A `Position` is a game with what is asked, a `Report` has bounds and both plans, a `Sheet` is a
 plan. Games are `Goofspiel`, `GoofspielDrawn`, `OshiZumo`, `Tron`, `Pursuit` and `Table`; a state
-has `moves(side)`, `play(one=.., two=..)`, `is_end` and `payoff`. Both sides are `SIDES`. Pictures
+has `moves(side)`, `play(one=.., two=..)`, `is_end` and `payoff`. A game that is too large for a
+table can be measured here as a `PythonGame`. Both sides are `SIDES`. Pictures
 are in `dosolve.pictures`, a page to click through is made by `report.explore(path)`, OpenSpiel's
 names are in `dosolve.openspiel`, limits in `dosolve.limits`.
-Bounds, gaps and resolutions are millionths of a payoff, what One gets; payoffs are whole; moves,
-draws and cells are numbered from 0. `dosolve-py --help` is the same on a command line.
+Bounds, gaps and resolutions of objects are those of the program's texts, millionths of a payoff,
+what One gets, and payoffs are whole; what is printed and `record()` are in payoffs of the rules.
+Moves, draws and cells are numbered from 0. `dosolve-py --help` is the same on a command line.
 """
 from . import limits, openspiel, pictures
 from .errors import (
@@ -62,13 +64,14 @@ from .games.game import CHANCE, SCALE, SIDES, Game, Move, Side, State, other
 from .games.goofspiel import Goofspiel, GoofspielDrawn, GoofspielDrawnState, GoofspielState
 from .games.oshi_zumo import OshiZumo, OshiZumoState
 from .games.pursuit import Pursuit, PursuitState
+from .games.python_game import PythonGame, PythonState
 from .games.tron import DIRECTIONS, Tron, TronState
 from .players.histories import HistoryPlayer, live_match
 from .players.loading import load_player, load_table
 from .players.measuring import Measured, Player, measure
 from .players.plans import Choice, plan, whole_weights
 from .players.sheets import Row, Sheet
-from .players.tournaments import Pairing, Tournament, tournament
+from .players.tournaments import Guarantee, Pairing, Tournament, tournament
 from .positions import ASKED, GAMES, Position, processors
 from .reports import OUTCOMES, Report
 from .solver.program import (
@@ -78,6 +81,7 @@ from .solver.program import (
 from .solver.progress import Bar, PlanProgress, Progress, read_progress
 from .sweeps import Swept, read_positions, sweep
 from .tables.gambit import save_gambit
+from .tables.making import TableProgress
 from .tables.table import Table, TableState
 from . import explore  # last, since it takes the names above from here
 
@@ -93,10 +97,12 @@ __all__ = [
     "other",
     # What is handed over and handed back.
     "Position", "Report", "Sheet", "Row", "Accepted", "WorstCase", "Match", "Turn", "Measured",
-    "BestResponse", "Swept", "Tournament", "Pairing", "Progress", "PlanProgress", "Bar",
+    "BestResponse", "Swept", "Tournament", "Pairing", "Guarantee", "Progress", "PlanProgress",
+    "TableProgress", "Bar",
     "HistoryPlayer",
     # Games.
     "Goofspiel", "GoofspielDrawn", "OshiZumo", "Tron", "Pursuit", "Table", "Game", "State",
+    "PythonGame", "PythonState",
     "GoofspielState", "GoofspielDrawnState", "OshiZumoState", "TronState", "PursuitState",
     "TableState",
     # Types and constants.

@@ -3,30 +3,36 @@ does."""
 from __future__ import annotations
 
 import argparse
+import csv
 import json
+import math
 import sys
 from abc import ABC, abstractmethod
 from argparse import ArgumentParser, Namespace
 from collections.abc import Iterable, Sequence
 from contextlib import closing
+from fractions import Fraction
 from functools import partial
 from pathlib import Path
 from typing import TYPE_CHECKING, ClassVar
 
 from . import __version__, explore, pictures
-from .errors import DosolveError, InvalidError, ProgramMissingError
-from .files import naming, read_position, read_report, read_table, require_other, require_output
-from .games.game import SCALE, SIDES, Field, Side
+from .errors import DosolveError, InputRefusedError, InvalidError, ProgramMissingError
+from .files import (
+    aside, naming, read_position, read_report, read_table, require_other, require_output, with_gap,
+)
+from .games.game import SCALE, SIDES, AnyGame, Field, Side
+from .limits import MOST_ROWS
 from .players.loading import load_player
 from .players.measuring import Measured, measure, plan_of, solved_text
 from .players.tournaments import tournament
 from .positions import ASKED, Asked, Position
-from .reports import Report, scale_notes
+from .reports import UNIT, Report, table_notes
 from .solver.program import Solver, WorstCase, find_program, require_match
 from .solver.progress import read_progress
-from .sweeps import Swept, read_positions, sweep
+from .sweeps import SWEPT_COLUMNS, Summary, Swept, read_positions, sweep
 from .tables.names import names_file, require_names
-from .values import as_points
+from .values import as_number, as_points, cut
 
 if TYPE_CHECKING:
     from matplotlib.figure import Figure
@@ -73,15 +79,17 @@ class Solve(Command):
         super().add_arguments(parser)
         parser.add_argument("position", type=Path, metavar="POSITION", help=_POSITION)
         parser.add_argument("-o", "--output", type=Path, metavar="REPORT", help="write the report")
+        _add_rounded(parser)
         parser.add_argument("--report", action="store_true", help="print the report itself")
         _add_seconds(parser)
         _add_asked(parser)
 
     def run(self, words: Namespace) -> None:
-        position = read_position(words.position, _asked(words))
+        position = read_position(words.position, _asked(words), words.gap, words.rounded)
         require_output(words.output, words.position)
         if words.output:
             require_names(position.game, words.output)
+        _tell_size(position)
         report = _solver(words).solve(position, words.seconds, progress=sys.stderr.isatty())
         try:
             if words.output:
@@ -93,7 +101,7 @@ class Solve(Command):
         if words.report:
             print(report.text(), end="")
         elif words.json:
-            _print_record(report.record())
+            _print_record(report.record() | {"states": _counted(report.game)})
         else:
             print(report.summary(), end="")
 
@@ -109,24 +117,29 @@ class Check(Command):
         parser.add_argument("report", type=Path, metavar="REPORT")
 
     def run(self, words: Namespace) -> None:
-        notes = self._scale_beside(words.report)
+        game = self._game_beside(words.report)
+        notes = () if game is None else table_notes(game)
         with naming(words.report):
             found = _solver(words).check(words.report.read_bytes())
         if words.json:
-            _print_record({"lower": found.lower, "upper": found.upper, "outcome": found.outcome,
+            scale = Fraction(SCALE) if game is None else SCALE * game.scale
+            _print_record({"unit": UNIT, "lower": float(found.lower / scale),
+                           "upper": float(found.upper / scale), "outcome": found.outcome,
                            "notes": list(notes)})
             return
-        print(f"accepted lower {as_points(found.lower)} upper {as_points(found.upper)} "
-              f"{found.outcome}")
+        shown = (as_points(found.lower), as_points(found.upper))
+        if game is not None:
+            shown = game.shown(found.lower), game.shown(found.upper, True)
+        print(f"accepted lower {shown[0]} upper {shown[1]} {found.outcome}")
         _print_notes(notes)
 
-    def _scale_beside(self, path: Path) -> tuple[str, ...]:
-        """The note on the payoffs of a report, where names beside it tell of any. The report is
-        read only then, and what is wrong with either is not told."""
+    def _game_beside(self, path: Path) -> AnyGame | None:
+        """The game of a report, where names beside it may tell of its payoffs. The report is read
+        only then, and what is wrong with either is not told."""
         try:
-            return scale_notes(Report.load(path).game) if names_file(path).is_file() else ()
+            return Report.load(path).game if names_file(path).is_file() else None
         except DosolveError:
-            return ()
+            return None
 
 
 class Exploit(Command):
@@ -146,24 +159,28 @@ class Exploit(Command):
             found = {side: solver.exploit(report, side) for side in _sides(words)}
         both = {}
         if len(found) == len(SIDES):
-            both["nash_conv"] = float(found["two"].payoff - found["one"].payoff)
+            gains = found["two"].payoff - found["one"].payoff
+            both["nash_conv"] = float(report.game.of_rules(gains))
         if words.json:
             _print_record([self._record(report, worst) | both for worst in found.values()])
             return
         for side, worst in found.items():
-            print(f"player {side} guarantees {as_points(worst.guaranteed)}")
+            shown = report.game.shown(worst.guaranteed, side == "two")
+            print(f"player {side} guarantees {shown}")
         for name, payoff in both.items():
             print(f"{name} {payoff:z.6f}")
-        _print_notes(scale_notes(report.game))
+        _print_notes(table_notes(report.game))
         for side in found:
             _print_notes(report.row_notes(side))
 
     def _record(self, report: Report, worst: WorstCase) -> dict[str, object]:
-        return {"side": worst.side, "guarantees": worst.guaranteed / SCALE,
-                "low": float(worst.low / SCALE), "high": float(worst.high / SCALE),
-                "exact": worst.is_exact,
-                "fraction": str(worst.payoff) if worst.is_exact else None,
-                "notes": [*scale_notes(report.game), *report.row_notes(worst.side)]}
+        unscaled = report.game.unscaled
+        exact = report.game.of_rules(worst.payoff)
+        return {"side": worst.side, "unit": UNIT,
+                "guarantees": float(unscaled(worst.guaranteed)),
+                "low": float(unscaled(worst.low)), "high": float(unscaled(worst.high)),
+                "exact": worst.is_exact, "fraction": str(exact) if worst.is_exact else None,
+                "notes": [*table_notes(report.game), *report.row_notes(worst.side)]}
 
 
 class Measure(Command):
@@ -186,10 +203,15 @@ class Measure(Command):
 
     def run(self, words: Namespace) -> None:
         require_match(words.games, words.seed)
-        position, player = read_position(words.position, _asked(words)), load_player(words.player)
+        position = read_position(words.position, _asked(words), words.gap)
+        with aside():
+            player = load_player(words.player)
         shown, kept = sys.stderr.isatty(), self._kept(words, position)
+        _tell_size(position)
         # First the player, so that its faults are found before a long search.
-        plans = {side: plan_of(position, player, side, progress=shown) for side in _sides(words)}
+        with aside():
+            plans = {side: plan_of(position, player, side, progress=shown)
+                     for side in _sides(words)}
         solved = _solver(words).solve(position, words.seconds, progress=shown)
         if not words.json:
             print(solved_text(solved), end="")
@@ -229,17 +251,20 @@ class Match(Command):
     def run(self, words: Namespace) -> None:
         report = read_report(words.report)
         found = _solver(words).match(report, words.games, words.seed)
-        told = found.told(report.game)
-        notes = [*scale_notes(report.game), *report.row_notes("one"), *report.row_notes("two")]
+        told, of_rules = found.told(report.game), report.game.of_rules
+        payoff, least, most = (as_number(of_rules(each))
+                               for each in (found.payoff, found.least, found.most))
+        mean, error = float(of_rules(found.mean)), (found.error or 0) / float(report.game.scale)
+        notes = [*table_notes(report.game), *report.row_notes("one"), *report.row_notes("two")]
         if words.json:
-            _print_record({"turns": told, "payoff": found.payoff, "games": found.games,
-                           "mean": float(found.mean), "error": found.error, "least": found.least,
-                           "most": found.most, "notes": notes})
+            _print_record({"turns": told, "unit": UNIT, "payoff": payoff, "games": found.games,
+                           "mean": mean, "error": error, "least": least, "most": most,
+                           "notes": notes})
             return
         for line in told:
             print(f"turn {line}")
-        print(f"payoff {found.payoff}\ngames {found.games} mean {float(found.mean):z.6f} error "
-              f"{found.error or 0:z.6f} least {found.least} most {found.most}")
+        print(f"payoff {payoff}\ngames {found.games} mean {mean:z.6f} error {error:z.6f} least "
+              f"{least} most {most}")
         _print_notes(notes)
 
 
@@ -262,18 +287,22 @@ class Tournament(Command):
 
     def run(self, words: Namespace) -> None:
         names = self._names(words.players)
-        players = {name: load_player(path) for name, path in zip(names, words.players)}
-        positions = [read_position(path, _asked(words)) for path in words.position]
-        found = tournament(players, positions, None if words.no_solver else _solver(words),
-                           words.games, words.seed, words.seconds)
+        positions = [read_position(path, _asked(words), words.gap) for path in words.position]
+        with aside():
+            players = {name: load_player(path) for name, path in zip(names, words.players)}
+            found = tournament(players, positions, None if words.no_solver else _solver(words),
+                               words.games, words.seed, words.seconds)
         if words.json:
             print(found.json(), end="")
         elif words.csv:
             print(found.csv(), end="")
-            for note in found.notes:
+            for note in found.all_notes():
                 print(f"dosolve: note {note}", file=sys.stderr)
         else:
             print(found.markdown(), end="")
+        if found.failed:
+            raise DosolveError(f"{len(found.failed)} of {len(players)} players took no part: "
+                               f"{', '.join(found.failed)}")
 
     def _names(self, paths: Sequence[Path]) -> list[str]:
         """A name for each file of a player: its stem, and before that as many of its folders as
@@ -375,27 +404,39 @@ class Sweep(Command):
         parser.add_argument("-o", "--output", type=Path, metavar="RESULTS.jsonl",
                             help="write results, and go on where an earlier call stopped, by "
                                  "Ctrl-C too, or was cut short by fewer seconds")
+        parser.add_argument("--csv", action="store_true", help="print a line of CSV for each")
         _add_seconds(parser, " for each position")
 
     def run(self, words: Namespace) -> None:
-        failed = old = 0
+        summary = Summary()
         require_other(words.output, words.positions)
         results = sweep(self._positions(words.positions), None, words.output, _solver(words),
                         words.seconds)
+        table = csv.DictWriter(sys.stdout, SWEPT_COLUMNS, lineterminator="\n")
+        if words.csv and not words.json:
+            table.writeheader()
         with closing(results):
             for found in results:
-                failed += found.report is None
-                old += found.is_old
-                print(json.dumps({"number": found.number} | found.record()) if words.json
-                      else self._line(found), flush=True)
-        if old:
-            print(f"dosolve: results taken from {words.output}: {old}", file=sys.stderr)
-        if failed:
-            raise DosolveError(f"{failed} positions failed; a second call tries them again")
+                summary.add(found)
+                if words.json:
+                    print(json.dumps({"number": found.number} | found.record()))
+                elif words.csv:
+                    table.writerow(found.line())
+                else:
+                    print(self._line(found))
+                sys.stdout.flush()
+        if not words.json and not words.csv:
+            print(summary)
+        if summary.old:
+            print(f"dosolve: results taken from {words.output}: {summary.old}", file=sys.stderr)
+        if summary.failed:
+            raise DosolveError(f"{summary.failed} positions failed; a second call tries them again")
 
     def _positions(self, path: Path) -> Sequence[Position | str]:
         """The positions of a file; a single one has the names beside it."""
         lines = read_positions(path)
+        if lines and lines[0].startswith("dosolve report "):
+            raise InvalidError(f"{path} is a report, and a sweep takes positions, one on each line")
         if path.suffix.lower() != ".json":
             return lines
         with naming(path):
@@ -403,13 +444,16 @@ class Sweep(Command):
 
     def _line(self, found: Swept) -> str:
         """One result in words."""
-        report = found.report
-        if report is None:
+        told = found.numbers()
+        if "error" in told:
             return f"{found.number} failed {found.error}"
-        notes = f" note {'; '.join(report.notes())}" if report.notes() else ""
-        return (f"{found.number} {report.game.name} lower {as_points(report.lower)} upper "
-                f"{as_points(report.upper)} gap {as_points(report.gap)} {report.closeness} seconds "
-                f"{found.seconds:.1f}{notes}")
+        notes = f" note {'; '.join(told['notes'])}" if told["notes"] else ""
+        closeness = "closed" if told["gap"] <= told["asked"] else f"asked {told['asked']:.6f}"
+        lower, upper, gap = (
+            as_points(rounded(round(1e6 * told[name], 3)))
+            for name, rounded in (("lower", math.floor), ("upper", math.ceil), ("gap", math.ceil)))
+        return (f"{found.number} {told['game']} {cut(found.line()['settings'], 60)} lower {lower} "
+                f"upper {upper} gap {gap} {closeness} seconds {found.seconds:.1f}{notes}")
 
 
 class MakeTable(Command):
@@ -426,19 +470,22 @@ class MakeTable(Command):
         parser.add_argument("-o", "--output", type=Path, required=True, metavar="POSITION",
                             help="write the position, and the names beside it")
         parser.add_argument("--rounds", type=int, metavar="N", help="play the matrix for N rounds")
+        _add_rounded(parser)
         _add_asked(parser)
 
     def run(self, words: Namespace) -> None:
         asked = _asked(words)
         require_output(words.output, words.source)
         with naming(words.source):
-            table = read_table(words.source, words.rounds)
-            Position(table, **asked).save(words.output)
+            table = read_table(words.source, words.rounds, words.rounded)
+            with_gap(Position(table, **asked), words.gap).save(words.output)
         if words.json:
-            _print_record({"states": len(table.listing), "scale": str(table.scale)})
+            _print_record({"states": len(table.listing), "scale": str(table.scale),
+                           "error": float(table.error)})
         else:
             scale = f", payoffs times {table.scale}" if table.scale != 1 else ""
             print(f"{table.title()}{scale}")
+            _print_notes(table_notes(table))
 
 
 COMMANDS: tuple[Command, ...] = (Solve(), Check(), Exploit(), Measure(), Match(), Tournament(),
@@ -479,10 +526,19 @@ def _add_seconds(parser: ArgumentParser, each: str = ", or at Ctrl-C") -> None:
                              f"seconds{each}; `inf` goes on to the end")
 
 
+def _add_rounded(parser: ArgumentParser) -> None:
+    parser.add_argument("--rounded", action="store_true",
+                        help="round the payoffs of a matrix where they have too many digits; a "
+                             "note says how wrong the value can be then")
+
+
 def _add_asked(parser: ArgumentParser, title: str = "in place of what the position asks") -> None:
     group = parser.add_argument_group(title)
     for field in ASKED:
-        if field.choices:
+        if field.name == "gap":
+            group.add_argument("--gap", type=_payoff, metavar="G",
+                               help="the gap that is narrow enough, in payoffs, such as 0.001")
+        elif field.choices:
             group.add_argument(f"--{field.name}", choices=field.choices)
         else:
             about = f", {field.about}" if field.about else ""
@@ -507,22 +563,51 @@ def _seconds(word: str) -> float:
     return seconds
 
 
-def _number(field: Field, word: str) -> int:
-    """A whole number; its range is refused as that of a position is."""
+def _payoff(word: str) -> Fraction:
+    """A payoff from 0, such as 0.001 or 1/1000."""
     try:
-        return int(word)
-    except ValueError:
+        payoff = Fraction(word)
+    except (ValueError, ZeroDivisionError):
+        payoff = Fraction(-1)
+    if payoff < 0:
+        raise argparse.ArgumentTypeError(f"{word!r} has to be a payoff from 0, such as 0.001")
+    return payoff
+
+
+def _number(field: Field, word: str) -> int:
+    """A whole number in the range of its field."""
+    try:
+        number = int(word)
+        field.refuse(number)
+    except (ValueError, InputRefusedError):
         raise argparse.ArgumentTypeError(field.told(word)) from None
+    return number
 
 
 def _asked(words: Namespace) -> Asked:
-    """What the options ask for."""
-    asked = {}
-    for field in ASKED:
-        if getattr(words, field.name, None) is not None:
-            asked[field.name] = getattr(words, field.name)
-            field.refuse(asked[field.name])
-    return asked
+    """What the options ask for, but for the gap, whose unit depends on the game."""
+    return {field.name: getattr(words, field.name) for field in ASKED
+            if field.name != "gap" and getattr(words, field.name, None) is not None}
+
+
+def _counted(game: AnyGame) -> int | str | None:
+    """How many states with moves a game has, where it counts them."""
+    count = game.count_states()
+    return f"more than {MOST_ROWS}" if count is not None and count > MOST_ROWS else count
+
+
+def _tell_size(position: Position) -> None:
+    """Says on standard error how many states there are before a search, where the game counts
+    them: on a terminal, and anywhere if a board has no room for them."""
+    count = _counted(position.game)
+    if isinstance(count, str):
+        print(f"dosolve: the game has {count} states with moves, and a board has room for no "
+              f"more: only wide bounds are possible", file=sys.stderr)
+    elif count is not None and count > position.rows:
+        print(f"dosolve: the game has {count} states with moves, and the board {position.rows} "
+              f"rows", file=sys.stderr)
+    elif count is not None and sys.stderr.isatty():
+        print(f"dosolve: {count} states with moves", file=sys.stderr)
 
 
 def _sides(words: Namespace) -> tuple[Side, ...]:

@@ -12,7 +12,9 @@ class InvalidError(DosolveError, ValueError):
 
 class PlayerError(InvalidError):
     """A player gave no answer that is a plan, or raised an exception; the message names the
-    player's side and the state."""
+    player's side and the state, and `side` is the side, None where it is not one player's."""
+
+    side: str | None = None
 
 
 class NoTableError(InvalidError):
@@ -66,10 +68,10 @@ _NAMED: dict[int, str | int] = {
     33: "least", 34: "place", 71: "nodes", 72: "edges", 73: "edges", 74: "edges", 75: -1,
     76: "rounds",
 }
-_FIELDS = _NAMED | {code: "states" for code in range(81, 90)}
+_FIELDS = _NAMED | {code: "states" for code in range(81, 91)}
 
 _TABLE = {
-    81: "the five lists of the game's line do not fit each other",
+    81: "the lists of the game's line do not fit each other",
     82: "a table has at least one state, its root",
     83: "a payoff has to be from -4000 to 4000",
     84: "a state that is no end has to have 1 to 32 rows, one for each move of One",
@@ -78,6 +80,7 @@ _TABLE = {
     87: "the weights of a cell's draws have to be from 1, and to sum to 360360",
     88: "a cell has to lead to states that stand behind its own, and are there",
     89: "from a state at most 31 turns can be played, and its rank is that of the longest way",
+    90: "what One can still get from a state on has to be from -4000 to 4000",
 }
 """What the rules of tables ask for, by the numbers of their refusals."""
 
@@ -121,8 +124,8 @@ class ReportRefusedError(RefusedError):
 def _explained(words: list[str]) -> str:
     """What a refusal of `check` means, where its words do not say it."""
     if words == ["report", "head"]:
-        return ("a report begins with the line `dosolve report 1` or `dosolve report 2`, and its "
-                "lines end with LF alone")
+        return ("a report begins with the line `dosolve report 1`, or 2 or 3, its lines end with "
+                "LF alone, and version 3 is for what no version before can tell")
     if words[:2] == ["refused", "idle"] and len(words) == 4:
         return f"the plan of {words[2]} never reaches the state {words[3]}"
     if words[:2] == ["refused", "weights"] and len(words) == 4:

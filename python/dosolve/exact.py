@@ -5,9 +5,10 @@ Each is one `fold` over a graph, from its ends to the root. All sums are of whol
 """
 from __future__ import annotations
 
-from collections.abc import Callable, Mapping, Sequence
+from collections.abc import Callable, Iterator, Mapping, Sequence
 from dataclasses import dataclass, field
 from fractions import Fraction
+from itertools import repeat
 
 from .errors import InvalidError
 from .games.game import CHANCE, SCALE, SIDES, AnyGame, Side, State, other
@@ -17,9 +18,9 @@ from .players.sheets import Row, Sheet
 Followed = Callable[[State], tuple[Sequence[int], Sequence[int]]]
 """From a state that is no end to the numbers of both players' moves that are followed."""
 
-Cell = int | tuple[tuple[int, int], ...]
-"""The state behind a pair of moves, by its number in a graph; where there are draws, the chance of
-each, in parts of `CHANCE`, with its state."""
+Cell = int | tuple[tuple[int, int, int], ...]
+"""The state behind a pair of moves, by its number in a graph; where there are draws, or the turn
+pays, for each draw its chance in parts of `CHANCE`, its state, and what it pays."""
 
 Mean = Callable[[State, Cell, Sequence[int]], int]
 """From a state, a cell of it and a number for each state of the graph to the cell's number."""
@@ -83,9 +84,20 @@ def _follow(graph: Graph, at: int, ones: Sequence[int], twos: Sequence[int],
     for one in ones:
         for two in twos:
             pairs.append((one, two))
-            draws = tuple((chance, number(after)) for chance, after
-                          in state.outcomes_of_labels(mine[one], yours[two]))
-            cells.append(draws[0][1] if len(draws) == 1 else draws)
+            draws = tuple((chance, number(after), paid) for chance, after, paid
+                          in steps(state, mine[one], yours[two]))
+            plain = len(draws) == 1 and not draws[0][2]
+            cells.append(draws[0][1] if plain else draws)
+
+
+def steps(state: State, one: int, two: int) -> Iterator[tuple[int, State, int]]:
+    """What moves with these labels lead to: for each draw its chance in parts of `CHANCE`, the
+    state, and what the turn pays One."""
+    outcomes = state.outcomes_of_labels(one, two)
+    paid = (state.rewards_of_labels(one, two) if state.game.has_rewards
+            else repeat(0, len(outcomes)))
+    for (chance, after), reward in zip(outcomes, paid):
+        yield chance, after, reward
 
 
 def fold(graph: Graph, end: Callable[[State], int], mean: Mean,
@@ -123,11 +135,13 @@ class _Powers:
         return state.payoff * self.powers[state.rank]
 
     def mean(self, state: State, cell: Cell, numbers: Sequence[int]) -> int:
-        """What a cell of a state is worth, over base to the power of its rank less 1, times the
-        draws' sum."""
+        """What a cell of a state is worth, with what its turn pays, over base to the power of the
+        rank less 1, times the draws' sum."""
         if isinstance(cell, int):
             return self.raised(cell, state.rank, numbers) * self.draws
-        return sum(chance * self.raised(after, state.rank, numbers) for chance, after in cell)
+        turn = self.powers[state.rank - 1]
+        return sum(chance * self.draws // CHANCE * (
+            self.raised(after, state.rank, numbers) + paid * turn) for chance, after, paid in cell)
 
     def raised(self, at: int, rank: int, numbers: Sequence[int]) -> int:
         """The number of a state over base to the power of one less than this rank."""
@@ -222,15 +236,15 @@ def _proved(graph: Graph, side: Side, weights: Mapping[int, Sequence[int]],
             sums[reply] = sums.get(reply, 0) + row[move] * bound
         return min(sums.values()) // total
 
-    bounds = fold(graph, lambda state: sign * state.payoff * SCALE, _rounded_mean, node)
+    def mean(state: State, cell: Cell, numbers: Sequence[int]) -> int:
+        """The mean over the draws of one pair of moves, rounded down."""
+        if isinstance(cell, int):
+            return numbers[cell]
+        return sum(chance * (numbers[after] + sign * SCALE * paid)
+                   for chance, after, paid in cell) // CHANCE
+
+    bounds = fold(graph, lambda state: sign * state.payoff * SCALE, mean, node)
     return {state.key: sign * bound for state, bound in zip(graph.states, bounds)}
-
-
-def _rounded_mean(state: State, cell: Cell, numbers: Sequence[int]) -> int:
-    """The mean over the draws of one pair of moves, rounded down."""
-    if isinstance(cell, int):
-        return numbers[cell]
-    return sum(chance * numbers[after] for chance, after in cell) // CHANCE
 
 
 def _support(sheet: Sheet, state: State) -> list[int]:

@@ -1,14 +1,20 @@
 """The files that the command line reads and writes: positions, tables and reports."""
 from __future__ import annotations
 
+import math
+import sys
 from collections.abc import Iterator
-from contextlib import contextmanager
+from contextlib import contextmanager, redirect_stdout
+from dataclasses import replace
+from fractions import Fraction
 from pathlib import Path
 
 from .errors import DosolveError, InputRefusedError, InvalidError
+from .games.game import SCALE
 from .players.loading import load_table
 from .positions import Asked, Position
 from .reports import Report
+from .tables.making import SHOWN
 from .tables.names import names_file
 from .tables.table import Table, read_matrix
 
@@ -30,15 +36,45 @@ def naming(path: Path) -> Iterator[None]:
         raise
 
 
-def read_position(path: Path, asked: Asked) -> Position:
-    """The position of a file, with what is asked in place of what the file asks or leaves out; of
-    a file that tells a game, the one with the package's defaults."""
+def read_position(path: Path, asked: Asked, gap: Fraction | None = None,
+                  rounded: bool = False) -> Position:
+    """The position of a file, with what is asked in place of what the file asks or leaves out, and
+    a gap in payoffs of the rules; of a file that tells a game, the one with the package's
+    defaults."""
     with naming(path):
         if path.suffix.lower() not in _GAMES:
-            return _loaded(path, asked)
-        found = Position(read_table(path, None), **asked)
+            if rounded:
+                raise InvalidError("only a matrix (.csv) can be rounded, or a Python file by "
+                                   "rounded=True")
+            found = _loaded(path, asked)
+        else:
+            found = Position(read_table(path, None, rounded), **asked)
+        found = with_gap(found, gap)
         found.text()  # refused here where it is too long
     return found
+
+
+def with_gap(position: Position, gap: Fraction | None) -> Position:
+    """The position with a gap in payoffs of the rules, rounded down to what it can ask; itself
+    where none is given."""
+    if gap is None:
+        return position
+    game = position.game
+    low, high = game.span
+    span = game.of_rules(high - low)
+    if gap >= span > 0:
+        raise InvalidError(f"a gap of {float(gap):g} is no narrower than the range of payoffs, "
+                           f"{float(span):g}: a gap is in payoffs, and a thousandth of one is "
+                           f"0.001")
+    return replace(position, gap=math.floor(gap * SCALE * game.scale))
+
+
+@contextmanager
+def aside() -> Iterator[None]:
+    """Has what players and games of one's own print go to standard error, since standard output
+    is for answers."""
+    with redirect_stdout(sys.stderr):
+        yield
 
 
 def _loaded(path: Path, asked: Asked) -> Position:
@@ -52,19 +88,27 @@ def _loaded(path: Path, asked: Asked) -> Position:
                                               f"with {', '.join(_GAMES)}") from None
 
 
-def read_table(source: Path, rounds: int | None) -> Table:
+def read_table(source: Path, rounds: int | None, rounded: bool = False) -> Table:
     """The table of a file, by its ending."""
     ending = source.suffix.lower()
     if rounds is not None and ending not in (".json", ".csv"):
         raise InvalidError(f"{source} is no matrix that is played for some rounds")
+    if rounded and ending not in (".json", ".csv"):
+        raise InvalidError(f"{source} is no matrix that can be rounded: a Python file rounds by "
+                           f"rounded=True")
     if ending == ".py":
-        return load_table(source)
+        shown = SHOWN.set(sys.stderr.isatty())
+        try:
+            with aside():
+                return load_table(source)
+        finally:
+            SHOWN.reset(shown)
     if ending in (".nfg", ".efg"):
         return Table.from_gambit(source)
     matrix, one, two = read_matrix(source)
     if rounds is None:
-        return Table.from_matrix(matrix, one, two)
-    return Table.repeated(matrix, rounds, one, two)
+        return Table.from_matrix(matrix, one, two, rounded)
+    return Table.repeated(matrix, rounds, one, two, rounded)
 
 
 def read_report(path: Path) -> Report:

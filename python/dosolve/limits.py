@@ -33,13 +33,25 @@ MOST_TURNS = 1_099_511_627_776
 """The turns of a worker, and the visits of its serial searches."""
 
 MOST_ROWS = 1_048_576
-"""The rows of a board, and of a sheet."""
+"""The rows of a board, and of a sheet of a report below the newest version."""
+
+NEWEST_VERSION = 3
+"""The version of reports that tells what no version before can."""
+
+MOST_WIDE_ROWS = 16_777_216
+"""The rows of a sheet of a report of the newest version."""
+
+MOST_WIDE_MOVES = 64
+"""The weights of a row of a report of the newest version."""
 
 MOST_WORKERS = 16
 """The threads of a search."""
 
 MOST_MOVES = 32
 """The moves of a player in a state."""
+
+MOST_OWN_MOVES = 4096
+"""The moves of a player in a state of a game that is written in Python, which no report is on."""
 
 MOST_DRAWS = 13
 """The draws after a pair of moves."""
@@ -48,10 +60,16 @@ MOST_RANK = 31
 """The turns of a game."""
 
 MOST_PAYOFF = 4000
-"""The greatest size of a payoff of a table."""
+"""The greatest size of a payoff of a table, and of what One can still get in a state of it."""
+
+MOST_REWARD = 1_000_000
+"""The greatest size of what a turn of a table pays."""
 
 MOST_STATES = 524_288
 """The states of a table."""
+
+MOST_WIDE_STATES = 16_777_216
+"""The states of a table in a report of the newest version."""
 
 MOST_GAP = 8_000_000_000
 """The widest gap that can be asked, in millionths."""
@@ -69,7 +87,10 @@ MOST_POSITION_BYTES = 1_048_576
 """How long the text of a position can be."""
 
 MOST_REPORT_BYTES = 1_073_741_824
-"""How long a report can be."""
+"""How long a report below the newest version can be."""
+
+MOST_WIDE_REPORT_BYTES = 4_294_967_296
+"""How long a report of the newest version can be."""
 
 MOST_DEPTH = 127
 """How deep arrays and objects of JSON can stand in one another."""

@@ -37,6 +37,7 @@ class PlayState:
         self.state = state
         self._chosen: tuple[Move, Move] | None = None
         self._history: list[int] = []
+        self._paid = self._last = 0
 
     def __str__(self) -> str:
         return f"{self.state!r}{' before a draw' if self._chosen else ''}"
@@ -45,6 +46,7 @@ class PlayState:
         """Another state that is equal now, and changes by itself."""
         found = PlayState(self.state)
         found._chosen, found._history = self._chosen, list(self._history)
+        found._paid, found._last = self._paid, self._last
         return found
 
     def current_player(self) -> int:
@@ -90,18 +92,25 @@ class PlayState:
         moves = self.state.move_labelled("one", one), self.state.move_labelled("two", two)
         self._history += [one, two]
         if len(self.state.chances(*moves)) > 1:
-            self._chosen = moves
+            self._chosen, self._last = moves, 0
         else:
-            self.state = self.state.after(*moves)
+            self._go(moves, 0)
 
     def apply_action(self, action: int) -> None:
         """Makes a draw."""
         if self._chosen is None:
             raise InvalidError("apply_action makes a draw, and none is to be made; both players' "
                                "moves are made by apply_actions")
-        self.state = self.state.after(*self._chosen, int(action))
+        self._go(self._chosen, int(action))
         self._history.append(int(action))
         self._chosen = None
+
+    def _go(self, moves: tuple[Move, Move], draw: int) -> None:
+        """Goes on to the state after both moves and a draw."""
+        after = self.state.after(*moves, draw)
+        self._last = self.state.rewards(*moves)[draw]
+        self._paid += self._last
+        self.state = after
 
     def child(self, action: int) -> PlayState:
         """A clone after a draw."""
@@ -109,9 +118,17 @@ class PlayState:
         found.apply_action(action)
         return found
 
+    def rewards(self) -> list[float]:
+        """What both players got by the last turn, an end's payoff included."""
+        return self._both(self._last)
+
     def returns(self) -> list[float]:
-        """The payoffs of both players; 0 each before the end."""
-        payoff = float(self.state.payoff) if self.is_terminal() else 0.0
+        """What both players got so far, an end's payoff included."""
+        return self._both(self._paid)
+
+    def _both(self, paid: int) -> list[float]:
+        """What One got, and its negative; where the game is over, with the end's payoff."""
+        payoff = float(paid + (self.state.payoff if self.is_terminal() else 0))
         return [payoff, -payoff]
 
     def history(self) -> list[int]:

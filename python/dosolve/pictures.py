@@ -15,6 +15,7 @@ from pathlib import Path
 from typing import TYPE_CHECKING
 
 from .errors import DosolveError, InvalidError
+from .exact import steps
 from .games.game import CHANCE, SCALE, SIDES, Move, Side, State
 from .games.goofspiel import GoofspielDrawnState, GoofspielState
 from .games.pursuit import PursuitState
@@ -23,7 +24,7 @@ from .players.sheets import Sheet
 from .reports import Report
 from .solver.progress import Progress
 from .tables.table import Table, TableState
-from .values import FilePath, as_points, cut
+from .values import FilePath, as_number, as_points, cut
 
 if TYPE_CHECKING:
     from matplotlib.axes import Axes
@@ -43,6 +44,8 @@ _PAPER = {"facecolor": "white", "edgecolor": "none", "pad": 1}
 """What stands behind a text, so that no line goes through it."""
 
 _CAPTION = "Moves of One and Two with their probability; below, the bounds of what follows"
+_PAYING = ("Moves of One and Two with what the turn pays and its probability; below, the bounds of "
+           "what is still to come")
 
 _MOST_LABELS = 7
 """How many labels an axis of gaps has with other digits than 1."""
@@ -192,16 +195,14 @@ def _axis(axes: Axes, report: Report, state: State, is_root: bool, zoom: bool) -
     """Both bounds and the gap on the axis of payoffs."""
     bounds = {side: report.bound(side) if is_root else report.sheet(side).bound(state)
               for side in SIDES}
-    gap = bounds["two"] - bounds["one"]
-    ends = [bounds[side] / SCALE for side in SIDES]
-    _set_range(axes, report, ends, zoom)
+    gap, shown = bounds["two"] - bounds["one"], report.game.shown
+    ends = [float(report.game.unscaled(bounds[side])) for side in SIDES]
+    _set_range(axes, state, ends, zoom)
     axes.set_ylim(0, 4)
     axes.set_yticks([])
     for spine in ("top", "left", "right"):
         axes.spines[spine].set_visible(False)
-    scale = report.game.scale
-    times = f", that of the rules times {scale}" if scale != 1 else ""
-    axes.set_xlabel(f"payoff of player one{times}", fontsize=9)
+    axes.set_xlabel("payoff of player one", fontsize=9)
     axes.axvspan(*ends, ymin=0.02, ymax=0.5, color="#c9c9c9", linewidth=0)
     for (side, word), at in zip(_BOUNDS, ends):
         # One above the other, so that both are seen where they meet.
@@ -209,17 +210,17 @@ def _axis(axes: Axes, report: Report, state: State, is_root: bool, zoom: bool) -
         axes.plot([at, at], [0, 2], color=_COLOURS[side], linewidth=1.2)
         axes.plot([at], [height], marker=">" if side == "one" else "<", markersize=10,
                   color=_COLOURS[side], clip_on=False)
-        axes.text(0 if side == "one" else 1, 0.96, f"{word} {as_points(bounds[side])}",
+        axes.text(0 if side == "one" else 1, 0.96, f"{word} {shown(bounds[side], side == 'two')}",
                   color=_COLOURS[side], va="top", ha="left" if side == "one" else "right",
                   fontsize=10, transform=axes.transAxes)
     closeness = f", {report.closeness}" if is_root else ""
-    axes.text(0.5, 0.68, f"gap {as_points(gap)}{closeness}", ha="center", va="top", fontsize=9,
+    axes.text(0.5, 0.68, f"gap {shown(gap, True)}{closeness}", ha="center", va="top", fontsize=9,
               transform=axes.transAxes)
 
 
-def _set_range(axes: Axes, report: Report, ends: list[float], zoom: bool) -> None:
-    """The axis from the least to the greatest payoff, or round the bounds alone."""
-    low, high = report.game.low, report.game.high
+def _set_range(axes: Axes, state: State, ends: list[float], zoom: bool) -> None:
+    """The axis from the least to the greatest that One can still get, or round the bounds alone."""
+    low, high = (float(state.game.of_rules(end)) for end in (state.least, state.most))
     if zoom:
         room = abs(ends[1] - ends[0]) or max(1e-6, (high - low) / 1e6)
         axes.set_xlim(min(ends) - room, max(ends) + room)
@@ -321,7 +322,8 @@ def tree(report: Report, turns: int = 2, most: int | None = None) -> Figure:
     axes.set_xlim(-0.45, turns + 0.1)
     axes.set_ylim(leaves - 0.3, -0.7)
     picture.suptitle(_title(report, report.game.root(), None), fontsize=10)
-    axes.text(0.5, 1, _CAPTION, ha="center", va="bottom", fontsize=8, color=_GREY,
+    caption = _PAYING if report.game.has_rewards else _CAPTION
+    axes.text(0.5, 1, caption, ha="center", va="bottom", fontsize=8, color=_GREY,
               transform=axes.transAxes)
     _draw_branch(axes, root, report)
     return picture
@@ -352,12 +354,19 @@ def _steps(state: State, report: Report) -> list[tuple[str, Fraction, State]]:
         for two, yours in enumerate(weights[1]):
             both = Fraction(mine * yours, report.weight**2)
             if both:
-                outcomes = state.outcomes(Move(one), Move(two))
-                for draw, (chance, after) in enumerate(outcomes):
-                    drawn = f", draw {draw}" if len(outcomes) > 1 else ""
-                    found.append((f"{names[0][one]} - {names[1][two]}{drawn}",
+                draws = state.draw_names(Move(one), Move(two))
+                outcomes = steps(state, state.moves("one")[one], state.moves("two")[two])
+                for draw, (chance, after, reward) in enumerate(outcomes):
+                    drawn = f", {cut(draws[draw], 24)}" if draws else ""
+                    found.append((f"{names[0][one]} - {names[1][two]}{drawn}"
+                                  f"{_paid(state, reward)}",
                                   both * Fraction(chance, CHANCE), after))
     return found
+
+
+def _paid(state: State, reward: int) -> str:
+    """What a turn pays, in payoffs of the rules; nothing where it pays nothing."""
+    return f", pays {as_number(state.game.of_rules(reward)):g}" if reward else ""
 
 
 def _place(branch: _Branch, places: Iterator[int]) -> None:
@@ -385,11 +394,13 @@ def _draw_branch(axes: Axes, branch: _Branch, report: Report) -> None:
 
 
 def _worth(state: State, report: Report) -> str:
-    """What is known of the value of a state."""
+    """What is known of the value of a state, behind the name that a table has for it."""
+    game = report.game
     if state.is_end:
-        return f"end, payoff {state.payoff}"
-    bounds = [report.sheet(side).bound(state) / SCALE for side in SIDES]
-    return f"{bounds[0]:z.3f} to {bounds[1]:z.3f}"
+        return f"end, payoff {as_number(game.of_rules(state.payoff)):g}"
+    name = cut(" ".join(state.name.split()), 28) if isinstance(state, TableState) else ""
+    bounds = [float(game.unscaled(report.sheet(side).bound(state))) for side in SIDES]
+    return f"{name}{': ' if name else ''}{bounds[0]:z.3f} to {bounds[1]:z.3f}"
 
 
 def _plain(axes: Axes, title: str) -> None:

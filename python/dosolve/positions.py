@@ -8,10 +8,10 @@ import os
 from collections.abc import Mapping
 from dataclasses import dataclass, replace
 from pathlib import Path
-from typing import Any, cast
+from typing import TYPE_CHECKING, Any, cast
 
 from .errors import InputRefusedError, InvalidError
-from .games.game import AnyGame, Field, Game
+from .games.game import AnyGame, Field, Game, State
 from .games.goofspiel import Goofspiel, GoofspielDrawn
 from .games.oshi_zumo import OshiZumo
 from .games.pursuit import Pursuit
@@ -23,6 +23,9 @@ from .limits import (
 from .tables.names import require_names, save_names, with_names
 from .tables.table import Table
 from .values import FilePath, Record, as_field, cut, shorten
+
+if TYPE_CHECKING:
+    from .reports import Report
 
 _KINDS: tuple[type[AnyGame], ...] = (
     Goofspiel, OshiZumo, Tron, GoofspielDrawn, Pursuit, Table,
@@ -75,8 +78,9 @@ class Position:
 
     def __post_init__(self) -> None:
         if type(self.game) not in _KINDS:
-            hint = ("; Table.from_game makes a table of it"
-                    if isinstance(self.game, Game) else "")
+            hint = ("; Table.from_game makes a table of it" if isinstance(self.game, Game) else
+                    "; Position.at(report, state) begins in a state"
+                    if isinstance(self.game, State) else "")
             raise InvalidError(f"the program has the games {', '.join(GAMES)}, and "
                                f"{cut(repr(self.game), 60)} is none of them{hint}")
         if self.rows is None:
@@ -101,9 +105,31 @@ class Position:
         return text
 
     @classmethod
-    def read(cls, data: bytes | str, asked: Asked | None = None) -> Position:
-        """The position of a text, refused as the program refuses it; `load` reads a file. What is
-        in `asked` takes the place of what the text asks, and of what it leaves out."""
+    def at(cls, report: Report | AnyGame, state: State, **asked: Any) -> Position:
+        """The position of the game that begins in a state of a report's game, or of a game, one
+        that the report's plans never come to too: "solve from here". It asks what the report
+        asked for, its gap and weight, unless told otherwise, and else what `Position` asks."""
+        game = report if isinstance(report, Game) else report.game
+        if not isinstance(report, Game):
+            asked = {"gap": report.asked, "weight": report.weight} | asked
+        if not isinstance(state, State):
+            raise InvalidError(f"Position.at takes a state, such as report.game.state_after(..), "
+                               f"not {shorten(state)}")
+        if state.is_end:
+            raise InvalidError(f"the game is over in {state}")
+        return cls(game.starting_at(state), **asked)
+
+    @classmethod
+    def read(cls, data: bytes | str, asked: Asked | None = None,
+             absent: Asked | None = None) -> Position:
+        """The position of a text; `load` reads a file. What is in `asked` takes the place of what
+        the text asks, and of what it leaves out.
+
+        What the program refuses is refused as the program does it, but for what is asked: where
+        budgets are left out, `absent` and then the defaults of `Position` fill them in, with
+        `stages` too. A text that has all that the program requires means what it means there, so
+        that without `stages` it asks for `regret`.
+        """
         entries = _entries(data) | dict(asked or {})
         game = _game(entries)
         unknown = sorted(set(entries) - {"game"} - {each.name for each in (*game.settings, *ASKED)})
@@ -115,10 +141,13 @@ class Position:
         for field in (*game.settings, *ASKED):
             if field.name in entries:
                 field.refuse(entries[field.name])
-            elif field.absent is None:
+            elif field not in ASKED:
                 raise InputRefusedError(f"input 12 missing {field.name}", _missing(game, entries))
         settings = [entries[field.name] for field in game.settings]
-        given = {field.name: entries.get(field.name, field.absent) for field in ASKED}
+        whole = all(field.name in entries for field in ASKED if field.absent is None)
+        given: dict[str, Any] = {field.name: field.absent for field in ASKED if whole}
+        given |= dict(absent or {})
+        given |= {field.name: entries[field.name] for field in ASKED if field.name in entries}
         return cls(game(*settings), **given)
 
     @classmethod
@@ -173,12 +202,9 @@ def _game(entries: Record) -> type[AnyGame]:
 
 
 def _missing(game: type[AnyGame], entries: Record) -> str:
-    """Which fields a position lacks, and where some that serve are found."""
-    lacking = [each for each in (*game.settings, *ASKED)
-               if each.absent is None and each.name not in entries]
-    names = ", ".join(each.name for each in lacking)
-    start = "; docs/CHOOSING.md has a line to start with" if lacking[-1] in ASKED else ""
-    return f"the position lacks {names}{start}"
+    """Which fields of its game a position lacks."""
+    names = ", ".join(each.name for each in game.settings if each.name not in entries)
+    return f"the position lacks {names}"
 
 
 def _entries(data: bytes | str) -> Record:

@@ -2,6 +2,7 @@
 from __future__ import annotations
 
 import html
+import math
 import re
 from collections.abc import Iterator, Sequence
 from dataclasses import dataclass, field, replace
@@ -9,14 +10,18 @@ from fractions import Fraction
 from pathlib import Path
 
 from .errors import InputRefusedError, InvalidError, ReportRefusedError
-from .games.game import CHANCE, SCALE, SIDES, AnyGame, Move, Side, State, other, side_of
+from .exact import steps
+from .games.game import CHANCE, SCALE, SIDES, AnyGame, Side, State, other, side_of
+from .games.python_game import PythonGame
 from .limits import (
-    LEAST_WEIGHT, MOST_BOUND, MOST_GAP, MOST_KEY, MOST_REPORT_BYTES, MOST_RESOLUTION, MOST_ROWS,
-    MOST_TURNS, MOST_WEIGHT, MOST_WORKERS,
+    LEAST_WEIGHT, MOST_BOUND, MOST_GAP, MOST_KEY, MOST_MOVES, MOST_REPORT_BYTES, MOST_RESOLUTION,
+    MOST_ROWS, MOST_TURNS, MOST_WEIGHT, MOST_WIDE_MOVES, MOST_WIDE_REPORT_BYTES, MOST_WIDE_ROWS,
+    MOST_WORKERS, NEWEST_VERSION,
 )
 from .players.sheets import Row, Sheet
 from .positions import GAMES, looks_like_path
 from .tables.names import require_names, save_names, with_names
+from .tables.table import Table
 from .values import FilePath, Record, as_points, cut, require_range, shorten
 
 OUTCOMES = ("closed", "settled", "spent", "full")
@@ -27,7 +32,13 @@ Setting = str | int | tuple[int, ...]
 _STOPPED = {"time": "the time was up", "interrupt": "the search was interrupted"}
 """What can end a search before its own end, in words."""
 
-_HEADS = {b"dosolve report %d\n" % version: version for version in (1, 2)}
+UNIT = "payoff of One"
+"""The unit of bounds and payoffs in JSON: what One gets by the rules of the game."""
+
+MOST_WALKED = 2000
+"""The rows of a plan that is followed for notes."""
+
+_HEADS = {b"dosolve report %d\n" % version: version for version in range(1, NEWEST_VERSION + 1)}
 _NUMBER = re.compile(rb"0|-?[1-9][0-9]*")
 
 
@@ -37,11 +48,12 @@ def outcome_of(gap: int, asked: int, resolution: int) -> str:
     return "closed" if gap <= asked else "settled" if gap <= resolution else "spent"
 
 
-def scale_notes(game: AnyGame) -> tuple[str, ...]:
-    """What a reader of payoffs has to know where these are not those of the rules."""
-    if game.scale == 1:
+def table_notes(game: AnyGame) -> tuple[str, ...]:
+    """What a reader of payoffs has to know of a table that was rounded."""
+    if not isinstance(game, Table) or not game.error:
         return ()
-    return (f"payoffs and bounds are those of the rules times {game.scale}",)
+    return (f"the table was rounded: the value of the game is within "
+            f"{as_points(math.ceil(game.error * SCALE))} of that of the table",)
 
 
 @dataclass(frozen=True, repr=False)
@@ -54,8 +66,12 @@ class Report:
     asked, `settled` at most the resolution, which can be wider than all payoffs. `notes()` and
     `is_vacuous` say what the numbers are worth.
 
-    `stopped` is what ended a search within seconds before its own end, `time` or `interrupt`; it
-    is no part of the text, and equal reports can differ in it.
+    `stopped` is what ended a search within seconds before its own end, `time` or `interrupt`, and
+    `board` the rows that were asked for, None where they are not known; both are no part of the
+    text, and equal reports can differ in them.
+
+    The fields are those of the text: millionths, of a table with a `scale` those of payoffs times
+    that scale. What is printed, `record` and `interval` have payoffs of the rules.
     """
 
     game: AnyGame
@@ -70,6 +86,7 @@ class Report:
     one: Sheet
     two: Sheet
     stopped: str = field(default="", compare=False)
+    board: int | None = field(default=None, compare=False)
 
     def __post_init__(self) -> None:
         object.__setattr__(self, "spent", tuple(self.spent))
@@ -88,6 +105,11 @@ class Report:
         if not 1 <= len(self.spent) <= MOST_WORKERS:
             raise InvalidError(f"spent has {len(self.spent)} numbers, and has to have one for each "
                                f"of 1 to {MOST_WORKERS} workers")
+        if isinstance(self.game, PythonGame):
+            raise InvalidError(f"no report is on a game that is written in Python: "
+                               f"{type(self.game).__name__} can be measured by plan, respond, "
+                               f"expected_of and live_match, or made a table of by "
+                               f"Table.from_game")
         for worker, turns in enumerate(self.spent):
             require_range(f"spent of worker {worker}", turns, 0, MOST_TURNS)
         for side, sheet in (("one", self.one), ("two", self.two)):
@@ -103,7 +125,16 @@ class Report:
     @property
     def span(self) -> int:
         """The greatest payoff of the game less the least, in millionths."""
-        return (self.game.high - self.game.low) * SCALE
+        low, high = self.game.span
+        return (high - low) * SCALE
+
+    @property
+    def version(self) -> int:
+        """The version of the report's form: the first that has its game, or the newest where no
+        other tells the game, or a plan of so many rows."""
+        wide = max(len(self.one.rows), len(self.two.rows)) > MOST_ROWS
+        new = wide or self.game.is_new(self.game.line_values())
+        return NEWEST_VERSION if new else self.game.version
 
     @property
     def interval(self) -> tuple[Fraction, Fraction]:
@@ -114,13 +145,17 @@ class Report:
     @property
     def closeness(self) -> str:
         """How the gap is beside the one asked, in words: `closed`, or what was asked."""
-        return "closed" if self.gap <= self.asked else f"asked {as_points(self.asked)}"
+        return "closed" if self.gap <= self.asked else f"asked {self.game.shown(self.asked)}"
 
     @property
     def _ending(self) -> str:
         """The outcome, and where the gap is wider than asked, what was asked."""
-        asked = "" if self.gap <= self.asked else f", {self.closeness}"
-        return f"{self.outcome}{asked}"
+        if self.gap <= self.asked:
+            return self.outcome
+        ending = {"time": "time up", "interrupt": "interrupted"}.get(self.stopped, self.outcome)
+        if ending == "spent" and self.turns == 0:
+            ending = "no turns"
+        return f"{ending}, {self.closeness}"
 
     @property
     def is_vacuous(self) -> bool:
@@ -139,36 +174,98 @@ class Report:
         found = []
         if self.is_vacuous:
             found.append("the bounds are no better than the range of payoffs: nothing is known yet")
+        more = self._more_notes()
         if self.stopped:
-            found.append(f"{_STOPPED[self.stopped]}: more seconds can narrow the gap")
+            found.append(f"{_STOPPED[self.stopped]}{more or ': more seconds can narrow the gap'}")
         elif "turns" in self.used_up:
             found.append("every worker used up its turns: more turns may narrow the gap")
         elif self.turns == 0 and self.gap > self.asked:
             found.append("no turns were allowed: the bounds are those of pure plans, or of plans "
                          "of players")
         if "rows" in self.used_up:
-            found.append("the board had no row left: more rows can narrow the gap")
-        return (*found, *scale_notes(self.game))
+            rows = f" of {self.board} rows" if self.board else ""
+            most = self.board == MOST_ROWS
+            found.append(f"the board{rows} had no row left" + (
+                more or (": that is the most that is possible" if most else
+                         f": more rows can narrow the gap{self._counted()}")))
+        return (*found, *table_notes(self.game))
+
+    def _more_notes(self) -> str:
+        """Why neither seconds nor rows help, where that is known."""
+        if self.gap <= self.asked or self.game.fits() is not False:
+            return ""
+        return (f": the game has more than {MOST_ROWS} states, the most that a board has room for, "
+                f"so that neither more seconds nor more rows give more than wide bounds")
+
+    def _counted(self) -> str:
+        """How many rows the game needs, where it counts its states."""
+        count = self.game.count_states()
+        return f" ({count} states need one each)" if count is not None else ""
 
     def row_notes(self, side: Side) -> tuple[str, ...]:
         """What a reader of games and worst cases has to know: that a plan does not play what its
-        rows say."""
+        rows say, or never comes to them; a plan of many rows is not followed for that."""
         states = list(self.sheet(side).unplayed())
-        if not states:
-            return ()
-        rows = f"{len(states)} such row{'s' if len(states) > 1 else ''}"
-        return (f"the row of player {side} in {states[0]} has not one weight for each move with "
-                f"the sum {self.weight}: the first move is played there ({rows})",)
+        found = self._reach_notes(side, not states)
+        if states:
+            rows = f"{len(states)} such row{'s' if len(states) > 1 else ''}"
+            found.append(f"the row of player {side} in {states[0]} has not one weight for each "
+                         f"move with the sum {self.weight}: the first move is played there "
+                         f"({rows})")
+        return tuple(found)
+
+    def _reach_notes(self, side: Side, follows: bool) -> list[str]:
+        """Where a plan has no row for the root, or rows of no state of the game; and, followed,
+        rows that it never comes to."""
+        sheet, root = self.sheet(side), self.game.root()
+        if root.is_end or not sheet.rows:
+            return []
+        found, strangers = [], sheet.strangers()
+        if sheet.row(root) is None:
+            found.append(f"the plan of player {side} has no row for the state in which the game "
+                         f"begins, {root}: the first move is played there, and in every state "
+                         f"without a row")
+        elif follows and len(sheet.rows) <= MOST_WALKED:
+            reached = self._reached(sheet)
+            reached |= set(strangers)
+            idle = [row.key for row in sheet.rows if row.key not in reached]
+            if idle:
+                found.append(f"the plan of player {side} never comes to {len(idle)} of its rows, "
+                             f"such as that of the key {idle[0]}")
+        if strangers:
+            found.append(f"{len(strangers)} of the rows of player {side} are of no state of the "
+                         f"game, such as that of the key {strangers[0]}: were they made for "
+                         f"another position?")
+        return found
+
+    def _reached(self, sheet: Sheet) -> set[int]:
+        """The keys of the states that a plan can come to."""
+        root = self.game.root()
+        found, waiting = {root.key}, [root]
+        while waiting:
+            state = waiting.pop()
+            weights = () if state.is_end else sheet.weights(state)
+            mine = [label for label, weight in zip(state.moves(sheet.side), weights) if weight]
+            for own in mine:
+                for reply in state.moves(other(sheet.side)):
+                    pair = (own, reply) if sheet.side == "one" else (reply, own)
+                    for _, after in state.outcomes_of_labels(*pair):
+                        if after.key not in found:
+                            found.add(after.key)
+                            waiting.append(after)
+        return found
 
     def summary(self) -> str:
         """A few lines that tell what was found, in payoffs, with notes."""
+        shown = self.game.shown
         share = f" ({100 * self.gap / self.span:.3g}% of the range)" if self.span else ""
         lines = [f"game   {cut(self.game.title(), 90)}",
-                 f"value  from {as_points(self.lower)} to {as_points(self.upper)}, payoff of One",
-                 f"gap    {as_points(self.gap)}{share}, {self._ending}",
+                 f"value  from {shown(self.lower)} to {shown(self.upper, True)}, payoff of One",
+                 f"gap    {shown(self.gap, True)}{share}, {self._ending}",
                  f"turns  {sum(self.spent)} spent by {len(self.spent)} "
                  f"worker{'s' if len(self.spent) > 1 else ''}"]
-        lines += [self._root_line(side) for side in SIDES if not self.game.root().is_end]
+        if not self.game.root().is_end and not self.is_vacuous:
+            lines += [self._root_line(side) for side in SIDES]
         return "\n".join([*lines, *(f"note   {note}" for note in self.notes())]) + "\n"
 
     def _root_line(self, side: Side) -> str:
@@ -180,8 +277,10 @@ class Report:
 
     def __repr__(self) -> str:
         vacuous = ", which is the range of payoffs" if self.is_vacuous else ""
-        return (f"<Report on {cut(self.game.title(), 60)}: lower {as_points(self.lower)}, upper "
-                f"{as_points(self.upper)}, gap {as_points(self.gap)}{vacuous}, {self.closeness}>")
+        shown = self.game.shown
+        return (f"<Report on {cut(self.game.title(), 60)}: lower {shown(self.lower)}, upper "
+                f"{shown(self.upper, True)}, gap {shown(self.gap, True)}{vacuous}, "
+                f"{self.closeness}>")
 
     def __str__(self) -> str:
         return self.summary().removesuffix("\n")
@@ -212,24 +311,24 @@ class Report:
 
     def stage(self, state: State) -> list[list[tuple[Fraction, Fraction]]]:
         """The matrix game of a state, a row for each move of One: the lower and the upper bound
-        that the two plans have for what follows each pair of moves, in payoffs, exactly. Where a
-        plan has no row for a state that follows, its bound is the worst payoff of its side."""
+        that the two plans have for what follows each pair of moves, with what the turn pays, in
+        payoffs, exactly. Where a plan has no row for a state that follows, its bound is the worst
+        that its side can still get there."""
         if state.is_end:
             return []
-        return [[self._worth(state.outcomes(Move(one), Move(two)))
-                 for two in range(len(state.moves("two")))]
-                for one in range(len(state.moves("one")))]
+        return [[self._worth(list(steps(state, one, two))) for two in state.moves("two")]
+                for one in state.moves("one")]
 
-    def _worth(self, outcomes: list[tuple[int, State]]) -> tuple[Fraction, Fraction]:
-        """The mean over draws of both bounds."""
-        lower, upper = (sum((Fraction(chance * sheet.bound(after), CHANCE * SCALE)
-                             for chance, after in outcomes), Fraction(0))
+    def _worth(self, outcomes: list[tuple[int, State, int]]) -> tuple[Fraction, Fraction]:
+        """The mean over draws of both bounds, with what each draw pays."""
+        lower, upper = (sum((Fraction(chance * (sheet.bound(after) + SCALE * paid), CHANCE * SCALE)
+                             for chance, after, paid in outcomes), Fraction(0))
                         for sheet in (self.one, self.two))
         return lower, upper
 
     def text(self) -> str:
         """The report's one spelling."""
-        lines = [f"dosolve report {self.game.version}", f"game {self.game.line()}",
+        lines = [f"dosolve report {self.version}", f"game {self.game.line()}",
                  f"weight {self.weight}", f"turns {self.turns}", f"asked {self.asked}",
                  f"resolution {self.resolution}", f"outcome {self.outcome}", f"lower {self.lower}",
                  f"upper {self.upper}", _spaced("spent", *self.spent)]
@@ -239,13 +338,16 @@ class Report:
         return "\n".join([*lines, "end", ""])
 
     def record(self) -> Record:
-        """The numbers of the report, without its plans, for JSON and tables; bounds, gaps and the
-        resolution are millionths."""
+        """The numbers of the report, without its plans, for JSON and tables. Bounds, gaps and the
+        resolution are payoffs of the rules, as all numbers of JSON are (`unit`); `scale` is what
+        the report's own text has them times, beside being millionths."""
+        in_payoffs = {name: float(self.game.unscaled(getattr(self, name)))
+                      for name in ("lower", "upper", "gap", "asked", "resolution")}
         return {
             "game": self.game.name,
             "settings": self.game.record(),
-            "lower": self.lower, "upper": self.upper, "gap": self.gap, "asked": self.asked,
-            "resolution": self.resolution, "outcome": self.outcome, "weight": self.weight,
+            "unit": UNIT, "scale": str(self.game.scale),
+            **in_payoffs, "outcome": self.outcome, "weight": self.weight,
             "turns": self.turns, "spent": list(self.spent), "is_vacuous": self.is_vacuous,
             "used_up": list(self.used_up), "notes": list(self.notes()),
             "rows": {side: len(self.sheet(side).rows) for side in SIDES},
@@ -263,7 +365,8 @@ class Report:
             hint = f"{shorten(data)} looks like the name of a file, which Report.load reads"
             raise ReportRefusedError("report head", hint)
         encoded = data.encode("utf-8", "surrogatepass") if isinstance(data, str) else data
-        if len(encoded) > MOST_REPORT_BYTES:
+        newest = encoded.startswith(b"dosolve report %d\n" % NEWEST_VERSION)
+        if len(encoded) > (MOST_WIDE_REPORT_BYTES if newest else MOST_REPORT_BYTES):
             raise ReportRefusedError("report too long")
         found = _Reader(encoded).report()
         return found if game is None else found.on(game)
@@ -328,8 +431,9 @@ def _outcome_fault(report: Report) -> str:
     if wanted == "spent":
         spent = all(turns == report.turns for turns in report.spent)
         wanted = "spent or full" if spent else "full, since turns are left"
-    return (f"the gap is {as_points(report.gap)}, asked was {as_points(report.asked)}, and the "
-            f"resolution is {as_points(report.resolution)}: the outcome has to be {wanted}")
+    shown = report.game.shown
+    return (f"the gap is {shown(report.gap)}, asked was {shown(report.asked)}, and the "
+            f"resolution is {shown(report.resolution)}: the outcome has to be {wanted}")
 
 
 def _bound_explained(refusal: ReportRefusedError, key: int, report: Report) -> ReportRefusedError:
@@ -341,9 +445,9 @@ def _bound_explained(refusal: ReportRefusedError, key: int, report: Report) -> R
     sign = 1 if side == "one" else -1
     yields = sign * (sign * found // report.weight)
     return ReportRefusedError(refusal.text, (
-        f"in {state} the row of player {side} yields {as_points(yields)} against the move "
+        f"in {state} the row of player {side} yields {report.game.shown(yields)} against the move "
         f"{state.names(other(side))[reply]} of player {other(side)}, and its bound is "
-        f"{as_points(needed // report.weight)}"))
+        f"{report.game.shown(needed // report.weight)}"))
 
 
 def _spaced(*fields: object) -> str:
@@ -403,14 +507,20 @@ class _Reader:
     def game(self, version: int) -> tuple[type[AnyGame], list[Setting]]:
         """The kind and the settings of the game line."""
         line = self.line()
-        line.require(line.fields[0] == b"game" and len(line.fields) == 7)
+        line.require(line.fields[0] == b"game" and len(line.fields) >= 7)
         kind = GAMES.get(line.fields[1].decode("ascii", "replace"))
-        if kind is None or kind.version != version:
+        if kind is None or version not in (kind.version, NEWEST_VERSION):
             raise ReportRefusedError(f"report line {line.number}",
                                      f"version {version} has no such game")
-        given = list(zip(kind.line_settings or kind.settings, line.fields[2:]))
+        known = kind.line_settings(version)
+        asked = [each for each in known if not each.optional]
+        line.require(len(line.fields) - 2 in (len(asked), len(known)))
+        given = list(zip(known, line.fields[2:]))
         for each, word in given:
             line.require(not each.choices or word.decode("ascii", "replace") in each.choices)
+            if each.optional and word == b"-":
+                raise ReportRefusedError(f"report number {line.number}",
+                                         f"the list {each.name} is left out where it is empty")
         settings: list[Setting] = []
         for each, word in given:
             if each.choices:
@@ -432,11 +542,13 @@ class _Reader:
         line.require(line.fields[0] == b"spent" and 2 <= len(line.fields) <= MOST_WORKERS + 1)
         return tuple(line.spelled(field, 0, MOST_TURNS) for field in line.fields[1:])
 
-    def rows(self, side: Side) -> Iterator[Row]:
+    def rows(self, side: Side, version: int) -> Iterator[Row]:
+        newest = version == NEWEST_VERSION
+        most = MOST_WIDE_MOVES if newest else MOST_MOVES
         before = -1
-        for _ in range(self.named(side, 0, MOST_ROWS)):
+        for _ in range(self.named(side, 0, MOST_WIDE_ROWS if newest else MOST_ROWS)):
             line = self.line()
-            line.require(3 <= len(line.fields) <= 34)
+            line.require(1 <= len(line.fields) - 2 <= most)
             key = line.spelled(line.fields[0], 0, MOST_KEY)
             bound = line.spelled(line.fields[1], -MOST_BOUND, MOST_BOUND)
             weights = tuple(line.spelled(field, 0, MOST_WEIGHT) for field in line.fields[2:])
@@ -464,7 +576,7 @@ class _Reader:
         bounds = (self.named("lower", -MOST_BOUND, MOST_BOUND),
                   self.named("upper", -MOST_BOUND, MOST_BOUND))
         spent = self.spent()
-        one, two = tuple(self.rows("one")), tuple(self.rows("two"))
+        one, two = tuple(self.rows("one", version)), tuple(self.rows("two", version))
         end = self.line()
         end.require(end.fields == [b"end"])
         if self.at < len(self.data):
@@ -474,7 +586,11 @@ class _Reader:
         except InputRefusedError as refusal:
             raise ReportRefusedError(f"report position {refusal.code}", refusal.hint) from None
         sheets = (Sheet(game, "one", numbers[0], one), Sheet(game, "two", numbers[0], two))
-        return Report(game, *numbers, outcome, *bounds, spent, *sheets)
+        found = Report(game, *numbers, outcome, *bounds, spent, *sheets)
+        if version != found.version:
+            raise ReportRefusedError("report head", f"the version of this report is "
+                                                    f"{found.version}, and no other")
+        return found
 
 
 def head_fault(data: bytes) -> str:
@@ -485,4 +601,4 @@ def head_fault(data: bytes) -> str:
         return "its lines end with CR LF; the program's end with LF alone"
     if data.lstrip().startswith(b"{"):
         return "this is a position, not a report; Position.read reads one"
-    return "a report begins with the line `dosolve report 1` or `dosolve report 2`"
+    return "a report begins with the line `dosolve report 1`, or 2 or 3"

@@ -5,6 +5,7 @@ import html
 import inspect
 import os
 from collections.abc import Callable, Iterable, Sequence, Set
+from fractions import Fraction
 from numbers import Integral
 from typing import Any, TypeGuard
 
@@ -79,3 +80,8 @@ def as_points(millionths: int) -> str:
     """Millionths of a payoff as a payoff, exactly: 6 digits behind the point."""
     whole, rest = divmod(abs(millionths), 1_000_000)
     return f"{'-' if millionths < 0 else ''}{whole}.{rest:06d}"
+
+
+def as_number(payoff: Fraction) -> int | float:
+    """A payoff as a whole number where it is one, else as a float."""
+    return int(payoff) if payoff.denominator == 1 else float(payoff)

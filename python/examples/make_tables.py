@@ -9,6 +9,7 @@ from pathlib import Path
 import best_of_three
 import blotto
 import dosolve
+import raid
 import soccer
 
 COIN, SIGNS = ["heads", "tails"], best_of_three.SIGNS
@@ -22,6 +23,7 @@ def tables():
         "table_blotto": blotto.table(),
         "table_best_of_three": best_of_three.table(),
         "table_soccer": soccer.table(),
+        "table_raid": raid.table(),
     }
 
 

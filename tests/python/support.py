@@ -68,7 +68,8 @@ def children(parent: int) -> list[int]:
 def _goofspiel(kind: type[dosolve.Game], r: random.Random) -> dosolve.Game:
     cards = r.choice([1, 2, 3, 3, 4] if kind is dosolve.Goofspiel else [1, 2, 3])
     hands = [r.sample(range(1, 14), cards) for _ in range(2)]
-    return kind(*hands, [r.randint(1, r.choice([3, 100])) for _ in range(cards)], r.randint(-9, 9), r.choice(["margin", "win"]))
+    return kind(*hands, [r.randint(1, r.choice([3, 100])) for _ in range(cards)], r.randint(-9, 9),
+                r.choice(["margin", "win", "prizes"]))
 
 
 def _oshi_zumo(r: random.Random) -> dosolve.Game:
@@ -89,25 +90,27 @@ def _pursuit(r: random.Random) -> dosolve.Game:
     return dosolve.Pursuit(nodes, edges, one, two, r.randint(1, 4))
 
 
-def _cell(r: random.Random, state: int, count: int) -> int | list[list[int]]:
-    """A cell of a state that leads to one state behind it, or to several."""
+def _cell(r: random.Random, state: int, count: int, pays: bool) -> int | list[list[int]]:
+    """A cell of a state that leads to one state behind it, or to several; what it pays, where it may pay."""
     if r.random() < 0.7:
-        return r.randint(state + 1, count - 1)
+        after = r.randint(state + 1, count - 1)
+        return [[after, dosolve.CHANCE, r.randint(-4, 4)]] if pays and r.random() < 0.7 else after
     cuts = sorted(r.sample(range(1, dosolve.CHANCE), r.randint(0, 3)))
     weights = [high - low for low, high in zip([0, *cuts], [*cuts, dosolve.CHANCE])]
-    return [[r.randint(state + 1, count - 1), weight] for weight in weights]
+    return [[r.randint(state + 1, count - 1), weight, *([r.randint(-4, 4)] if pays and r.random() < 0.8 else [])]
+            for weight in weights]
 
 
 def random_listing(r: random.Random, most: int = 9) -> list:
-    """The states of a small table: some with moves, some ends among them."""
-    count = r.randint(1, most)
+    """The states of a small table: some with moves, some ends among them. In half of the tables turns may pay."""
+    count, pays = r.randint(1, most), r.random() < 0.5
     listing: list = []
     for state in range(count):
         if state == count - 1 or r.random() < 0.3:
             listing.append(r.randint(-5, 5))
             continue
         ones, twos = r.randint(1, 3), r.randint(1, 3)
-        listing.append([[_cell(r, state, count) for _ in range(twos)] for _ in range(ones)])
+        listing.append([[_cell(r, state, count, pays) for _ in range(twos)] for _ in range(ones)])
     return listing
 
 

@@ -26,7 +26,7 @@ class Bids:
         self.left, self.prize = tuple(left for left in self.left if left != prize), prize
 
     def clone(self):
-        found = Bids.__new__(Bids)
+        found = type(self).__new__(type(self))
         vars(found).update(vars(self))
         return found
 

@@ -43,7 +43,8 @@ class Commands(unittest.TestCase):
         self.assertEqual(run("solve", POSITION, "--report").stdout, kept.read_text())
         record = json.loads(run("solve", POSITION, "--json", "--seconds", "20").stdout)
         self.assertEqual((record["lower"], record["upper"], record["notes"]),
-                         (-500_000, -500_000, []))
+                         (-0.5, -0.5, []))
+        self.assertEqual((record["unit"], record["states"]), ("payoff of One", 5))
 
     def test_check_and_exploit(self):
         self.assertEqual(run("check", REPORT).stdout,
@@ -111,8 +112,11 @@ class Commands(unittest.TestCase):
         given.write_text(f'{line}\n\n{line.replace("1000,", "999,")}\n{{"game": 7}}\n')
         for _ in range(2):
             found = run("sweep", given, "-o", output)
-            self.assertEqual((found.returncode, found.stdout.count("\n")), (1, 3))
-            self.assertRegex(found.stdout, r"(?m)^0 goofspiel lower -0\.500000 .* closed seconds")
+            self.assertEqual((found.returncode, found.stdout.count("\n")), (1, 4))
+            self.assertRegex(found.stdout, r"(?m)^0 goofspiel 1,3 2,3 1,1 0 margin lower "
+                             r"-0\.500000 .* closed seconds")
+            self.assertRegex(found.stdout, r"(?m)^3 positions: 2 with bounds, 0 of which nothing is "
+                             r"known, 1 failed; widest gap 0\.000000 \(position 0\); .* of search$")
             self.assertRegex(found.stdout, r"(?m)^2 failed .*input 14 kind of game")
             self.assertIn("1 positions failed", found.stderr)
         self.assertIn(f"dosolve: results taken from {output}: 2\n", found.stderr)
@@ -133,12 +137,14 @@ class Commands(unittest.TestCase):
                         "sweep", "table"):
             self.assertEqual(run(command, "--help").returncode, 0)
         self.assertEqual(run().returncode, 2)
-        self.assertIn("0 to 8000000000, millionths of a payoff",
+        self.assertIn("the gap that is narrow enough, in payoffs, such as 0.001",
                       " ".join(run("solve", "--help").stdout.split()))
-        wrong = run("solve", POSITION, "--gap", "0.5")
-        self.assertEqual(wrong.returncode, 2)
-        self.assertIn("argument --gap: gap is '0.5', and has to be a whole number from 0 to "
-                      "8000000000 (millionths of a payoff)", wrong.stderr)
+        for words, told in ((("--gap", "-1"), "argument --gap: '-1' has to be a payoff from 0"),
+                            (("--workers", 64), "argument --workers: workers is '64', and has to "
+                             "be a whole number from 1 to 16")):
+            wrong = run("solve", POSITION, *words)
+            self.assertEqual(wrong.returncode, 2)
+            self.assertIn(told, wrong.stderr)
 
 
 class Messages(unittest.TestCase):
@@ -187,18 +193,18 @@ class Messages(unittest.TestCase):
         file = self.folder / "position.json"
         file.write_text(json.dumps({name: value for name, value in GOOD.items()
                                     if name not in ("gap", "turns", "workers", "prizes")}))
-        self.fails("four", "missing prizes: the position lacks prizes, gap, turns, workers; "
-                   "docs/CHOOSING.md has a line to start with$", "solve", file)
+        self.fails("a list", "missing prizes: the position lacks prizes$", "solve", file)
         file.write_text(json.dumps({name: value for name, value in GOOD.items()
                                     if name not in ("gap", "turns", "workers")}))
-        self.fails("two", "input 12 missing gap: the position lacks gap, workers; docs/CHOOSING",
-                   "solve", file, "--turns", 1000)
-        filled = run("solve", file, "--gap", 1000, "--turns", 1000, "--workers", 1, "--report")
+        filled = run("solve", file, "--gap", 0.001, "--turns", 1000, "--workers", 1, "--stages",
+                     "regret", "--report")
         self.assertEqual((filled.returncode, filled.stdout), (0, (TOP / REPORT).read_text()))
         file.write_text(json.dumps({name: value for name, value in GOOD.items() if name != "one"}))
         self.fails("no cards", "missing one: the position lacks one$", "solve", file)
-        self.fails("an option", "^dosolve: input 15 range of weight: weight is 5", "solve", POSITION,
-                   "--weight", 5)
+        for gap in (1000, 4):
+            self.fails("a wide gap", f"a gap of {gap} is no narrower than the range of payoffs, 4: a "
+                       "gap is in payoffs, and a thousandth of one is 0.001$", "solve", POSITION,
+                       "--gap", gap)
 
     def test_files_that_are_no_position_of_their_own(self):
         file = self.folder / "many.jsonl"

@@ -72,7 +72,8 @@ class Data(unittest.TestCase):
             self.assertEqual(tuple(pool[names]), state.names(side))
             found = report.sheet(side).row(state)
             if found is None:
-                self.assertEqual(row, 0)
+                known = state.opening(side) != report.game.opening(side)
+                self.assertEqual(row, [state.opening(side)] if known else 0)
             elif tuple(found.weights) != report.sheet(side).weights(state):
                 self.assertEqual(row, 1)
             else:
@@ -150,7 +151,6 @@ class Data(unittest.TestCase):
     def test_payoffs_of_a_table_are_those_of_its_rules(self):
         table = dosolve.Table.from_matrix([["1/2", "-1/3"], [0, 1]])
         report = dosolve.Report.of(*(dosolve.Sheet(table, side, 8192) for side in SIDES))
-        self.assertTrue(any("times 6" in note for note in report.notes()))
         data = data_of(explore.page(report).text)
         self.assertEqual((data["scale"], data["low"], data["high"]), (6, -2, 6))
         self.assertFalse(any("times 6" in note for note in data["notes"]))

@@ -45,7 +45,7 @@ class Histories(unittest.TestCase):
         two = dosolve.plan(game, "two", lambda state: [source.randint(1, 9) for _ in state.moves("two")], one.total, ask_again=0)
         seed = source.randrange(2**64)
         match = dosolve.play(dosolve.Report.of(one, two), 1, seed)
-        words, state = Words(seed), game.root()
+        words, state, paid = Words(seed), game.root(), 0
         for turn in match.turns:
             # That the moves are those of the sheets shows that the program found the rows by the package's keys.
             moves = words.pick(one.weights(state)), words.pick(two.weights(state))
@@ -54,10 +54,11 @@ class Histories(unittest.TestCase):
             self.assertEqual((*labels, draw), (turn.one, turn.two, turn.draw))
             self.assertEqual(sum(state.chances(*moves)), dosolve.CHANCE)
             rank = state.rank
+            paid += state.rewards(*moves)[draw]
             state = state.after(*moves, draw)
             self.assertLess(state.rank, rank)
         self.assertTrue(state.is_end)
-        self.assertEqual((state.payoff, state.rank, 1), (match.payoff, 0, match.games))
+        self.assertEqual((paid + state.payoff, state.rank, 1), (match.payoff, 0, match.games))
 
     def test_reports_have_the_keys_and_counts_of_moves(self):
         rows = 0

@@ -58,11 +58,7 @@ class Matches(unittest.TestCase):
                 asked.append(position)
                 return super().solve(position, *more)
 
-        halves, whole = (dosolve.Position(dosolve.Table.from_matrix([[0, win], [1, 0]]), workers=1)
-                         for win in (0.5, 1))
-        with self.assertRaisesRegex(dosolve.InvalidError, "are those of the rules times 2 and 1: "
-                                    "there is no mean of them"):
-            dosolve.tournament({"even": even}, [halves, whole], Asked())
+        whole = dosolve.Position(dosolve.Table.from_matrix([[0, 1], [1, 0]]), workers=1)
         past = {"past": lambda side, state, history: [1] * len(state.moves(side))}
         with self.assertRaisesRegex(dosolve.InvalidError, "games is 1, and has to be a whole"):
             dosolve.tournament(past, [whole], Asked(), games=1)
@@ -71,8 +67,7 @@ class Matches(unittest.TestCase):
     def test_a_tournament_has_notes_and_a_limit_of_time(self):
         halves = dosolve.Position(dosolve.Table.from_matrix([[0, 0.5], [1, 0]]), workers=1)
         found = dosolve.tournament({"even": even}, [halves, halves], dosolve.Solver(), seconds=0)
-        scaled, *rest = found.notes
-        self.assertEqual(scaled, "payoffs and bounds are those of the rules times 2")
+        rest = found.notes
         self.assertEqual([note.split(":")[0] for note in rest],
                          [f"position {number}, the solver" for number in (0, 0, 1, 1)])
         self.assertIn("no better than the range of payoffs", rest[0])

@@ -124,11 +124,13 @@ class Pictures(unittest.TestCase):
         root = report.game.root()
         self.assertTrue(pictures._title(report, root, root.key).endswith("score 0, prize 1"))
 
-    def test_payoffs_that_are_multiplied_are_told(self):
+    def test_axes_have_payoffs_of_the_rules(self):
         table = dosolve.Table.from_matrix([[0.5, 0], [0, 1]], ["a", "b"], ["c", "d"])
-        for given, words in ((table, "payoff of player one, that of the rules times 2"),
-                             (dosolve.Table(table.listing), "payoff of player one")):
-            self.look(pictures.figure(made(given, random.Random(1))), words)
+        for given, most in ((table, 1), (dosolve.Table(table.listing), 2)):
+            picture = pictures.figure(made(given, random.Random(1)))
+            self.look(picture, "payoff of player one")
+            low, high = picture.axes[2].get_xlim()
+            self.assertTrue(-most / 10 < low < 0 and most < high < 1.1 * most, (low, high))
 
     def test_bounds_over_time(self):
         lines = [f"worker 0 turns {100 * at} seconds {at}" for at in range(1, 9)]

@@ -84,6 +84,8 @@ class Sheets(unittest.TestCase):
         self.assertEqual([state.key for state in bad.unplayed()], [67143933, ROOT])
         report = dosolve.Report.of(bad, Sheet(GAME, "two", 8192))
         self.assertEqual(report.row_notes("one"), (
+            "1 of the rows of player one are of no state of the game, such as that of the key 1: were they made for another "
+            "position?",
             "the row of player one in GoofspielState(one=(1,), two=(3,), score=1, prize=1) has not one weight for each move "
             "with the sum 8192: the first move is played there (2 such rows)",))
         self.assertEqual((list(good.unplayed()), report.row_notes("two")), ([], ()))

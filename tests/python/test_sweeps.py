@@ -116,11 +116,17 @@ class Sweeps(unittest.TestCase):
         cut = dosolve.solve(position, seconds=0)
         for report, limits in ((done, {None: True, 1: True}), (cut, {None: False, 1: True, 3: False})):
             for seconds, is_old in limits.items():
+                told = {name: value for name, value in report.record().items()
+                        if name not in ("unit", "scale")}
+                told |= {name: getattr(report, name) for name in ("lower", "upper", "gap", "asked")}
                 output.write_text(json.dumps({"position": position.text().strip(), "seconds": 2.01}
-                                             | report.record() | {"report": report.text()}) + "\n")
+                                             | told | {"report": report.text()}) + "\n")
                 with concurrent.futures.ThreadPoolExecutor(1) as threads:
                     found = next(dosolve.sweep([position], threads, output, seconds=seconds))
                 self.assertEqual((found.is_old, found.report == report), (is_old, is_old))
+                mended = json.loads(output.read_text().splitlines()[0])
+                self.assertEqual((mended["unit"], mended["lower"], mended["report"]),
+                                 ("payoff of One", report.lower / 10**6, report.text()))
 
     def test_files_of_positions(self):
         file = self.folder / "one.json"
@@ -342,7 +348,7 @@ class Stopped(unittest.TestCase):
         answer, told = command.communicate(timeout=60)
         self.assertEqual((command.returncode, told, answer.count("\n")),
                          (0, f"dosolve: results taken from {self.output}: {self.QUICK}\n",
-                          len(self.given)))
+                          len(self.given) + 1))
         self.assertEqual(self.lines()[:self.QUICK], kept)
         self.assertEqual(sorted(json.loads(line)["report"] for line in self.lines()),
                          sorted(dosolve.solve(position).text() for position in self.given))

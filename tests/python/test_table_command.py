@@ -46,7 +46,7 @@ class CommandLine(unittest.TestCase):
                 ("l.Json", "\ufeff[[0, -1], [1, 0]]", [], rps),
                 ("h.py", "import dosolve\ndef table(): return dosolve.Table([5])", [], Table([5]))):
             with self.subTest(name):
-                status, out, told = self.run_table(name, text, "--gap", "7", *words)
+                status, out, told = self.run_table(name, text, "--gap", "0.000007", *words)
                 self.assertEqual((status, told), (0, ""))
                 self.assertIn(table.title(), out)
                 made = dosolve.Position.load(self.folder / "made.position")
@@ -96,13 +96,12 @@ class CommandLine(unittest.TestCase):
                  "input 82 no states: a table has at least one"),
                 ("a.py", "x", ["--rounds", "2"], "no matrix that is played for some rounds"),
                 ("a.json", "[[1]]", ["--rounds", "0"], "rounds is 0"),
-                ("a.json", "[[1]]", ["--weight", "5"], "input 15 range of weight"),
                 ("a.py", "import sys\ndef table(): sys.exit('no')", [], "raised SystemExit: no .*2"),
                 ("a.py", "raise SystemExit", [], "a.py raised SystemExit"),
                 ("a.py", "import dosolve\ndef table(): return dosolve.Table([[[1] * 32] * 32] + "
                          "[[[1025] * 32] * 32] * 300 + [0] * 725)", [],
                  "a.py: input 50 too long: table of .* bytes, and 1048576 are possible"),
-                ("a.nfg", "5", [], "the file ends where a version")):
+                ("a.nfg", "5", [], "is no file of Gambit, which begins with NFG or EFG: it begins with '5")):
             with self.subTest(pattern):
                 status, out, told = self.run_table(name, text, *words)
                 self.assertEqual((status, out, told.count("\n")), (1, "", 1), told)

@@ -12,9 +12,10 @@ import make_tables  # noqa: E402
 import soccer  # noqa: E402
 
 VALUES = {"table_pennies": 0, "table_rock": 0, "table_best_of_three": 0,
-          "table_blotto": Fraction(1, 2), "table_soccer": Fraction(1, 10)}
-"""Their values: those of symmetric games are 0, the others come of linear programs by backward
-induction."""
+          "table_blotto": Fraction(1, 2), "table_soccer": Fraction(1, 10),
+          "table_raid": Fraction("6.4291001")}
+"""Their values, of raid to seven digits: those of symmetric games are 0, the others come of linear
+programs by backward induction."""
 
 
 class Examples(unittest.TestCase):

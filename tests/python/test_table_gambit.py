@@ -78,7 +78,8 @@ class Files(unittest.TestCase):
         self.assertEqual([high.after(0, move).payoff for move in (0, 1)], [-1, 2])
         paid = root.play(one="right", two="-")
         self.assertEqual(paid.name, "other")
-        self.assertEqual([paid.after(0, move).payoff for move in (0, 1)], [1, 3])
+        self.assertEqual([paid.after(0, move).payoff for move in (0, 1)], [0, 2])
+        self.assertEqual((root.rewards(0, 0), root.rewards(1, 0)), ((0, 0), (1,)))
 
     def test_moves_at_once(self):
         self.assertEqual(self.read(AT_ONCE), Table.from_matrix([[1, -1], [-1, 1]]))
@@ -105,12 +106,20 @@ class Files(unittest.TestCase):
                                                                           [2, 1, 3]),
                   dosolve.GoofspielDrawn([1, 2, 3], [1, 2, 3], [2, 1, 3]),
                   dosolve.OshiZumo(1, 3, 3), dosolve.Tron(2, 3, [], 0, 5)]
+        refused = 0
         for game in games:
             with tempfile.TemporaryDirectory() as folder, self.subTest(game.title()):
                 file = Path(folder, "game.efg")
                 dosolve.save_gambit(game, file)
-                again = Table.from_gambit(file)
+                try:
+                    again = Table.from_gambit(file)
+                except NoTableError as fault:
+                    # Draws of turns in which nobody chooses are one draw in a file.
+                    self.assertIn("cannot be dealt out", str(fault))
+                    refused += 1
+                    continue
                 self.assertEqual(self.worth(again), self.worth(game))
+        self.assertLess(refused, 10)
         with tempfile.TemporaryDirectory() as folder:
             games[60].to_gambit(Path(folder, "game.efg"))
             again = Table.from_gambit(Path(folder, "game.efg"))
@@ -132,18 +141,18 @@ class Files(unittest.TestCase):
             'p "root" 1 1 { "H" "T" } 0', 'c "" 1 "" { "a" 1/2 "b" 1/2 } 0').replace(
             'p "" 2 2 { "H" "T" } 0', 'p "" 2 1 0')
         for text, words in (
-                ("", "the file ends where NFG or EFG"), ("XYZ 1 R \"\"", "not 'XYZ'"),
+                ("", "begins with NFG or EFG: it is empty"), ("XYZ 1 R \"\"", "it begins with 'XYZ'"),
                 (PENNIES.replace('"Two"', '"Two" "Three"', 1), "this game has 3"),
-                (PENNIES.replace("1 -1 -1 1 ", "1 -1 -1 2 "), "not zero-sum: .* 0 and to 1"),
+                (PENNIES.replace("1 -1 -1 1 ", "1 -1 -1 2 "), "line 8: the game is not zero-sum: payoffs sum to 1 here, and to 0 before"),
                 (PENNIES + "5", "'5' stands behind the end"),
-                (PENNIES.replace("1 -1\n", ""), "ends where a payoff"),
+                (PENNIES.replace("1 -1\n", ""), "line 8: expected a payoff, and the file ends"),
                 (OUTCOMES.replace("2 1\n", "2 4\n"), "no outcome of some number"),
                 (OUTCOMES.replace("1/2, 0.5", "1/2"), "1 payoffs for two"),
-                (hidden, "does not tell 'node 1' from other nodes"),
+                (hidden, "line 3: player 2 does not tell 'a' from other nodes"),
                 (AT_ONCE.replace('t "" 2\n', 't "" 7\n'), "the outcome 7 has no payoffs"),
-                (AT_ONCE.replace('t "" 2\n', 'z "" 7\n'), "'z' stands where a node"),
+                (AT_ONCE.replace('t "" 2\n', 'z "" 7\n'), "line 7: expected a node .*, not 'z'"),
                 (AT_ONCE.replace("p \"\" 2 1 {", "p \"\" 3 1 {"), "no player 3"),
-                (AT_ONCE[:-9], "ends where"), (AT_ONCE + "t", "behind the end"),
+                (AT_ONCE[:-9], "line 7: expected the number of an outcome, and the file ends"), (AT_ONCE + "t", "behind the end"),
                 (AT_ONCE.replace('{ 1 -1 }', '{ 1 -2 }'), "not zero-sum"),
                 (AT_ONCE.replace('p "" 2 1 { "H" "T" } 0', 'p "" 2 1 0'), "has no actions")):
             with self.subTest(words), self.assertRaisesRegex(NoTableError, words):

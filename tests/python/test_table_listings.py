@@ -6,7 +6,7 @@ import unittest
 
 import dosolve
 from dosolve import Table
-from dosolve.tables.lists import listed, nested
+from dosolve.tables.lists import listed, nested, spelled
 from support import random_listing
 from table_support import PENNIES, STAGES
 
@@ -24,7 +24,7 @@ class Listings(unittest.TestCase):
         source = random.Random(1)
         for _ in range(300):
             table = Table(random_listing(source))
-            self.assertEqual(nested(listed(table.listing)), table.listing)
+            self.assertEqual(nested(listed(table.listing)), spelled(table.listing))
             fields = table.line().split(" ")[1:]
             numbers = [tuple(map(int, field.split(","))) if field != "-" else ()
                        for field in fields]
@@ -36,6 +36,31 @@ class Listings(unittest.TestCase):
         self.assertTrue(one.chance_free and other.chance_free)
         self.assertEqual(other.line(), "table 1,0 1,1,0,0 0,3 -1 1,360360")
         self.assertFalse(Table(STAGES).chance_free)
+
+    def test_rewards_have_one_meaning_however_they_are_written(self):
+        def made(*cell):
+            return Table([[[list(cell), 1]], [[2, 3]], 1, -1])
+
+        same = made([1, 180180, 2], [2, 180180]), made([1, 180180, 2], [2, 180180, 0])
+        zero = made([1, 180180, 0], [2, 180180]), made([1, 180180], [2, 180180, 0])
+        none = made([1, 180180], [2, 180180])
+        for one, other in (same, zero):
+            self.assertEqual((one, hash(one), one.line()), (other, hash(other), other.line()))
+            self.assertNotEqual(one.listing, other.listing)
+            self.assertEqual(Table.of_line(*one.lists.told()), one)
+            self.assertEqual(one.starting_at(one.root()), one)
+        self.assertEqual(same[0].line().split(" ")[6:], ["2,0"])
+        self.assertEqual(zero[0].line().split(" ")[6:], ["0,0"])
+        self.assertEqual(len(none.line().split(" ")), 6)
+        self.assertEqual(len({same[0], zero[0], none}), 3)
+        # Where the list of rewards is there, each state has its own least and greatest sum.
+        self.assertEqual([(each.low, each.high) for each in (same[0], zero[0], none)],
+                         [(-1, 3), (-1, 1), (-1, 1)])
+        self.assertEqual(zero[0].state(2).opening("one"), 1_000_000)
+        self.assertEqual(none.state(2).opening("one"), -1_000_000)
+        self.assertEqual(same[0].root().rewards(0, 0), (2, 0))
+        later = same[0].starting_at(same[0].state(1))
+        self.assertEqual((later.listing, later.has_rewards), (((((1, 2),)), 1, -1), False))
 
     def test_states_are_like_those_of_other_games(self):
         root = Table(STAGES).root()
@@ -75,15 +100,20 @@ class Refusals(unittest.TestCase):
         for listing, words in (
                 (5, "has to be a list of states"), (["x"], r"states\[0\] is 'x'"),
                 ([[1]], r"states\[0\]\[0\] is 1, and has to be a list of cells"),
-                ([[["x"]]], r"states\[0\]\[0\]\[0\] is 'x'"), ([[[[1]]]], "list of two whole"),
-                ([[[[[1, 2.0]]]]], "list of two whole"), ([True], "is True"), ([1.0], "is 1.0"),
+                ([[["x"]]], r"states\[0\]\[0\]\[0\] is 'x'"), ([[[[1]]]], "list of whole num"),
+                ([[[[[1, 2.0]]]]], "list of whole num"), ([True], "is True"), ([1.0], "is 1.0"),
+                ([[[[[1, 360360, "2"]]]], 0], "out of 360360 and, where the turn pays, what One"),
+                ([[[[[1, 360360, None]]]], 0], "list of whole"),
                 ([2000000, "x"], r"states\[1\] is 'x'"), ({0: 1}, "has to be a list of states")):
             self.refused(listing, "input 14 kind of states", words)
 
     def test_ranges(self):
         for listing, words in (
                 ([1_000_001], r"states\[0\] is 1000001"), ([[[-1]]], "is -1"),
-                ([[[1_048_576]]], "from 0 to 1048575"), ([[[[[1, 2, 3]]]]], "two numbers from 0"),
+                ([[[1_048_576]]], "from 0 to 1048575"), ([[[[[1, 2, 3, 4]]]]], "two numbers from 0"),
+                ([[[[[1, 360360, 1_000_001]]]], 0],
+                 r"states\[0\]\[0\]\[0\]\[0\]\[2\] is 1000001, .* from -1000000 to 1000000"),
+                ([[[[[1, 360360, -1_000_001]]]], 0], "is -1000001"),
                 ([[[[[]]]]], "two numbers"), ([[[[[0, 1_048_576]]]]], "two numbers"),
                 ([[[1]] * 256, 0], "at most 255 rows"), ([[[1] * 256], 0], "at most 255 rows"),
                 ([[[[[1, 1]] * 256]], 0], "at most 255 draws"),
@@ -109,7 +139,12 @@ class Refusals(unittest.TestCase):
                 ([[[1], [0]], 0], "88 order 0 1 0", "leads to the state 0"),
                 ([[[1], [2]], 0], "88 order 0 1 0", "of the 2 that there are"),
                 ([[[half]], 0], "88 order 0 0 0", "leads to the state 2"),
-                ([*([[next_one]] for next_one in range(1, 33)), 0], "89 turns 0", "takes 32 turns")):
+                ([*([[next_one]] for next_one in range(1, 33)), 0], "89 turns 0", "takes 32 turns"),
+                ([[[[[1, 360360, 1]]]], 4000], "90 total 0", "can get from 4001 to 4001, and has to"),
+                ([[[[[2, 360360, 1]]]], [[[[2, 360360, -1]]]], -4000], "90 total 1", "-4001 to"),
+                ([[[2]], [[[[2, 360360, -1]]]], -4000], "90 total 1", "the state 1 on"),
+                ([[[[[1, 360360, 1]]]], 4001], "83 payoff range 1", ""),
+                ([[[[[0, 360360, 4001]]]], 0], "88 order 0 0 0", "")):
             found = self.refused(listing, f"input {text}", words)
             self.assertEqual((found.field, found.code), ("states", int(text.split()[0])))
             self.assertEqual(found.place, tuple(map(int, [word for word in text.split()[1:]
@@ -127,13 +162,19 @@ class Refusals(unittest.TestCase):
                 (good, 2, (1, 1, -1), 81), (good, 3, (1, 2, 2), 81), (good, 4, (1, 2), 81),
                 (drawn, 3, (-2,), 81), (drawn, 3, (1,), 81), (good, 3, (1, 2, 2, -1), 86),
                 (drawn, 4, (1, 180180, 2, 180181), 87), (good, 3, (1, 2, 2, 0), 88),
-                (good, 0, (2, 0, 0), 89), (good, 2, (0, 1, -4001), 83)):
+                (good, 0, (2, 0, 0), 89), (good, 2, (0, 1, -4001), 83),
+                ([*drawn, ()], 5, (1,), 81), ([*drawn, ()], 5, (1, 2, 3), 81),
+                ([*good, ()], 5, (1,), 81), ([*drawn, ()], 5, (4000, 0), 90)):
             changed = list(lists)
             changed[place] = value
             with self.subTest(changed), self.assertRaises(dosolve.InputRefusedError) as found:
                 Table.of_line(*changed)
             self.assertEqual(found.exception.code, code)
-        for code in range(81, 90):
+        paid = Table.of_line(*drawn, (2, 0))
+        self.assertEqual(paid.listing[0], (((((1, 180180, 2), (2, 180180)),),)))
+        self.assertEqual(Table.of_line(*drawn, ()), Table.of_line(*drawn))
+        self.assertNotEqual(Table.of_line(*drawn, (0, 0)), Table.of_line(*drawn))
+        for code in range(81, 91):
             self.assertTrue(dosolve.ReportRefusedError(f"report position {code}").hint)
             self.assertTrue(dosolve.InputRefusedError(f"input {code} x").hint)
 

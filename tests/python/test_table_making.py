@@ -53,10 +53,10 @@ class Making(unittest.TestCase):
 
     def test_rounds(self):
         table = Table.repeated([[1, -1], [-1, 1]], 3, "HT", "HT")
-        self.assertEqual((table.root().rank, table.root().name), (3, "3 rounds left, sum 0"))
+        self.assertEqual((table.root().rank, table.root().name), (3, "3 rounds left"))
         after = table.root().play(one="H", two="H").play(one="H", two="T")
-        self.assertEqual((after.name, after.node), ("1 round left, sum 0", (1, 0)))
-        self.assertEqual(table.at((1, 0)), after)
+        self.assertEqual((after.name, after.node), ("1 round left", 1))
+        self.assertEqual((table.at(1), len(table.listing)), (after, 4))
         self.assertEqual(Table.repeated([[1, -1], [-1, 1]], 31).root().rank, 31)
         self.refused("rounds is 32, .* from 1 to 31", Table.repeated, [[1, -1], [-1, 1]], 32)
         self.refused("rounds is 0", Table.repeated, [[1]], 0)
@@ -66,7 +66,7 @@ class Making(unittest.TestCase):
 
         def moves(node):
             asked.append(node)
-            return "ab", "cd"
+            return ["a", "b"], ["c", "d"]
 
         for after in (lambda node, one, two: node + 1, lambda node, one, two: (node, one, two),
                       lambda node, one, two: {node + 1: 0.5, node + 2: 0.5},
@@ -78,7 +78,7 @@ class Making(unittest.TestCase):
             self.assertLessEqual(len(asked), 32)
 
         def counted(turns, step=lambda node, one: node + 1):
-            return Table.from_functions(0, lambda node: None if node >= turns else ("ab", "c"),
+            return Table.from_functions(0, lambda node: None if node >= turns else (["a", "b"], ["c"]),
                                         lambda node, one, two: step(node, one), lambda node: 0)
 
         self.assertEqual(counted(31).root().rank, 31)
@@ -111,7 +111,7 @@ class Making(unittest.TestCase):
             return Table.from_functions(0, lambda node: None if node else ([0], [0]),
                                         lambda *_: list(outcomes), lambda node: node, **more)
 
-        self.refused("2 chances such as 1/16 cannot be dealt out", made, uneven)
+        self.refused("2 chances cannot be dealt out .*1/16 is none", made, uneven)
         table = made(uneven, rounded=True)
         self.assertAlmostEqual(float(self.mean(table.root())), 31 / 16, 5)
         self.refused("17 chances", made, [(node + 1, Fraction(1, 17)) for node in range(17)])
@@ -143,7 +143,7 @@ class Making(unittest.TestCase):
     def test_none_can_be_a_node(self):
         share = Fraction(1, 17)
         table = Table.from_functions(
-            None, lambda node: ("ab", "c") if node is None else None,
+            None, lambda node: (["a", "b"], ["c"]) if node is None else None,
             lambda node, one, two: dict.fromkeys(range(17), share), int, rounded=True)
         self.assertEqual((table.root().name, table.at(None)), ("None", table.root()))
         self.assertEqual(set(table.state_names[1:]) & {"None", "chance"}, {"chance"})
@@ -183,11 +183,13 @@ class Making(unittest.TestCase):
         self.assertEqual(theirs.is_end, ours.is_end)
         if theirs.is_end:
             return self.assertEqual(theirs.payoff, ours.payoff)
+        self.assertTrue(theirs.least <= ours.least <= ours.most <= theirs.most)
         self.assertEqual((ours.node, ours.name), (theirs, str(theirs)))
         for side in dosolve.SIDES:
             self.assertEqual(theirs.names(side), ours.names(side))
         for one in range(len(theirs.moves("one"))):
             for two in range(len(theirs.moves("two"))):
+                self.assertEqual(theirs.rewards(one, two), ours.rewards(one, two))
                 pairs = zip(theirs.outcomes(one, two), ours.outcomes(one, two), strict=True)
                 for (chance, their), (weight, our) in pairs:
                     self.assertEqual(chance, weight)

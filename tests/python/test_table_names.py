@@ -43,7 +43,7 @@ class Names(unittest.TestCase):
         self.assertEqual([(row["name"], row["probability"]) for row in plan.table()],
                          [("a", 0.75), ("b", 0.25)])
         self.assertIn("one    a 75.0%, b 25.0%", str(report))
-        self.assertIn("those of the rules times 2", str(report))
+        self.assertIn("value  from 0.250000 to 1.000000, payoff of One", str(report))
         self.assertEqual(report.interval, (Fraction(1, 4), 1))
         again = dosolve.Report.read(report.text(), table)
         self.assertEqual(again.game.root().names("two"), ("c", "d"))

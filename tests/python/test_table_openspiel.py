@@ -14,7 +14,8 @@ class OpenSpiel(unittest.TestCase):
         for name in ("goofspiel", "goofspiel_drawn", "oshi_zumo", "tron", "pursuit"):
             game = random_game(name, source)
             walked = Table.from_openspiel(openspiel.new_initial_state(game), str)
-            self.assertEqual(walked, Table.from_game(game))
+            if not game.has_rewards:
+                self.assertEqual(walked, Table.from_game(game))
             self.assertEqual(walked.root().names("two"), game.root().names("two"))
 
     def test_states_of_different_turns_are_joined_where_that_is_asked(self):

@@ -27,7 +27,7 @@ def goofspiel(r):
     cards = r.choice([0, 1, 2, 2, 3, 3, 4, 4, 5])
     return dict(game="goofspiel", one=r.sample(range(1, 14), cards), two=r.sample(range(1, 14), cards),
                 prizes=[r.randint(1, r.choice([1, 5, 100])) for _ in range(cards)],
-                score=r.choice([0, r.randint(-1000, 1000)]), pay=r.choice(["margin", "win"]))
+                score=r.choice([0, r.randint(-1000, 1000)]), pay=r.choice(["margin", "win", "prizes"]))
 
 
 def oshi_zumo(r):

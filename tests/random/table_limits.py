@@ -1,7 +1,7 @@
 #!/usr/bin/env python3
 """table_limits.py PROGRAM: the longest lists of a report's line and the largest positions of a table, at the limit and beyond it.
 
-The answers follow from docs/FORMATS.md: lists of as many numbers as it allows are read, one number more is `report number 2`; a
+The answers follow from docs/FORMATS.md: lists of as many numbers as it allows are read, one number more is `report number 2`, or needs version 3; a
 position of 1048576 bytes is solved, its report accepted, and one byte more is `input 50 too long`. Prints what each took.
 """
 import json
@@ -37,12 +37,17 @@ def many_cells(count):
     return report(",".join(ranks), ",".join(moves), ",".join(values), ",".join([str(count + 1)] * count))
 
 
-def many_draws(count):
-    """The same with draws, one a cell."""
+def newest(text):
+    """The same report under version 3."""
+    return text.replace("report 2", "report 3", 1)
+
+
+def many_draws(count, rewards=()):
+    """The same with draws, one a cell, and with rewards."""
     cells = [str(-1 - place) for place in range(count)]
     text = many_cells(count).split("\n")
     words = text[1].split(" ")
-    words[5:] = [",".join(cells), ",".join([f"{count + 1},360360"] * count)]
+    words[5:] = [",".join(cells), ",".join([f"{count + 1},360360"] * count)] + [",".join(map(str, rewards))] * bool(rewards)
     return "\n".join([text[0], " ".join(words)] + text[2:])
 
 
@@ -69,6 +74,12 @@ def lists():
     yield "the longest line, whose lists do not fit", longest(), (9, "report position 81\n")
     yield "states of one cell, two less than numbers", many_cells(MOST_NUMBERS - 2), read
     yield "as many draws as can be", many_draws(MOST_NUMBERS // 2), read
+    yield "as many ends, under version 3", newest(ends(MOST_NUMBERS)), (9, "report head\n")
+    yield "one end more, under version 3", newest(ends(MOST_NUMBERS + 1)), read
+    yield "one cell more, under version 3", newest(many_cells(MOST_NUMBERS + 1)), read
+    yield "one draw more, under version 3", newest(many_draws(MOST_NUMBERS // 2 + 1)), read
+    yield "as many draws as can be, each with a reward", newest(many_draws(MOST_NUMBERS // 2, [0] * (MOST_NUMBERS // 2))), read
+    yield "one reward less", newest(many_draws(9, [0] * 8)), (9, "report position 81\n")
 
 
 def filled(states, size):

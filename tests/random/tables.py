@@ -77,8 +77,29 @@ def mixed(r, drawn, most_states):
     return made
 
 
+def paid(r, states):
+    """The states with turns that pay: some draws have a third number, so small that every sum stays in range."""
+    ends = [state for state in states if isinstance(state, int)]
+    most = min(r.choice([0, 1, 3, 50]), (MOST_PAYOFF - max(abs(payoff) for payoff in ends)) // MOST_TURNS)
+    share = r.choice([0.2, 0.6, 1])
+
+    def with_reward(one):
+        if r.random() >= share:
+            return one
+        draws = [[one, CHANCE]] if isinstance(one, int) else one
+        return [draw + [r.randint(-most, most)] if r.random() < 0.9 else draw for draw in draws]
+
+    return [state if isinstance(state, int) else [[with_reward(one) for one in row] for row in state] for state in states]
+
+
 def playable(r, most_states=8):
-    """The states of a playable table of some shape."""
+    """The states of a playable table of some shape; in every third turns pay."""
+    states = paid_at_ends(r, most_states)
+    return paid(r, states) if r.randrange(3) == 0 else states
+
+
+def paid_at_ends(r, most_states):
+    """The states of a playable table that pays at its ends alone."""
     drawn = r.choice([0, 0, 0.2, 0.5, 1])
     kind = r.randrange(12)
     if kind == 0:
@@ -96,7 +117,7 @@ def chain(turns):
 
 
 def are_draws(cell):
-    return isinstance(cell, list) and cell != [] and all(isinstance(draw, list) and [type(number) for number in draw] == [int, int] for draw in cell)
+    return isinstance(cell, list) and cell != [] and all(isinstance(draw, list) and len(draw) in (2, 3) and {type(number) for number in draw} == {int} for draw in cell)
 
 
 def changed_cell(r, old, count):
@@ -112,7 +133,9 @@ def changed_cell(r, old, count):
         elif kind == 1:
             draws.insert(place, list(draws[place]))
         elif kind == 2:
-            draws[place] = r.choice([draws[place][:1], draws[place] + [1], [], 1, None, draws[place] + ["1"]])
+            draws[place] = r.choice([draws[place][:1], draws[place] + [1], draws[place][:2], [], 1, None, draws[place] + ["1"]])
+        elif kind == 7:
+            draws[place] = draws[place][:2] + [r.choice([1, 4000, -4000, 8000, 1000000, -1000000, *FAULTY_NUMBERS, *NO_NUMBERS])]
         elif kind == 3:
             draws[place][0] = r.choice([0, count, *FAULTY_NUMBERS, *NO_NUMBERS])
         elif kind == 6:
@@ -153,9 +176,10 @@ def changed(r, states):
     return states
 
 
-def five_lists(states):
-    """Ranks, moves, values, cells and draws of a playable table, as the line of its report has them."""
-    moves, values, cells, draws, followers = [], [], [], [], []
+def lists(states):
+    """Ranks, moves, values, cells and draws of a playable table, and its rewards if turns pay, as the line of its report has them."""
+    moves, values, cells, draws, rewards, followers = [], [], [], [], [], []
+    pays = False
     for state in states:
         end = isinstance(state, int)
         moves += [0, 0] if end else [len(state), len(state[0])]
@@ -164,17 +188,19 @@ def five_lists(states):
         for one in [] if end else [one for row in state for one in row]:
             cells.append(one if isinstance(one, int) else -1 - len(draws) // 2)
             drawn = [] if isinstance(one, int) else one
-            draws += [number for draw in drawn for number in draw]
+            draws += [number for draw in drawn for number in draw[:2]]
+            rewards += [sum(draw[2:]) for draw in drawn]
+            pays = pays or any(len(draw) == 3 for draw in drawn)
             followers[-1] += [draw[0] for draw in drawn] or [one]
     ranks = [0] * len(states)
     for state in range(len(states) - 1, -1, -1):
         ranks[state] = max((ranks[after] + 1 for after in followers[state]), default=0)
-    return ranks, moves, values, cells, draws
+    return [ranks, moves, values, cells, draws] + [rewards] * pays
 
 
 def line(states):
     """The line of a report that has these states."""
-    return " ".join(["game table"] + [",".join(map(str, numbers)) or "-" for numbers in five_lists(states)])
+    return " ".join(["game table"] + [",".join(map(str, numbers)) or "-" for numbers in lists(states)])
 
 
 def tree_size(states):
@@ -182,7 +208,7 @@ def tree_size(states):
     sizes = [1] * len(states)
     for state in range(len(states) - 1, -1, -1):
         for one in [] if isinstance(states[state], int) else [one for row in states[state] for one in row]:
-            sizes[state] += sizes[one] if isinstance(one, int) else sum(sizes[after] for after, _ in one)
+            sizes[state] += sizes[one] if isinstance(one, int) else sum(sizes[draw[0]] for draw in one)
     return sizes[0]
 
 

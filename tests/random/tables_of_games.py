@@ -38,14 +38,14 @@ def table(position):
         if payoff(state) is None:
             ones, twos = in_order(position, state, moves(state))
             cells[state] = [[after(state, a, b) for b in twos] for a in ones]
-            stack += [follower for row in cells[state] for cell in row for follower, _ in cell if follower not in cells]
+            stack += [follower for row in cells[state] for cell in row for follower, *_ in cell if follower not in cells]
     known = list(reversed(done))
     place = {state: number for number, state in enumerate(known)}
 
     def draws(cell):
-        whole = sum(share for _, share in cell)
-        drawn = [[place[state], tables.CHANCE * share // whole] for state, share in cell]
-        return drawn if len(drawn) > 1 else drawn[0][0]
+        whole = sum(share for _, share, _ in cell)
+        drawn = [[place[state], tables.CHANCE * share // whole] + [pay] * (pay != 0) for state, share, pay in cell]
+        return drawn if len(drawn) > 1 or len(drawn[0]) == 3 else drawn[0][0]
 
     return [[[draws(cell) for cell in row] for row in cells[state]] or payoff(state) for state in known], known
 
@@ -70,8 +70,11 @@ def has_shape(p, states, known):
     # Keys tell equal prizes apart by their places, as the rules here do not.
     if drawn and len(set(p["prizes"])) < len(p["prizes"]):
         return False
+    # Of each state a table knows what can still be got; Goofspiel goes by the sum of the prizes left.
+    if p.get("pay") == "prizes":
+        return False
     ends = [state for state in states if isinstance(state, int)]
-    ranks, *_, draws = tables.five_lists(states)
+    ranks, _, _, _, draws = tables.lists(states)
     shape = min(ends), max(ends), tables.width(states)
     return bool(draws) == drawn and all(shape_of_game(p, state) == (*shape, rank) for state, rank in zip(known, ranks) if rank > 0)
 

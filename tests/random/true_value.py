@@ -23,13 +23,13 @@ SCALE = 1_000_000
 
 
 # A game is its root and three functions: the payoff of an end or None, the moves of both sides, and the states that follow a
-# pair of moves, each with its share of the chance.
+# pair of moves, each with its share of the chance and what the turn pays.
 
 def goofspiel(p):
     drawn = p["game"] == "goofspiel_drawn"
 
     def payoff(state):
-        return None if state[0] else state[2] if p["pay"] == "margin" else (state[2] > 0) - (state[2] < 0)
+        return None if state[0] else (state[2] > 0) - (state[2] < 0) if p["pay"] == "win" else state[2]
 
     def moves(state):
         return state[0], state[1]
@@ -37,11 +37,12 @@ def goofspiel(p):
     def after(state, a, b):
         one, two, score, prizes = state
         won = prizes[0] * ((a > b) - (a < b))
-        hands = tuple(c for c in one if c != a), tuple(c for c in two if c != b), score + won
+        later, now = (0, won) if p["pay"] == "prizes" else (won, 0)
+        hands = tuple(c for c in one if c != a), tuple(c for c in two if c != b), score + later
         left = prizes[1:]
         if not drawn or not left:
-            return [((*hands, left), 1)]
-        return [((*hands, (left[i],) + left[:i] + left[i + 1:]), 1) for i in range(len(left))]
+            return [((*hands, left), 1, now)]
+        return [((*hands, (left[i],) + left[:i] + left[i + 1:]), 1, now) for i in range(len(left))]
 
     return (tuple(p["one"]), tuple(p["two"]), p["score"], tuple(p["prizes"])), payoff, moves, after
 
@@ -57,7 +58,7 @@ def oshi_zumo(p):
         return [list(range(least, coins + 1)) or [0] for coins in state[1:]]
 
     def after(state, a, b):
-        return [((state[0] + (a > b) - (a < b), state[1] - a, state[2] - b), 1)]
+        return [((state[0] + (a > b) - (a < b), state[1] - a, state[2] - b), 1, 0)]
 
     return (p["place"], p["one"], p["two"]), payoff, moves, after
 
@@ -77,7 +78,7 @@ def tron(p):
         return free(state[0], state[1]), free(state[0], state[2])
 
     def after(state, a, b):
-        return [((state[0] | {a, b}, a, b), 1)]
+        return [((state[0] | {a, b}, a, b), 1, 0)]
 
     return (frozenset(p["walls"] + [p["one"], p["two"]]), p["one"], p["two"]), payoff, moves, after
 
@@ -96,7 +97,7 @@ def pursuit(p):
         return near(state[2]), near(state[3])
 
     def after(state, a, b):
-        return [((a == b or (a == state[3] and b == state[2]), state[1] - 1, a, b), 1)]
+        return [((a == b or (a == state[3] and b == state[2]), state[1] - 1, a, b), 1, 0)]
 
     return (p["one"] == p["two"], p["rounds"], p["one"], p["two"]), payoff, moves, after
 
@@ -112,7 +113,7 @@ def table(p):
 
     def after(state, a, b):
         cell = states[state][a][b]
-        return [(cell, 1)] if isinstance(cell, int) else cell
+        return [(cell, 1, 0)] if isinstance(cell, int) else [(*draw, 0)[:3] for draw in cell]
 
     return 0, payoff, moves, after
 
@@ -152,7 +153,7 @@ def matrix_value(matrix):
 
 
 def mean(values, cell):
-    return sum(values[state] * share for state, share in cell) / sum(share for _, share in cell)
+    return sum((values[state] + pay) * share for state, share, pay in cell) / sum(share for _, share, _ in cell)
 
 
 def true_value(position):
@@ -170,7 +171,7 @@ def true_value(position):
             continue
         ones, twos = moves(state)
         cells = [[after(state, a, b) for b in twos] for a in ones]
-        missing = [t for row in cells for cell in row for t, _ in cell if t not in values]
+        missing = [t for row in cells for cell in row for t, *_ in cell if t not in values]
         if missing:
             stack += missing
             if len(values) > 3000:
@@ -185,7 +186,7 @@ def tiny_position(r, game):
         cards = r.choice([1, 2, 3, 3])
         p = dict(one=r.sample(range(1, 14), cards), two=r.sample(range(1, 14), cards),
                  prizes=[r.randint(1, r.choice([2, 9, 100])) for _ in range(cards)], score=r.randint(-3, 3),
-                 pay=r.choice(["margin", "win"]))
+                 pay=r.choice(["margin", "win", "prizes"]))
     elif game == "oshi_zumo":
         size = r.choice([0, 1, 1, 2])
         p = dict(size=size, one=r.randint(0, 6), two=r.randint(0, 6), least=r.choice([1, 1, 2]), place=r.randint(-size, size))

@@ -20,7 +20,7 @@ CRATES = TOP / "crates"
 MOST_COLUMNS, MOST_PROOF_COLUMNS, MOST_PARAMETERS, MOST_CLAUSES, MOST_LINES, MOST_EDITS = 120, 200, 7, 10, 40, 10
 
 # Flat matches with one arm a game or field.
-FLAT = {"build", "values", "with_values"}
+FLAT = {"build", "values"}
 # Contracts of more than ten clauses, with how many they have.
 LONG = {
     "devices write": 13,

@@ -1,4 +1,5 @@
 pub mod FullLemmas
+pub mod KnownLemmas
 pub mod PlainLemmas
 pub mod TableLemmas
 pub mod ViewLemmas

@@ -11,16 +11,16 @@ use Rattle.sim_game.specs.declared.Side.{Side}
 use Rattle.sim_game.specs.declared.Side.TheVariants.{One, Two}
 use Rattle.sim_game.specs.Model.{GameModel, IsGame, IsEnd, Reachable}
 use Rattle.plan_book.specs.declared.Entry.{Entry}
-use Rattle.sim_game.specs.Sides.{IsNoTighter, opening_bound, other_side, end_bound, draws_of, child_of, turn_of, better}
+use Rattle.sim_game.specs.Sides.{IsNoTighter, opening_bound, state_bound, other_side, end_bound, draws_of, child_of, turn_of, better}
 use Rattle.plan_book.specs.Books.{same_side, best_posted, book_bound, IsBooked, IsClosed}
 use Rattle.plan_book.specs.Entries.{IsEntry}
-use Rattle.sim_game.proofs.SideLemmas.{looser_refl, looser_trans, looser_left, looser_right, side_turn, end_range}
+use Rattle.sim_game.proofs.SideLemmas.{looser_refl, looser_trans, looser_left, looser_right, better_left, better_right, better_least, side_turn, opening_state, end_range}
 use Rattle.sim_game.proofs.ReachLemmas.{reachable_turn}
 use Rattle.bounds_board.specs.declared.slots.Slot.{Slot}
 use Rattle.bounds_board.specs.Slots.{keys_of, slot_bound, IsOther, IsFree, IsMet}
 use Rattle.bounds_board.specs.Plain.{IsPlain, plain_view}
-use Rattle.bounds_board.specs.Views.{BoardView, IsLater, IsInnerKey, IsFull, IsEnclosure, IsSeenNumber, by_end, by_opening, by_seen}
-use Rattle.plan_book.proofs.BookLemmas.{best_backed, best_range, best_push, best_grows, best_has, best_opening, eqb_self, eqb_other, cond_and, cond_and_false}
+use Rattle.bounds_board.specs.Views.{BoardView, IsLater, IsInnerKey, IsFull, IsEnclosure, IsSeenNumber, by_end, by_range, by_seen}
+use Rattle.plan_book.proofs.BookLemmas.{best_backed, best_range, best_push, best_grows, best_has, entry_range, eqb_self, eqb_other, cond_and, cond_and_false}
 use Rattle.bounds_board.proofs.TableLemmas.{few_keys, key_before, key_pushed, row_inside, row_key, full_others, room, no_row, table_claims}
 
 -- each row is tried, from any number's remainder on
@@ -148,31 +148,33 @@ module _ {S : Type 0} (m : GameModel S) (game : IsGame m) (total : ℕ) (entries
   at_end_is : (es : List Entry) (side : Side) (s : S) → IsEnd m s → book_bound m es side s ≡ end_bound m s
   at_end_is es side s e = rw e refl
 
-  at_inner_is : (es : List Entry) (side : Side) (s : S) → 1 ≤ m.rank s → book_bound m es side s ≡ best_posted m es side (m.key s)
+  at_inner_is : (es : List Entry) (side : Side) (s : S) → 1 ≤ m.rank s → book_bound m es side s ≡ better side (best_posted m es side (m.key s)) (state_bound m side s)
   at_inner_is es side s h = let test : eqb (m.rank s) 0 ≡ false = eqb_other (m.rank s) 0 (λ e. omega arith) in rw test refl
 
-  opening_booked : (es : List Entry) (side : Side) (s : S) → Reachable m s → IsNoTighter side (opening_bound m side) (book_bound m es side s)
-  opening_booked es side s r = ⊎_elim
-      (λ (e : IsEnd m s). looser_right side (opening_bound m side) _ _ (sym (at_end_is es side s e)) (end_range m side s game r e))
-      (λ (h : 1 ≤ m.rank s). looser_right side (opening_bound m side) _ _ (sym (at_inner_is es side s h)) (best_opening m es side (m.key s)))
+  range_booked : (es : List Entry) (side : Side) (s : S) → Reachable m s → IsNoTighter side (state_bound m side s) (book_bound m es side s)
+  range_booked es side s r = ⊎_elim
+      (λ (e : IsEnd m s). looser_right side (state_bound m side s) _ _ (sym (at_end_is es side s e)) (end_range m side s game r e))
+      (λ (h : 1 ≤ m.rank s). looser_right side (state_bound m side s) _ _ (sym (at_inner_is es side s h)) (better_right side (best_posted m es side (m.key s)) (state_bound m side s)))
       (end_or_not s)
 
   pub booked_grows : (e : Entry) (side : Side) (s : S) (x : ℤ) → IsBooked m entries side s x → IsBooked m (entries ++ e ∷ []) side s x
   booked_grows e side s x h = ⊎_elim
       (λ (z : IsEnd m s). looser_right side x _ _ (at_end_is entries side s z ∙ sym (at_end_is (entries ++ e ∷ []) side s z)) h)
       (λ (z : 1 ≤ m.rank s). looser_right side x _ _ (sym (at_inner_is (entries ++ e ∷ []) side s z))
-      (looser_trans side x (best_posted m entries side (m.key s)) (best_posted m (entries ++ e ∷ []) side (m.key s))
-      (looser_right side x _ _ (at_inner_is entries side s z) h) (best_grows m entries e side (m.key s))))
+      (looser_trans side x (better side (best_posted m entries side (m.key s)) (state_bound m side s)) (better side (best_posted m (entries ++ e ∷ []) side (m.key s)) (state_bound m side s))
+      (looser_right side x _ _ (at_inner_is entries side s z) h)
+      (better_least side _ _ _ (looser_trans side _ _ _ (best_grows m entries e side (m.key s)) (better_left side _ (state_bound m side s))) (better_right side _ _))))
       (end_or_not s)
 
   pub seen_booked : {G N : Type 0} (v : BoardView G N) → ((side : Side) (key : ℕ) → v.seen side key ≡ best_posted m entries side key)
       → (side : Side) (s : S) (x : ℤ) → Reachable m s → IsSeenNumber m v side s x → IsBooked m entries side s x
   seen_booked v is side s x r (by_end e h) = looser_right side x _ _ (sym (at_end_is entries side s e)) (looser_left side (end_bound m s) x (end_bound m s) (sym h) (looser_refl side (end_bound m s)))
-  seen_booked v is side s x r (by_opening h) = looser_left side (opening_bound m side) x _ (sym h) (opening_booked entries side s r)
+  seen_booked v is side s x r (by_range h) = looser_trans side x (state_bound m side s) _ h (range_booked entries side s r)
   seen_booked v is side s x r (by_seen h) =
       let best : IsNoTighter side x (best_posted m entries side (m.key s)) = looser_right side x _ _ (is side (m.key s)) h in ⊎_elim
-      (λ (e : IsEnd m s). looser_trans side x (opening_bound m side) (book_bound m entries side s) (looser_right side x _ _ (end_opening side s r e) best) (opening_booked entries side s r))
-      (λ (e : 1 ≤ m.rank s). looser_right side x _ _ (sym (at_inner_is entries side s e)) best)
+      (λ (e : IsEnd m s). looser_trans side x (opening_bound m side) (book_bound m entries side s) (looser_right side x _ _ (end_opening side s r e) best)
+      (looser_trans side _ _ _ (opening_state m side s game r) (range_booked entries side s r)))
+      (λ (e : 1 ≤ m.rank s). looser_right side x _ _ (sym (at_inner_is entries side s e)) (looser_trans side _ _ _ best (better_left side _ (state_bound m side s))))
       (end_or_not s)
 
 -- a child of a reachable state is reachable
@@ -269,4 +271,6 @@ opening_returned m Two x game e = let a = game.low_least in let b = game.high_mo
 
 pub bound_returned : {S : Type 0} (m : GameModel S) (game : IsGame m) (total : ℕ) (Known : Side → S → ℤ → Type 0) (e : Entry) (old new : Slot) → IsEntry m total Known e
     → IsMet e.side (to_z w64 (of_z w64 e.bound)) old new → IsMet e.side e.bound old new
-bound_returned m game total Known e old new lawful met = subst (λ (z : ℤ). IsMet e.side z old new) (to_z-of_z w64 e.bound (range_fits m game e.bound lawful.low lawful.high)) met
+bound_returned m game total Known e old new lawful met =
+    let fits = range_fits m game e.bound (entry_range m game total Known One e lawful) (entry_range m game total Known Two e lawful) in
+    subst (λ (z : ℤ). IsMet e.side z old new) (to_z-of_z w64 e.bound fits) met

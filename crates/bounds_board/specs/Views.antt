@@ -4,7 +4,7 @@ use Rattle.sim_game.specs.declared.Side.{Side}
 use Rattle.sim_game.specs.declared.Side.TheVariants.{One, Two}
 use Rattle.sim_game.specs.Model.{GameModel, IsEnd, Reachable}
 use Rattle.plan_book.specs.declared.Entry.{Entry}
-use Rattle.sim_game.specs.Sides.{IsNoTighter, opening_bound, end_bound}
+use Rattle.sim_game.specs.Sides.{IsNoTighter, better, opening_bound, state_bound, end_bound}
 use Rattle.plan_book.specs.Backed.{IsBacked}
 use Rattle.plan_book.specs.Entries.{IsEntry}
 use Rattle.bounds_board.specs.declared.bounds.Enclosure.{Enclosure}
@@ -51,10 +51,14 @@ pub record WasFull {S G N : Type 0} (m : GameModel S) (v : BoardView G N) (IsAsk
   pub is_asked : IsAsked state
   pub full : IsFull m v (m.key state)
 
+-- what is known of a state: the tightest bound seen at its key, or what holds of every value of it where that is better
+abbrev pub known_bound : {S G N : Type 0} → GameModel S → BoardView G N → Side → S → ℤ
+known_bound m v side s = better side (v.seen side (m.key s)) (state_bound m side s)
+
 -- a number at a state that an entry may rest on
 pub data IsSeenNumber {S G N : Type 0} (m : GameModel S) (v : BoardView G N) (side : Side) (s : S) (x : ℤ) : Type 0 where
   by_end : IsEnd m s → x ≡ end_bound m s → IsSeenNumber m v side s x
-  by_opening : x ≡ opening_bound m side → IsSeenNumber m v side s x
+  by_range : IsNoTighter side x (state_bound m side s) → IsSeenNumber m v side s x
   by_seen : IsNoTighter side x (v.seen side (m.key s)) → IsSeenNumber m v side s x
 
 -- the entry is lawful and rests on numbers that were seen

@@ -211,18 +211,22 @@ pub record RowFits (row : SheetRow) : Type 0 where
   pub bound : unsigned_abs row.bound ≤ 4000000000
   pub weights : All (λ w. w ≤ 1048576) row.weights
 
-pub row_law : FieldLaw 34 299 (made_by read_row (natural 0 9223372036854775807 followed_by integer (neg_ℤ (pos 4000000000)) (pos 4000000000) followed_by naturals 0 1048576)) row_fields RowFits
+-- at most so many weights
+pub row_law : (moves : ℕ)
+    → FieldLaw (2 + moves) (21 + (21 + (moves * 8 + 1)))
+    (made_by read_row (natural 0 9223372036854775807 followed_by integer (neg_ℤ (pos 4000000000)) (pos 4000000000) followed_by naturals 0 1048576))
+    row_fields RowFits
 unfolding natural integer
-row_law =
-    let law = then_law Number (natural_spells 0 9223372036854775807 (omega arith)) (then_law Number bound_spells (naturals_law 32 7 1048576 (omega arith) (omega arith) (omega arith))) in
+row_law moves =
+    let law = then_law Number (natural_spells 0 9223372036854775807 (omega arith)) (then_law Number bound_spells (naturals_law moves 7 1048576 (omega arith) (omega arith) (omega arith))) in
     record {
       takes = λ u x e few.
           let m = made_takes read_row _ x e in
-          let t = law.takes u m.0 m.1 few in
+          let t = law.takes u m.0 m.1 (omega (arith, few)) in
           subst (λ (x : SheetRow × Unread). (u.parts ≡ row_fields x.0) × RowFits x.0) m.2 (t.0, record { key = t.1.0.1; bound = small_bound m.0.0.1.0 t.1.1.0; weights = t.1.1.1 });
       again = λ n row fits.
           let a = law.again n (row.key, (row.bound, row.weights)) ((omega arith, fits.key), (bound_between row.bound fits.bound, fits.weights)) in
           (a.0, rw a.1 refl);
       clean = λ row fits. law.clean (row.key, (row.bound, row.weights)) ((omega arith, fits.key), (bound_between row.bound fits.bound, fits.weights));
-      short = λ row fits few. law.short (row.key, (row.bound, row.weights)) ((omega arith, fits.key), (bound_between row.bound fits.bound, fits.weights)) few;
+      short = λ row fits few. law.short (row.key, (row.bound, row.weights)) ((omega arith, fits.key), (bound_between row.bound fits.bound, fits.weights)) (omega (arith, few));
     }

@@ -6,6 +6,7 @@ pub mod ValueLaws
 pub mod FieldLaws
 pub mod Spelling
 pub mod RowLemmas
+pub mod LineLemmas
 pub mod ListLemmas
 pub mod PartLemmas
 pub mod NumberLemmas

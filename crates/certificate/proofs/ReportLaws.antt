@@ -1,11 +1,12 @@
 -- Reading and writing a report undo each other.
-use Rattle.std.proofs.Common.{◌≡◌, ℕ, zero, suc, ◌+◌, ◌*◌, ◌^◌, ◌<◌, ◌≤◌, ℤ, pos, neg_ℤ, unsigned_abs, List, [], ◌∷◌, ◌++◌, length, map, true, codes, Option, Some, None, Result, Ok, Err, decimal, All, refl, sym, ap, ap₂, subst, ◌∙◌, arith, append_assoc, append-nil, lt-ltb, ltb-true, eqb-true}
+use Rattle.std.proofs.Common.{◌≡◌, ℕ, zero, suc, ◌+◌, ◌*◌, ◌^◌, ◌<◌, ◌≤◌, ℤ, pos, neg_ℤ, unsigned_abs, List, [], ◌∷◌, ◌++◌, length, map, true, false, Bool, cond, not, ◌==◌, ◌||◌, codes, Option, Some, None, Result, Ok, Err, decimal, All, refl, sym, ap, ap₂, subst, ◌∙◌, arith, append_assoc, append-nil, lt-ltb, ltb-true, eqb-true}
 use Rattle.std.specs.Fmt.{signed_decimal}
 use Rattle.std.specs.List.Sorted.{IsStrictlyIncreasing}
 use Rattle.std.proofs.lemmas.Grind.{flat_map-append}
+use Rattle.std.proofs.lemmas.Bool.{eq-eqb}
 use Rattle.std.proofs.lemmas.Int.{ints}
 use Rattle.std.proofs.lemmas.List.{length-append, length-map}
-use Rattle.std.proofs.lemmas.List.Elements.{All-nil, All-cons, All-head, All-tail}
+use Rattle.std.proofs.lemmas.List.Elements.{All-nil, All-cons, All-head, All-tail, All-weaker}
 use Rattle.std.proofs.lemmas.List.Splits.{join_with_byte-slice_split}
 use Rattle.sim_game.specs.declared.Side.{Side}
 use Rattle.sim_game.specs.declared.Side.TheVariants.{One, Two}
@@ -18,15 +19,22 @@ use Rattle.certificate.specs.declared.report.Outcome.{Outcome}
 use Rattle.certificate.specs.declared.report.Report.{Report}
 use Rattle.certificate.specs.Unread.{Unread}
 use Rattle.text.specs.Texts.{line_text, text_of}
-use Rattle.certificate.specs.Positions.{newest_version, position_fields, version_of, game_version}
-use Rattle.fields.specs.Positions.{kind_of}
+use Rattle.certificate.specs.Versions.{newest_version, game_version, has_game, limits_of, most_rows, most_moves, is_long, needs_newest, version_of}
+use Rattle.certificate.specs.Positions.{position_fields}
+use Rattle.fields.specs.declared.positions.Limits.{Limits}
+use Rattle.fields.specs.declared.positions.Limits.TheVariants.{Narrow, Wide}
+use Rattle.fields.specs.declared.positions.PositionText.{PositionText}
+use Rattle.fields.specs.declared.positions.GameKind.TheVariants.{Goofspiel, OshiZumo, Tron, GoofspielDrawn, Pursuit, Table}
+use Rattle.fields.specs.Fields.{AllFit}
+use Rattle.fields.specs.Positions.{kind_of, kinds_of, values_of, is_narrow}
+use Rattle.fields.proofs.PositionLemmas.{within_wide, narrow_fits, fits_narrow}
 use Rattle.certificate.specs.Texts.{outcome_word, row_fields, sheet_lines, report_lines, report_text}
 use Rattle.fields.specs.Ranges.{Within, Between, IsPositionInRange}
 use Rattle.certificate.specs.Ranges.{IsRowInRange, IsSheetInRange, IsInRange}
 use Rattle.certificate.specs.Readers.{Fails, lines_in}
-use Rattle.certificate.specs.Reading.{game_line, natural_line, integer_line, outcome, outcome_line, spent_line, end_line, row_line, rises, next_row, rows, sheet, sheets, terms, findings, report_of, report, version_line, or_head, head, ended, read_report}
+use Rattle.certificate.specs.Reading.{game_line, natural_line, integer_line, outcome, outcome_line, spent_line, end_line, row_line, rises, next_row, rows, sheet, sheets, terms, findings, report_of, report, version_line, or_head, head, ended, named_report, read_report}
 use Rattle.certificate.proofs.Spelling.{IsField, clean_word, outcome_spells}
-use Rattle.certificate.proofs.PositionLaws.{known_version, position_law, five_numbers}
+use Rattle.certificate.proofs.PositionLaws.{line_most, IsInVersion, position_law, numbers_count}
 use Rattle.certificate.proofs.FieldLaws.{bind_ok, test_ok, ok_is, last_law, word_law, before_law, natural_law, integer_law, naturals_law, row_law, small_bound, bound_between}
 use Rattle.certificate.proofs.TextLaws.{joined, TextLaw, line_law, lines_law, made_law, told_law}
 
@@ -68,28 +76,42 @@ end_line_law : TextLaw 5 end_line (λ _. line_text (codes "end" ∷ [])) (λ _. 
 unfolding end_line
 end_line_law = told_law _ (λ _. Unit {0}) (line_law (word_law (codes "end") (clean_word (codes "end") refl)) (omega arith)) (λ u fits. (refl, tt)) (λ u fits. (tt, (omega arith, omega arith)))
 
-game_line_law : (version : ℕ) → TextLaw 100000026 (game_line version) (λ p. line_text (codes "game" ∷ position_fields p)) (λ p. IsPositionInRange p × (version_of p ≡ version))
+game_line_law : (version : ℕ) → TextLaw (5 + (21 + line_most (limits_of version))) (game_line version) (λ p. line_text (codes "game" ∷ position_fields p)) (IsInVersion version)
 unfolding game_line
-game_line_law version = told_law _ (λ p. IsPositionInRange p × (version_of p ≡ version)) (line_law (before_law (codes "game") (clean_word (codes "game") refl) (position_law version)) (omega arith))
-    (λ p fits. (refl, fits.0)) (λ p fits. (fits, (omega (arith, five_numbers p fits.0), omega (arith, five_numbers p fits.0))))
+game_line_law version = told_law _ (IsInVersion version) (line_law (before_law (codes "game") (clean_word (codes "game") refl) (position_law version)) (omega arith))
+    (λ p fits. (refl, fits.0)) (λ p fits. (fits, (omega (arith, (numbers_count p).0), omega (arith, (numbers_count p).1))))
 
-row_line_law : TextLaw 299 row_line (λ row. line_text (row_fields row)) IsRowInRange
-unfolding row_line
-row_line_law = told_law _ IsRowInRange (line_law row_law (omega arith))
-    (λ row fits. (
+-- a row in range, with at most so many weights as the limits allow
+abbrev IsRowWithin : Limits → SheetRow → Type 0
+IsRowWithin limits row = IsRowInRange row × length row.weights ≤ most_moves limits
+
+unfoldable row_most : Limits → ℕ
+row_most limits = 21 + (21 + (most_moves limits * 8 + 1))
+
+moves_few : (limits : Limits) → most_moves limits ≤ 64
+moves_few Narrow = omega arith
+moves_few Wide = omega arith
+
+row_line_law : (limits : Limits) → TextLaw (row_most limits) (row_line limits) (λ row. line_text (row_fields row)) (IsRowWithin limits)
+unfolding row_line row_most
+row_line_law limits = told_law _ (IsRowWithin limits) (line_law (row_law (most_moves limits)) (omega arith))
+    (λ row fits.
+    let count = length-map row.weights decimal in
+    let few : length row.weights ≤ most_moves limits = omega (arith, fits.1.1, count) in (
       refl,
-      record {
-        key =
-            fits.0.key;
-        bound = fits.0.bound;
-        weights =
-            fits.0.weights;
-        moves = (omega (arith, fits.1.0, length-map row.weights decimal), omega (arith, fits.1.1, length-map row.weights decimal));
-      },
+      (
+        record {
+          key = fits.0.key;
+          bound = fits.0.bound;
+          weights = fits.0.weights;
+          moves = (omega (arith, fits.1.0, count), omega (arith, few, moves_few limits));
+        },
+        few,
+      ),
     ))
     (λ row fits. (
-      record { key = fits.key; bound = fits.bound; weights = fits.weights },
-      (omega (arith, fits.moves.0, length-map row.weights decimal), omega (arith, fits.moves.1, length-map row.weights decimal)),
+      record { key = fits.0.key; bound = fits.0.bound; weights = fits.0.weights },
+      (omega (arith, fits.0.moves.0, length-map row.weights decimal), omega (arith, fits.1, length-map row.weights decimal)),
     ))
 
 -- ---- the rows
@@ -119,67 +141,100 @@ rising : (rs : List SheetRow) → IsStrictlyIncreasing (keys rs) → Rising None
 rising [] up = tt
 rising (a ∷ more) up = (refl, rising_from a more up)
 
-record TakesRows (count : ℕ) (last : Option ℕ) (u : Unread) (x : List SheetRow × Unread) : Type 0 where
+record TakesRows (limits : Limits) (count : ℕ) (last : Option ℕ) (u : Unread) (x : List SheetRow × Unread) : Type 0 where
   text : joined u.parts ≡ text_of (map row_fields x.0) ++ joined x.1.parts
   len : length x.0 ≡ count
-  rows : All IsRowInRange x.0
+  rows : All (IsRowWithin limits) x.0
   up : Rising last x.0
 
-rows_takes : (count : ℕ) (last : Option ℕ) (u : Unread) (x : List SheetRow × Unread) → rows count last u ≡ Ok x → TakesRows count last u x
+rows_takes : (limits : Limits) (count : ℕ) (last : Option ℕ) (u : Unread) (x : List SheetRow × Unread) → rows limits count last u ≡ Ok x → TakesRows limits count last u x
 unfolding rows next_row
-rows_takes zero last u x e = subst (TakesRows 0 last u) (ok_is ([], u) x e) (record { text = refl; len = refl; rows = All-nil IsRowInRange; up = tt })
-rows_takes (suc count) last u x e =
-    let first = bind_ok (next_row last u) _ x e in
-    let others = bind_ok (rows count (Some first.0.0.key) first.0.1) _ x first.2 in
-    let row = bind_ok (row_line u) _ first.0 first.1 in
+rows_takes limits zero last u x e =
+    subst (TakesRows limits 0 last u) (ok_is ([], u) x e) (record { text = refl; len = refl; rows = All-nil (IsRowWithin limits); up = tt })
+rows_takes limits (suc count) last u x e =
+    let first = bind_ok (next_row limits last u) _ x e in
+    let others = bind_ok (rows limits count (Some first.0.0.key) first.0.1) _ x first.2 in
+    let row = bind_ok (row_line limits u) _ first.0 first.1 in
     let above = test_ok (rises last row.0.0.key) _ _ first.0 row.2 in
     let same : row.0 ≡ first.0 = ok_is row.0 first.0 above.1 in
-    let one = row_line_law.takes u first.0 (row.1 ∙ above.1) in
-    let more = rows_takes count (Some first.0.0.key) first.0.1 others.0 others.1 in
+    let one = (row_line_law limits).takes u first.0 (row.1 ∙ above.1) in
+    let more = rows_takes limits count (Some first.0.0.key) first.0.1 others.0 others.1 in
     let front = line_text (row_fields first.0.0) in
-    subst (TakesRows (suc count) last u) (ok_is (first.0.0 ∷ others.0.0, others.0.1) x others.2)
+    subst (TakesRows limits (suc count) last u) (ok_is (first.0.0 ∷ others.0.0, others.0.1) x others.2)
     (record {
       text = one.0 ∙ ap (λ (rest : List ℕ). front ++ rest) more.text ∙ sym (append_assoc front (text_of (map row_fields others.0.0)) (joined others.0.1.parts));
       len = ap suc more.len;
-      rows = All-cons IsRowInRange first.0.0 others.0.0 one.1 more.rows;
+      rows = All-cons (IsRowWithin limits) first.0.0 others.0.0 one.1 more.rows;
       up = (subst (λ (r : SheetRow × Unread). rises last r.0.key ≡ true) same above.0, more.up);
     })
 
-rows_again : (last : Option ℕ) (rs : List SheetRow) (n : ℕ) (rest : List ℕ) → All IsRowInRange rs → Rising last rs
-    → (m : ℕ) × (rows (length rs) last (record { parts = lines_in (text_of (map row_fields rs) ++ rest); number = n }) ≡ Ok (rs, record { parts = lines_in rest; number = m }))
+rows_again : (limits : Limits) (last : Option ℕ) (rs : List SheetRow) (n : ℕ) (rest : List ℕ) → All (IsRowWithin limits) rs → Rising last rs
+    → (m : ℕ) × (rows limits (length rs) last (record { parts = lines_in (text_of (map row_fields rs) ++ rest); number = n }) ≡ Ok (rs, record { parts = lines_in rest; number = m }))
 unfolding rows next_row
-rows_again last [] n rest fits up = (n, refl)
-rows_again last (row ∷ more) n rest fits up =
-    let first = row_line_law.again n row (text_of (map row_fields more) ++ rest) (All-head IsRowInRange row more fits) in
-    let others = rows_again (Some row.key) more first.0 rest (All-tail IsRowInRange row more fits) up.1 in
+rows_again limits last [] n rest fits up = (n, refl)
+rows_again limits last (row ∷ more) n rest fits up =
+    let first = (row_line_law limits).again n row (text_of (map row_fields more) ++ rest) (All-head (IsRowWithin limits) row more fits) in
+    let others = rows_again limits (Some row.key) more first.0 rest (All-tail (IsRowWithin limits) row more fits) up.1 in
     (others.0, rw (append_assoc (line_text (row_fields row)) (text_of (map row_fields more)) rest, first.1, up.0, others.1) refl)
 
-rows_short : (rs : List SheetRow) → All IsRowInRange rs → length (text_of (map row_fields rs)) ≤ length rs * 299
-rows_short [] fits = omega arith
-rows_short (row ∷ more) fits =
+rows_short : (limits : Limits) (rs : List SheetRow) → All (IsRowWithin limits) rs → length (text_of (map row_fields rs)) ≤ length rs * row_most limits
+rows_short limits [] fits = omega arith
+rows_short limits (row ∷ more) fits =
     omega (
       arith,
       length-append (line_text (row_fields row)) (text_of (map row_fields more)),
-      row_line_law.short row
-          (All-head IsRowInRange row more fits),
-      rows_short more (All-tail IsRowInRange row more fits),
+      (row_line_law limits).short row
+          (All-head (IsRowWithin limits) row more fits),
+      rows_short limits more (All-tail (IsRowWithin limits) row more fits),
     )
 
 -- the rows of a sheet in range
-record RowsFit (rs : List SheetRow) : Type 0 where
-  few : length rs ≤ 1048576
-  rows : All IsRowInRange rs
+record RowsFit (limits : Limits) (rs : List SheetRow) : Type 0 where
+  few : length rs ≤ most_rows limits
+  rows : All (IsRowWithin limits) rs
   rising : IsStrictlyIncreasing (keys rs)
 
-sheet_law : (word : List ℕ) → IsField word → TextLaw (length word + 313600000) (sheet word) (λ rs. text_of (sheet_lines word rs)) RowsFit
+-- the most bytes of the rows of a sheet
+abbrev rows_most : Limits → ℕ
+rows_most Narrow = 313600000
+rows_most Wide = 9400000000
+
+few_bytes : (limits : Limits) (n : ℕ) → n ≤ most_rows limits → n * row_most limits ≤ rows_most limits
+unfolding row_most
+few_bytes Narrow n few = omega (arith, few)
+few_bytes Wide n few = omega (arith, few)
+
+wide_row : (limits : Limits) (n : ℕ) → n * row_most limits ≤ n * 555
+unfolding row_most
+wide_row Narrow n = omega arith
+wide_row Wide n = omega arith
+
+sheet_by_rows : (word : List ℕ) → IsField word → (limits : Limits) (rs : List SheetRow) → RowsFit limits rs
+    → length (text_of (sheet_lines word rs)) ≤ length word + 23 + length rs * row_most limits
+unfolding sheet_lines
+sheet_by_rows word clean limits rs fits =
+    let count = length rs in
+    let counted = natural_line_law word clean 0 (2 ^ 32) (omega arith) in
+    omega (
+      arith,
+      length-append (line_text (word ∷ decimal count ∷ [])) (text_of (map row_fields rs)),
+      counted.short count (omega arith, rows_count limits count fits.few),
+      rows_short limits rs fits.rows,
+    )
+  where
+    rows_count : (limits : Limits) (n : ℕ) → n ≤ most_rows limits → n ≤ 2 ^ 32
+    rows_count Narrow n few = omega (arith, few)
+    rows_count Wide n few = omega (arith, few)
+
+sheet_law : (word : List ℕ) → IsField word → (limits : Limits) → TextLaw (length word + 23 + rows_most limits) (sheet limits word) (λ rs. text_of (sheet_lines word rs)) (RowsFit limits)
 unfolding sheet sheet_lines
-sheet_law word clean =
-    let counted = natural_line_law word clean 0 1048576 (omega arith) in
+sheet_law word clean limits =
+    let counted = natural_line_law word clean 0 (most_rows limits) (rows_small limits) in
     record {
       takes = λ u x e.
-          let count = bind_ok (natural_line word 0 1048576 u) _ x e in
+          let count = bind_ok (natural_line word 0 (most_rows limits) u) _ x e in
           let c = counted.takes u count.0 count.1 in
-          let r = rows_takes count.0.0 None count.0.1 x count.2 in
+          let r = rows_takes limits count.0.0 None count.0.1 x count.2 in
           let front : ℕ → List ℕ = λ n. line_text (word ∷ decimal n ∷ []) in (
             c.0 ∙ ap (λ (rest : List ℕ). front count.0.0 ++ rest) r.text
                 ∙ ap (λ n. front n ++ (text_of (map row_fields x.0) ++ joined x.1.parts)) (sym r.len)
@@ -189,12 +244,14 @@ sheet_law word clean =
       again = λ n rs rest fits.
           let count = length rs in
           let c = counted.again n count (text_of (map row_fields rs) ++ rest) (omega arith, fits.few) in
-          let r = rows_again None rs c.0 rest fits.rows (rising rs fits.rising) in
+          let r = rows_again limits None rs c.0 rest fits.rows (rising rs fits.rising) in
           (r.0, rw (append_assoc (line_text (word ∷ decimal count ∷ [])) (text_of (map row_fields rs)) rest, c.1) r.1);
-      short = λ rs fits.
-          let count = length rs in
-          omega (arith, length-append (line_text (word ∷ decimal count ∷ [])) (text_of (map row_fields rs)), counted.short count (omega arith, fits.few), rows_short rs fits.rows, fits.few);
+      short = λ rs fits. omega (arith, sheet_by_rows word clean limits rs fits, few_bytes limits (length rs) fits.few);
     }
+  where
+    rows_small : (limits : Limits) → most_rows limits < 2 ^ 64
+    rows_small Narrow = omega arith
+    rows_small Wide = omega arith
 
 -- ---- the whole
 
@@ -237,11 +294,14 @@ findings_law =
 abbrev sheets_text : List SheetRow × List SheetRow → List ℕ
 sheets_text x = text_of (sheet_lines (codes "one") x.0) ++ (text_of (sheet_lines (codes "two") x.1) ++ line_text (codes "end" ∷ []))
 
-sheets_law : TextLaw 627200011 sheets sheets_text (λ x. RowsFit x.0 × RowsFit x.1)
+abbrev SheetsFit : Limits → List SheetRow × List SheetRow → Type 0
+SheetsFit limits x = RowsFit limits x.0 × RowsFit limits x.1
+
+sheets_law : (limits : Limits) → TextLaw ((26 + rows_most limits) + ((26 + rows_most limits) + 5)) (sheets limits) sheets_text (SheetsFit limits)
 unfolding sheets
-sheets_law =
-    made_law (λ (x : List SheetRow × (List SheetRow × Unit {0})). (x.0, x.1.0)) (λ (b : List SheetRow × List SheetRow). (b.0, (b.1, tt))) sheets_text (λ x. RowsFit x.0 × RowsFit x.1)
-    (lines_law (sheet_law (codes "one") (clean_word (codes "one") refl)) (lines_law (sheet_law (codes "two") (clean_word (codes "two") refl)) end_line_law))
+sheets_law limits =
+    made_law (λ (x : List SheetRow × (List SheetRow × Unit {0})). (x.0, x.1.0)) (λ (b : List SheetRow × List SheetRow). (b.0, (b.1, tt))) sheets_text (SheetsFit limits)
+    (lines_law (sheet_law (codes "one") (clean_word (codes "one") refl) limits) (lines_law (sheet_law (codes "two") (clean_word (codes "two") refl) limits) end_line_law))
     (λ x fits. (refl, (fits.0, fits.1.0)))
     (λ b fits. ((fits.0, (fits.1, tt)), refl))
 
@@ -251,50 +311,123 @@ body r =
     line_text (codes "game" ∷ position_fields r.position) ++ (terms_text (r.weight, r.turns, r.asked, r.resolution)
     ++ (findings_text (r.outcome, r.lower, r.upper, r.spent) ++ sheets_text (r.one.rows, r.two.rows)))
 
-sheet_is : (side : Side) (total : ℕ) (s : Sheet) → IsSheetInRange side total s → record { side = side; total = total; rows = s.rows } ≡ s
-sheet_is side total s fits = sym (ap₂ (λ (side : Side) (total : ℕ). record { side = side; total = total; rows = s.rows }) fits.side_is fits.total_is)
+sheet_is : (limits : Limits) (side : Side) (total : ℕ) (s : Sheet) → IsSheetInRange limits side total s → record { side = side; total = total; rows = s.rows } ≡ s
+sheet_is limits side total s fits = sym (ap₂ (λ (side : Side) (total : ℕ). record { side = side; total = total; rows = s.rows }) fits.side_is fits.total_is)
 
--- a report in range of the version
-abbrev IsInVersion : ℕ → Report → Type 0
-IsInVersion version r = IsInRange r × (version_of r.position ≡ version)
+-- rows, and how many weights they have
+rows_within : (limits : Limits) (rs : List SheetRow) → All IsRowInRange rs → All (λ (row : SheetRow). length row.weights ≤ most_moves limits) rs → All (IsRowWithin limits) rs
+rows_within limits [] fits few = All-nil (IsRowWithin limits)
+rows_within limits (row ∷ more) fits few =
+    let Few : SheetRow → Type 0 = λ row. length row.weights ≤ most_moves limits in
+    All-cons (IsRowWithin limits) row more (All-head IsRowInRange row more fits, All-head Few row more few)
+    (rows_within limits more (All-tail IsRowInRange row more fits) (All-tail Few row more few))
 
-report_law : (version : ℕ) → TextLaw 727200584 (report version) body (IsInVersion version)
+rows_fit : (limits : Limits) (side : Side) (total : ℕ) (s : Sheet) → IsSheetInRange limits side total s → RowsFit limits s.rows
+rows_fit limits side total s fits = record { few = fits.few; rows = rows_within limits s.rows fits.rows fits.moves; rising = fits.rising }
+
+in_sheet : (limits : Limits) (side : Side) (total : ℕ) (rs : List SheetRow) → RowsFit limits rs → IsSheetInRange limits side total (record { side = side; total = total; rows = rs })
+in_sheet limits side total rs fits = record {
+  side_is = refl;
+  total_is = refl;
+  few = fits.few;
+  rows = All-weaker (IsRowWithin limits) IsRowInRange (λ row h. h.0) rs fits.rows;
+  moves = All-weaker (IsRowWithin limits) (λ (row : SheetRow). length row.weights ≤ most_moves limits) (λ row h. h.1) rs fits.rows;
+  rising = fits.rising;
+}
+
+-- a report whose numbers are in the ranges of a version
+record IsOfVersion (version : ℕ) (r : Report) : Type 0 where
+  position : IsInVersion version r.position
+  terms : TermsFit (r.weight, r.turns, r.asked, r.resolution)
+  findings : FindingsFit (r.outcome, r.lower, r.upper, r.spent)
+  one : IsSheetInRange (limits_of version) One r.weight r.one
+  two : IsSheetInRange (limits_of version) Two r.weight r.two
+
+report_law : (version : ℕ) → TextLaw ((5 + (21 + line_most (limits_of version))) + (118 + (429 + ((26 + rows_most (limits_of version)) + ((26 + rows_most (limits_of version)) + 5)))))
+    (report version) body (IsOfVersion version)
 unfolding report
 report_law version =
-    made_law report_of (λ r. (r.position, ((r.weight, r.turns, r.asked, r.resolution), ((r.outcome, r.lower, r.upper, r.spent), (r.one.rows, r.two.rows))))) body (IsInVersion version)
-    (lines_law (game_line_law version) (lines_law terms_law (lines_law findings_law sheets_law)))
-    (λ x fits. let t = fits.1.0 in let f = fits.1.1.0 in let s = fits.1.1.1 in (
+    let limits = limits_of version in
+    made_law report_of (λ r. (r.position, ((r.weight, r.turns, r.asked, r.resolution), ((r.outcome, r.lower, r.upper, r.spent), (r.one.rows, r.two.rows))))) body (IsOfVersion version)
+    (lines_law (game_line_law version) (lines_law terms_law (lines_law findings_law (sheets_law limits))))
+    (λ x fits. let s = fits.1.1.1 in (
       refl,
-      (
-        record {
-          position = fits.0.0;
-          weight = t.0;
-          turns = t.1;
-          asked = t.2;
-          resolution = t.3;
-          lower = f.0;
-          upper = f.1;
-          workers = f.2.0;
-          spent = f.2.1;
-          one = record { side_is = refl; total_is = refl; few = s.0.few; rows = s.0.rows; rising = s.0.rising };
-          two = record { side_is = refl; total_is = refl; few = s.1.few; rows = s.1.rows; rising = s.1.rising };
-        },
-        fits.0.1,
-      ),
+      record { position = fits.0; terms = fits.1.0; findings = fits.1.1.0; one = in_sheet limits One _ _ s.0; two = in_sheet limits Two _ _ s.1 },
     ))
-    (λ r fitting. let fits = fitting.0 in (
-      (
-        (fits.position, fitting.1),
-        (
-          (fits.weight, fits.turns, fits.asked, fits.resolution),
-          (
-            (fits.lower, fits.upper, (fits.workers, fits.spent)),
-            (record { few = fits.one.few; rows = fits.one.rows; rising = fits.one.rising }, record { few = fits.two.few; rows = fits.two.rows; rising = fits.two.rising }),
-          ),
-        ),
-      ),
-      ap₂ (λ (one two : Sheet). record r { one = one; two = two }) (sheet_is One r.weight r.one fits.one) (sheet_is Two r.weight r.two fits.two),
+    (λ r fits. (
+      (fits.position, (fits.terms, (fits.findings, (rows_fit limits One r.weight r.one fits.one, rows_fit limits Two r.weight r.two fits.two)))),
+      ap₂ (λ (one two : Sheet). record r { one = one; two = two }) (sheet_is limits One r.weight r.one fits.one) (sheet_is limits Two r.weight r.two fits.two),
     ))
+
+-- ---- the version of a report
+
+-- what a report has within the limits of its version
+record IsVersion (r : Report) (version : ℕ) : Type 0 where
+  known : Within 1 newest_version version
+  position : IsPositionInRange r.position → IsInVersion version r.position
+
+own_game : (k : GameKind) → (Within 1 newest_version (game_version k)) × ((limits_of (game_version k) ≡ Narrow) × (has_game (game_version k) k ≡ true))
+own_game Goofspiel = ((omega arith, omega arith), (refl, refl))
+own_game OshiZumo = ((omega arith, omega arith), (refl, refl))
+own_game Tron = ((omega arith, omega arith), (refl, refl))
+own_game GoofspielDrawn = ((omega arith, omega arith), (refl, refl))
+own_game Pursuit = ((omega arith, omega arith), (refl, refl))
+own_game Table = ((omega arith, omega arith), (refl, refl))
+
+newest_has : (k : GameKind) → has_game newest_version k ≡ true
+newest_has Goofspiel = refl
+newest_has OshiZumo = refl
+newest_has Tron = refl
+newest_has GoofspielDrawn = refl
+newest_has Pursuit = refl
+newest_has Table = refl
+
+narrow_position : (text : PositionText) (b : Bool) → (not (is_narrow text) || b) ≡ false → is_narrow text ≡ true
+narrow_position text b e = elim (is_narrow text) as (λ t. (not t || b) ≡ false → t ≡ true) [
+  | true ↦ λ h. refl
+  | false ↦ λ h. absurd cc
+] e
+
+version_is : (r : Report) → IsVersion r (version_of r)
+version_is r =
+    let k = kind_of r.position in
+    let own = own_game k in
+    elim (needs_newest r) as (λ b. needs_newest r ≡ b → IsVersion r (cond b newest_version (game_version k))) [
+      | true ↦ λ needs. record { known = (omega arith, omega arith); position = λ fits. record { values = fits; game = newest_has k } }
+      | false ↦ λ needs.
+          let narrow = narrow_position r.position (is_long r.one || is_long r.two) needs in
+          record {
+            known = own.0;
+            position = λ fits. record { values = rw (own.1.0) (narrow_fits r.position fits narrow); game = own.1.1 };
+          }
+    ] refl
+
+-- a report in range is one of its version
+of_own : (r : Report) → IsInRange r → IsOfVersion (version_of r) r
+of_own r fits = record {
+  position = (version_is r).position fits.position;
+  terms = (fits.weight, fits.turns, fits.asked, fits.resolution);
+  findings = (fits.lower, fits.upper, (fits.workers, fits.spent));
+  one = fits.one;
+  two = fits.two;
+}
+
+in_own : (version : ℕ) (r : Report) → IsOfVersion version r → version_of r ≡ version → IsInRange r
+in_own version r is own =
+    let t = is.terms in
+    let f = is.findings in record {
+      position = within_wide (limits_of version) (kind_of r.position) (values_of r.position) is.position.values;
+      weight = t.0;
+      turns = t.1;
+      asked = t.2;
+      resolution = t.3;
+      lower = f.0;
+      upper = f.1;
+      workers = f.2.0;
+      spent = f.2.1;
+      one = subst (λ (v : ℕ). IsSheetInRange (limits_of v) One r.weight r.one) (sym own) is.one;
+      two = subst (λ (v : ℕ). IsSheetInRange (limits_of v) Two r.weight r.two) (sym own) is.two;
+    }
 
 -- ---- the text in one row
 
@@ -304,7 +437,7 @@ head_fields version = codes "dosolve" ∷ codes "report" ∷ decimal version ∷
 grouped : (w t a r o l u s rest : List ℕ) → w ++ (t ++ (a ++ (r ++ (o ++ (l ++ (u ++ (s ++ rest))))))) ≡ (w ++ (t ++ (a ++ r))) ++ ((o ++ (l ++ (u ++ s))) ++ rest)
 grouped w t a r o l u s rest = simp append_assoc
 
-report_text-body : (r : Report) → report_text r ≡ line_text (head_fields (version_of r.position)) ++ body r
+report_text-body : (r : Report) → report_text r ≡ line_text (head_fields (version_of r)) ++ body r
 unfolding report_lines
 report_text-body r =
     let one = sheet_lines (codes "one") r.one.rows in
@@ -312,7 +445,7 @@ report_text-body r =
     let last = (codes "end" ∷ []) ∷ [] in
     let both : text_of (one ++ (two ++ last)) ≡ sheets_text (r.one.rows, r.two.rows) =
     flat_map-append line_text one (two ++ last) ∙ ap (λ (rest : List ℕ). text_of one ++ rest) (flat_map-append line_text two last) in
-    ap (λ (rest : List ℕ). line_text (head_fields (version_of r.position)) ++ (line_text (codes "game" ∷ position_fields r.position) ++ rest))
+    ap (λ (rest : List ℕ). line_text (head_fields (version_of r)) ++ (line_text (codes "game" ∷ position_fields r.position) ++ rest))
     (grouped (line_text (codes "weight" ∷ decimal r.weight ∷ [])) (line_text (codes "turns" ∷ decimal r.turns ∷ []))
     (line_text (codes "asked" ∷ signed_decimal r.asked ∷ [])) (line_text (codes "resolution" ∷ signed_decimal r.resolution ∷ []))
     (line_text (codes "outcome" ∷ outcome_word r.outcome ∷ [])) (line_text (codes "lower" ∷ signed_decimal r.lower ∷ []))
@@ -340,10 +473,10 @@ head_takes : (u : Unread) (x : ℕ × Unread) → head u ≡ Ok x → joined u.p
 unfolding head
 head_takes u x e = (version_line_law.takes u x (or_head_ok (version_line u) x e)).0
 
-head_again : (k : GameKind) (rest : List ℕ)
-    → (m : ℕ) × (head (record { parts = lines_in (line_text (head_fields (game_version k)) ++ rest); number = 1 }) ≡ Ok (game_version k, record { parts = lines_in rest; number = m }))
+head_again : (version : ℕ) (rest : List ℕ) → Within 1 newest_version version
+    → (m : ℕ) × (head (record { parts = lines_in (line_text (head_fields version) ++ rest); number = 1 }) ≡ Ok (version, record { parts = lines_in rest; number = m }))
 unfolding head
-head_again k rest = let a = version_line_law.again 1 (game_version k) rest (known_version k) in (a.0, ap or_head a.1)
+head_again version rest known = let a = version_line_law.again 1 version rest known in (a.0, ap or_head a.1)
 
 nothing_left : (lines : List (List ℕ)) → ended lines ≡ true → joined lines ≡ []
 nothing_left [] e = absurd cc
@@ -353,38 +486,151 @@ nothing_left (line ∷ next ∷ more) e = absurd cc
 
 -- The text of a report in range is read as the report.
 pub read_again : (r : Report) → IsInRange r → read_report (report_text r) ≡ Ok r
-unfolding read_report
+unfolding read_report named_report
 read_again r fits =
-    let version = version_of r.position in
-    let h = head_again (kind_of r.position) (body r) in
-    let a = (report_law version).again h.0 r [] (fits, refl) in
+    let version = version_of r in
+    let h = head_again version (body r) (version_is r).known in
+    let a = (report_law version).again h.0 r [] (of_own r fits) in
     let rest = subst (λ (t : List ℕ). report version (record { parts = lines_in t; number = h.0 }) ≡ Ok (r, record { parts = lines_in []; number = a.0 })) (append-nil (body r)) a.1 in
-    ap read_report (report_text-body r) ∙ rw (h.1, rest) refl
+    ap read_report (report_text-body r) ∙ rw (h.1, rest, eq-eqb version version refl) refl
+
+-- what bytes are that name a version and are read under it
+record IsNamed (bytes : List ℕ) (x : ℕ × Report) : Type 0 where
+  fits : IsOfVersion x.0 x.1
+  text : bytes ≡ line_text (head_fields x.0) ++ body x.1
+
+named_takes : (bytes : List ℕ) (x : ℕ × Report) → named_report bytes ≡ Ok x → IsNamed bytes x
+unfolding named_report
+named_takes bytes x e =
+    let h = bind_ok (head (record { parts = lines_in bytes; number = 1 })) _ x e in
+    let r = bind_ok (report h.0.0 h.0.1) _ x h.2 in
+    let over = test_ok (ended r.0.1.parts) (Ok (h.0.0, r.0.0)) _ x r.2 in
+    let taken = (report_law h.0.0).takes h.0.1 r.0 r.1 in
+    subst (IsNamed bytes) (ok_is (h.0.0, r.0.0) x over.1) (record {
+      fits = taken.1;
+      text = sym (join_with_byte-slice_split 10 bytes) ∙ head_takes _ h.0 h.1
+          ∙ ap (λ (rest : List ℕ). line_text (head_fields h.0.0) ++ rest)
+          (taken.0 ∙ ap (λ (rest : List ℕ). body r.0.0 ++ rest) (nothing_left r.0.1.parts over.0) ∙ append-nil (body r.0.0));
+    })
+
+-- The position of what is read is in range, whichever version the bytes name.
+pub named_position : (bytes : List ℕ) (x : ℕ × Report) → named_report bytes ≡ Ok x → IsPositionInRange x.1.position
+named_position bytes x e =
+    let position = (named_takes bytes x e).fits.position in
+    within_wide (limits_of x.0) (kind_of x.1.position) (values_of x.1.position) position.values
+
+-- Under its own version it is a report in range, and the bytes are its text.
+pub named_own : (bytes : List ℕ) (x : ℕ × Report) → named_report bytes ≡ Ok x → version_of x.1 ≡ x.0 → (bytes ≡ report_text x.1) × IsInRange x.1
+named_own bytes x e version =
+    let named = named_takes bytes x e in (
+      named.text ∙ ap (λ (v : ℕ). line_text (head_fields v) ++ body x.1) (sym version) ∙ sym (report_text-body x.1),
+      in_own x.0 x.1 named.fits version,
+    )
+
+-- What is read as a report names its version.
+pub read_named : (bytes : List ℕ) (r : Report) → read_report bytes ≡ Ok r → named_report bytes ≡ Ok (version_of r, r)
+unfolding read_report
+read_named bytes r e =
+    let n = bind_ok (named_report bytes) _ r e in
+    let own = test_ok (version_of n.0.1 == n.0.0) _ _ r n.2 in
+    let is : n.0.1 ≡ r = ok_is n.0.1 r own.1 in
+    let version : n.0.0 ≡ version_of r = sym (eqb-true _ _ own.0) ∙ ap version_of is in
+    n.1 ∙ ap Ok (λ i. (version i, is i))
 
 -- Bytes that are read as a report are its text, and it is in range.
 pub read_takes : (bytes : List ℕ) (r : Report) → read_report bytes ≡ Ok r → (bytes ≡ report_text r) × IsInRange r
-unfolding read_report
-read_takes bytes r e =
-    let h = bind_ok (head (record { parts = lines_in bytes; number = 1 })) _ r e in
-    let x = bind_ok (report h.0.0 h.0.1) _ r h.2 in
-    let over = test_ok (ended x.0.1.parts) _ _ r x.2 in
-    let taken = (report_law h.0.0).takes h.0.1 x.0 x.1 in
-    let text = x.0.0 in
-    let front : ℕ → List ℕ = λ version. line_text (head_fields version) in
-    let whole : bytes ≡ report_text text =
-    sym (join_with_byte-slice_split 10 bytes) ∙ head_takes _ h.0 h.1
-    ∙ ap (λ (rest : List ℕ). front h.0.0 ++ rest) (taken.0 ∙ ap (λ (rest : List ℕ). body text ++ rest) (nothing_left x.0.1.parts over.0) ∙ append-nil (body text))
-    ∙ ap (λ (version : ℕ). front version ++ body text) (sym taken.1.1) ∙ sym (report_text-body text) in
-    subst (λ (r : Report). (bytes ≡ report_text r) × IsInRange r) (ok_is text r over.1) (whole, taken.1.0)
+read_takes bytes r e = named_own bytes (version_of r, r) (read_named bytes r e) refl
 
-pub report_short : (r : Report) → IsInRange r → length (report_text r) ≤ 1073741824
-report_short r fits =
-    let version = version_of r.position in
+-- ---- below the newest version
+
+old_limits : (version : ℕ) → version ≤ 2 → limits_of version ≡ Narrow
+old_limits zero old = refl
+old_limits (suc zero) old = refl
+old_limits (suc (suc zero)) old = refl
+old_limits (suc (suc (suc n))) old = absurd (omega (arith, old))
+
+not_newest : (version : ℕ) → version ≤ 2 → (version == newest_version) ≡ false
+not_newest zero old = refl
+not_newest (suc zero) old = refl
+not_newest (suc (suc zero)) old = refl
+not_newest (suc (suc (suc n))) old = absurd (omega (arith, old))
+
+left_of : (a b : Bool) → b ≡ false → (a || b) ≡ true → a ≡ true
+left_of true b none e = refl
+left_of false b none e = let both : false ≡ true = sym none ∙ e in absurd cc
+
+own_version : (version : ℕ) (k : GameKind) → version ≤ 2 → has_game version k ≡ true → game_version k ≡ version
+own_version version k old e = eqb-true _ _ (left_of (game_version k == version) (version == newest_version) (not_newest version old) e)
+
+not_long : (s : Sheet) → length s.rows ≤ most_rows Narrow → is_long s ≡ false
+not_long s few = grind arith
+
+own_below : (version : ℕ) (r : Report) → version ≤ 2 → IsOfVersion version r → version_of r ≡ version
+own_below version r old is =
+    let narrow = old_limits version old in
+    let Holds : Limits → Type 0 = λ limits. AllFit (kinds_of limits (kind_of r.position)) (values_of r.position) in
+    let place = fits_narrow r.position (subst Holds narrow is.position.values) in
+    let one = not_long r.one (subst (λ (limits : Limits). length r.one.rows ≤ most_rows limits) narrow is.one.few) in
+    let two = not_long r.two (subst (λ (limits : Limits). length r.two.rows ≤ most_rows limits) narrow is.two.few) in
+    rw (place, one, two) (own_version version (kind_of r.position) old is.position.game)
+
+-- What is read under a lower version has that version.
+pub read_below : (version : ℕ) (u : Unread) (x : Report × Unread) → version ≤ 2 → report version u ≡ Ok x → version_of x.0 ≡ version
+read_below version u x old e = own_below version x.0 old ((report_law version).takes u x e).1
+
+-- ---- how long a text can be
+
+body_by_rows : (version : ℕ) (r : Report) → IsOfVersion version r
+    → length (body r) ≤ 1000 + line_most (limits_of version) + (length r.one.rows * row_most (limits_of version) + length r.two.rows * row_most (limits_of version))
+body_by_rows version r is =
+    let limits = limits_of version in
+    let line = line_text (codes "game" ∷ position_fields r.position) in
+    let terms = terms_text (r.weight, r.turns, r.asked, r.resolution) in
+    let findings = findings_text (r.outcome, r.lower, r.upper, r.spent) in
+    let one = text_of (sheet_lines (codes "one") r.one.rows) in
+    let two = text_of (sheet_lines (codes "two") r.two.rows) in
+    let end = line_text (codes "end" ∷ []) in
+    omega (
+      arith,
+      length-append line (terms ++ (findings ++ (one ++ (two ++ end)))),
+      length-append terms (findings ++ (one ++ (two ++ end))),
+      length-append findings (one ++ (two ++ end)),
+      length-append one (two ++ end),
+      length-append two end,
+      (game_line_law version).short r.position is.position,
+      terms_law.short (r.weight, r.turns, r.asked, r.resolution) is.terms,
+      findings_law.short (r.outcome, r.lower, r.upper, r.spent) is.findings,
+      sheet_by_rows (codes "one") (clean_word (codes "one") refl) limits r.one.rows (rows_fit limits One r.weight r.one is.one),
+      sheet_by_rows (codes "two") (clean_word (codes "two") refl) limits r.two.rows (rows_fit limits Two r.weight r.two is.two),
+    )
+
+text_by_rows : (r : Report) → IsInRange r
+    → length (report_text r) ≤ 1037 + line_most (limits_of (version_of r)) + (length r.one.rows * row_most (limits_of (version_of r)) + length r.two.rows * row_most (limits_of (version_of r)))
+text_by_rows r fits =
+    let version = version_of r in
     omega (
       arith,
       ap length (report_text-body r),
       length-append (line_text (head_fields version)) (body r),
-      version_line_law.short version
-          (known_version (kind_of r.position)),
-      (report_law version).short r (fits, refl),
+      version_line_law.short version (version_is r).known,
+      body_by_rows version r (of_own r fits),
     )
+
+line_few : (limits : Limits) → line_most limits ≤ 2900000000
+line_few Narrow = omega arith
+line_few Wide = omega arith
+
+pub report_by_rows : (r : Report) → IsInRange r → length (report_text r) ≤ 2900001037 + (length r.one.rows + length r.two.rows) * 555
+report_by_rows r fits =
+    let limits = limits_of (version_of r) in
+    omega (arith, text_by_rows r fits, line_few limits, wide_row limits (length r.one.rows), wide_row limits (length r.two.rows))
+
+narrow_short : (r : Report) (limits : Limits) → limits ≡ Narrow → (one two : ℕ) → one ≤ most_rows limits → two ≤ most_rows limits
+    → 1037 + line_most limits + (one * row_most limits + two * row_most limits) ≤ 1073741824
+narrow_short r limits is one two few_one few_two =
+    omega (arith, few_bytes limits one few_one, few_bytes limits two few_two, ap line_most is, ap rows_most is)
+
+pub report_short : (r : Report) → IsInRange r → version_of r ≤ 2 → length (report_text r) ≤ 1073741824
+report_short r fits old =
+    let limits = limits_of (version_of r) in
+    omega (arith, text_by_rows r fits, narrow_short r limits (old_limits (version_of r) old) (length r.one.rows) (length r.two.rows) fits.one.few fits.two.few)

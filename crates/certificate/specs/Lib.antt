@@ -2,6 +2,7 @@ pub mod Unread
 pub mod Numbers
 pub mod Readers
 pub mod Spellings
+pub mod Versions
 pub mod Positions
 pub mod Texts
 pub mod Ranges

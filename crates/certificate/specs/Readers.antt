@@ -90,6 +90,10 @@ list_parts most text =
 unfoldable pub list_in : {A : Type 0} → (List ℕ → Option A) → ℕ → List ℕ → Option (List A)
 list_in value most text = option_and_then (λ parts. each_in value parts) (list_parts most text)
 
+-- the same, of some values
+unfoldable pub some_list_in : {A : Type 0} → (List ℕ → Option A) → ℕ → List ℕ → Option (List A)
+some_list_in value most text = option_and_then (λ xs. if length xs == 0 then None else Some xs) (list_in value most text)
+
 -- this word stands next
 unfoldable pub expected_word : List ℕ → Reads (Unit {0})
 expected_word word u = do

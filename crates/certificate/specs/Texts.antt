@@ -5,7 +5,8 @@ use Rattle.plan_book.specs.declared.SheetRow.{SheetRow}
 use Rattle.certificate.specs.declared.report.Outcome.{Outcome}
 use Rattle.certificate.specs.declared.report.Outcome.TheVariants.{Closed, Settled, Spent, Full}
 use Rattle.certificate.specs.declared.report.Report.{Report}
-use Rattle.certificate.specs.Positions.{position_fields, version_of}
+use Rattle.certificate.specs.Versions.{version_of}
+use Rattle.certificate.specs.Positions.{position_fields}
 use Rattle.text.specs.Texts.{text_of}
 
 abbrev pub outcome_word : Outcome → List ℕ
@@ -23,7 +24,7 @@ sheet_lines word rows = (word ∷ decimal (length rows) ∷ []) ∷ map row_fiel
 
 unfoldable pub report_lines : Report → List (List (List ℕ))
 report_lines r =
-    (codes "dosolve" ∷ codes "report" ∷ decimal (version_of r.position) ∷ [])
+    (codes "dosolve" ∷ codes "report" ∷ decimal (version_of r) ∷ [])
     ∷ (codes "game" ∷ position_fields r.position)
     ∷ (codes "weight" ∷ decimal r.weight ∷ [])
     ∷ (codes "turns" ∷ decimal r.turns ∷ [])

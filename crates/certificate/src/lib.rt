@@ -11,15 +11,18 @@ mod reading;
 mod report;
 mod rows;
 mod values;
+mod version;
 mod writing;
 
 pub use error::TextError;
 pub use fields::{
-    ASK, ASKED, Absent, Ask, AskRow, Choices, FIELDS, Field, FieldKind, FieldRow, GameKind, LEAST,
+    ASK, ASKED, Absent, Ask, AskRow, Choices, Field, FieldKind, FieldRow, GameKind, LEAST, Limits,
     Pay, PositionText, StageMethod, Value, Word,
 };
 pub use numbers::natural;
-pub use positions::version;
-pub use reading::{read, reading_undoes_writing, texts_are_short};
+pub use reading::{
+    NamedReport, lower_versions_are_their_own, read, read_named, reading_undoes_writing,
+    texts_are_short,
+};
 pub use report::{Outcome, Report};
 pub use writing::write;

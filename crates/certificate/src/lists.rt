@@ -2,7 +2,7 @@
 
 ghost use Rattle.std.specs.Prelude.{◌≡◌, [], IfOk, IfSome};
 ghost use Rattle.certificate.specs.Numbers.{natural_in, integer_in};
-ghost use Rattle.certificate.specs.Readers.{each_in, naturals_in, list_parts, list_in};
+ghost use Rattle.certificate.specs.Readers.{each_in, naturals_in, list_parts, list_in, some_list_in};
 
 use crate::numbers::{natural, short_integer};
 use crate::parts::{Parts, has_parts};
@@ -110,5 +110,22 @@ pub(crate) fn numbers(
     match list_parts(text, most) {
         Some(mut parts) => integers(alloc, &mut parts, low, high),
         None => Ok(None),
+    }
+}
+
+/// The same, if there is some number.
+#[tactic(auto, unfolding(crate::specs::Readers::some_list_in))]
+pub(crate) fn some_numbers(
+    alloc: Global,
+    text: &[u8],
+    low: i32,
+    high: i32,
+    most: usize,
+) -> Result<Option<Seq<i32>>, AllocError>
+    ensures { IfOk result (λ o. o ≡ some_list_in (integer_in low high) most text.now) }
+{
+    match numbers(alloc, text, low, high, most)? {
+        Some(zs) if !zs.is_empty() => Ok(Some(zs)),
+        _ => Ok(None),
     }
 }

@@ -1,14 +1,18 @@
 //! The report that a text spells.
 
-ghost use Rattle.std.specs.Prelude.{◌≡◌, ◌≤◌, ℕ, List, length, Ok, IfOk};
+ghost use Rattle.std.specs.Prelude.{◌≡◌, ◌≤◌, ◌+◌, ◌*◌, ℕ, List, length, Ok, IfOk};
 ghost use Rattle.certificate.specs.declared.report.Report.{Report};
+ghost use Rattle.fields.specs.Ranges.{IsPositionInRange};
 ghost use Rattle.certificate.specs.Ranges.{IsInRange};
 ghost use Rattle.certificate.specs.Texts.{report_text};
-ghost use Rattle.certificate.specs.Reading.{Gives, outcome_of, outcome, outcome_line, spent_line, end_line, version_line, head, terms, findings, sheets, report, read_report};
+ghost use Rattle.certificate.specs.Unread.{Unread};
+ghost use Rattle.certificate.specs.Versions.{version_of};
+ghost use Rattle.certificate.specs.Reading.{Gives, outcome_of, outcome, outcome_line, spent_line, end_line, version_line, head, terms, findings, sheets, report, named_report, read_report};
 
 use crate::lines::{Line, Lines};
-use crate::positions::NEWEST_VERSION;
+use crate::version::{NEWEST_VERSION, limits_of};
 use crate::{Outcome, Report, TextError};
+use fields::Limits;
 use plan_book::{Sheet, SheetRow};
 use seq::Seq;
 use sim_game::Side;
@@ -69,7 +73,7 @@ impl Lines<'_> {
         let mut line = self.line(3, 3)?;
         line.expect(b"dosolve")?;
         line.expect(b"report")?;
-        let version = line.natural(1, NEWEST_VERSION)?;
+        let version = line.natural(1, NEWEST_VERSION as u64)?;
         Ok(version as u32)
     }
 
@@ -111,11 +115,15 @@ impl Lines<'_> {
 
     /// The rows of both sheets, and the last line.
     #[tactic(auto, unfolding(crate::specs::Reading::sheets))]
-    fn sheets(&mut self, alloc: Global) -> Result<(Seq<SheetRow>, Seq<SheetRow>), TextError>
-        ensures { Gives (λ x. (x, self.new)) result (sheets self.old) }
+    fn sheets(
+        &mut self,
+        alloc: Global,
+        limits: Limits,
+    ) -> Result<(Seq<SheetRow>, Seq<SheetRow>), TextError>
+        ensures { Gives (λ x. (x, self.new)) result (sheets limits self.old) }
     {
-        let one = self.sheet(alloc, b"one")?;
-        let two = self.sheet(alloc, b"two")?;
+        let one = self.sheet(alloc, limits, b"one")?;
+        let two = self.sheet(alloc, limits, b"two")?;
         self.end()?;
         Ok((one, two))
     }
@@ -128,7 +136,7 @@ impl Lines<'_> {
         let position = self.game(alloc, version)?;
         let (weight, turns, asked, resolution) = self.terms()?;
         let (outcome, lower, upper, spent) = self.findings(alloc)?;
-        let (one, two) = self.sheets(alloc)?;
+        let (one, two) = self.sheets(alloc, limits_of(version))?;
         Ok(Report {
             position,
             weight,
@@ -153,8 +161,33 @@ impl Lines<'_> {
     }
 }
 
-/// The report that the text spells, or its first fault. Lines are tried in order, each for its end, its form, its
-/// numbers and its place.
+/// A report, and the version that its text names, which need not be its own.
+#[derive(Drop)]
+pub struct NamedReport {
+    pub version: u32,
+    pub report: Report,
+}
+
+/// The version that the text names, and the report that it spells under it, or the first fault. Lines are tried in order,
+/// each for its end, its form, its numbers and its place.
+#[tactic(auto, unfolding(crate::specs::Reading::named_report))]
+pub fn read_named(alloc: Global, text: &[u8]) -> Result<NamedReport, TextError>
+    ensures exact { Gives (λ x. (x.version, x.report)) result (named_report text.now) }
+    ensures position { IfOk result (λ x. IsPositionInRange x.report.position) }
+    // Under its own version it is a report in range.
+    ensures own { IfOk result (λ x. version_of x.report ≡ x.version → IsInRange x.report) }
+{
+    let mut lines = Lines::new(text);
+    let version = lines.head()?;
+    let report = lines.report(alloc, version)?;
+    if !lines.is_over() {
+        return Err(TextError::Tail);
+    }
+    Ok(NamedReport { version, report })
+}
+
+/// The report that the text spells, or its first fault. A version that is not the report's own is found last, as a fault
+/// of the first line.
 #[tactic(auto, unfolding(crate::specs::Reading::read_report))]
 pub fn read(alloc: Global, text: &[u8]) -> Result<Report, TextError>
     ensures exact { Gives (λ r. r) result (read_report text.now) }
@@ -162,11 +195,9 @@ pub fn read(alloc: Global, text: &[u8]) -> Result<Report, TextError>
     ensures in_range { IfOk result IsInRange }
     ensures text { IfOk result (λ r. text.now ≡ report_text r) }
 {
-    let mut lines = Lines::new(text);
-    let version = lines.head()?;
-    let report = lines.report(alloc, version)?;
-    if !lines.is_over() {
-        return Err(TextError::Tail);
+    let NamedReport { version, report } = read_named(alloc, text)?;
+    if report.version() != version {
+        return Err(TextError::Head);
     }
     Ok(report)
 }
@@ -178,7 +209,15 @@ pub fn reading_undoes_writing()
         → (bytes ≡ report_text r) × IsInRange r }
 {}
 
-/// The text of a report in range has at most 1073741824 bytes.
+/// Below version 3 what is read has the version that its text names, so no text is refused for that.
+pub fn lower_versions_are_their_own()
+    ensures { (version : ℕ) (u : Unread) (x : Report × Unread) → version ≤ 2
+        → report version u ≡ Ok x → version_of x.0 ≡ version }
+{}
+
+/// How long the text of a report can be, in bytes: in all, and below version 3.
 pub fn texts_are_short()
-    ensures { (r : Report) → IsInRange r → length (report_text r) ≤ 1073741824 }
+    ensures by_rows { (r : Report) → IsInRange r
+        → length (report_text r) ≤ 2900001037 + (length r.one.rows + length r.two.rows) * 555 }
+    ensures narrow { (r : Report) → IsInRange r → version_of r ≤ 2 → length (report_text r) ≤ 1073741824 }
 {}

@@ -6,7 +6,7 @@ ghost use Rattle.certificate.specs.Ranges.{IsInRange};
 ghost use Rattle.certificate.specs.Reading.{read_report};
 ghost use Rattle.certificate.specs.Texts.{outcome_word, row_fields, sheet_lines, report_lines, report_text};
 
-use crate::positions::{add_position, version_of};
+use crate::positions::add_position;
 use crate::{Outcome, Report};
 use plan_book::SheetRow;
 use sim_game::NoMemory;
@@ -53,11 +53,11 @@ fn add_sheet(text: &mut Text, word: &[u8], rows: &[SheetRow]) -> Result<(), NoMe
 }
 
 #[tactic(auto, unfolding(crate::specs::Texts::report_lines))]
-fn add_report(text: &mut Text, r: &Report) -> Result<(), NoMemory>
+fn add_report(alloc: Global, text: &mut Text, r: &Report) -> Result<(), NoMemory>
     ensures { OnOk result (Adds text.old text.new (report_text r.now)) }
 {
-    text.named(b"dosolve report", &version_of(&r.position))?;
-    add_position(text, &r.position)?;
+    text.named(b"dosolve report", &r.version())?;
+    add_position(alloc, text, &r.position)?;
     text.named(b"weight", &r.weight)?;
     text.named(b"turns", &r.turns)?;
     text.named(b"asked", &r.asked)?;
@@ -78,6 +78,6 @@ pub fn write(alloc: Global, r: &Report) -> Result<Vec<u8>, NoMemory>
     ensures again { IfOk result (λ v. read_report v.items ≡ Ok r.now) }
 {
     let mut text = Text::new(alloc);
-    add_report(&mut text, r)?;
+    add_report(alloc, &mut text, r)?;
     Ok(text.into_bytes())
 }

@@ -19,7 +19,7 @@ use Rattle.checker.specs.declared.verdict.Why.{Why}
 use Rattle.checker.specs.declared.verdict.Why.TheVariants.{Weights, Bound, Idle, Root, Outside, OutcomeWrong, ResolutionWrong}
 use Rattle.checker.specs.declared.verdict.Verdict.{Verdict}
 use Rattle.checker.specs.declared.verdict.Verdict.TheVariants.{Accepted, Refused}
-use Rattle.checker.specs.Faults.{IsUsed, HasWholeWeights, worth_of, need_of, IsRowFault, IsFirstFault, IsReplyFault, IsFirstReply}
+use Rattle.checker.specs.Faults.{IsInside, IsUsed, HasWholeWeights, worth_of, need_of, IsRowFault, IsFirstFault, IsReplyFault, IsFirstReply}
 use Rattle.checker.specs.Verdicts.{IsRight, IsResolutionFor, IsNumberFault, IsFirstWhy, IsVerdict}
 
 pub same_number : (x y : ℤ) → SFits w64 x → SFits w64 y → of_z w64 x ≡ of_z w64 y → x ≡ y
@@ -40,6 +40,9 @@ module _ {S : Type 0} (m : GameModel S) (game : IsGame m) (sheet : Sheet) (r : S
   whole_here : (s : S) → IsUsed m sheet r.key s → HasWholeWeights m sheet r s
   whole_here s used = subst (HasWholeWeights m sheet r) (same_state s used) (record { one_each = lawful.step.one_each; sums = lawful.step.sums })
 
+  inside_here : (s : S) → IsUsed m sheet r.key s → IsInside m r s
+  inside_here s used = subst (IsInside m r) (same_state s used) (record { low = lawful.low; high = lawful.high })
+
   reply_here : (s : S) (q : ℕ) → IsUsed m sheet r.key s → q < m.moves (other_side sheet.side) s → IsNoTighter sheet.side (need_of sheet r) (worth_of m sheet r.weights s q)
   reply_here s q used p =
       let same = same_state s used in
@@ -49,7 +52,7 @@ module _ {S : Type 0} (m : GameModel S) (game : IsGame m) (sheet : Sheet) (r : S
   no_row_fault : (w : Why) → IsRowFault m sheet r w → ⊥
   no_row_fault (Idle side key) h = h.2 lawful.state (record { reached = lawful.reached; goes_on = lawful.step.goes_on; is_key = lawful.is_key })
   no_row_fault (Weights side key) h = h.2.2 (whole_here h.0 h.1)
-  no_row_fault (Outside side key) h = h.2.3 (record { low = lawful.low; high = lawful.high })
+  no_row_fault (Outside side key) h = h.2.3 (inside_here h.0 h.1)
   no_row_fault (Bound side key reply amount need) h = tighter_not sheet.side _ _ h.2.2.2.fails (reply_here h.0 reply h.1 h.2.2.2.in_range)
   no_row_fault (Root side) h = h.2
   no_row_fault OutcomeWrong h = h.2
@@ -68,6 +71,9 @@ module _ {S : Type 0} (m : GameModel S) (game : IsGame m) (sheet : Sheet) (r : S
 
   whole_too : (s t : S) → IsUsed m sheet r.key s → IsUsed m sheet r.key t → HasWholeWeights m sheet r s → HasWholeWeights m sheet r t
   whole_too s t p q h = subst (HasWholeWeights m sheet r) (used_once s t p q) h
+
+  inside_too : (s t : S) → IsUsed m sheet r.key s → IsUsed m sheet r.key t → IsInside m r s → IsInside m r t
+  inside_too s t p q h = subst (IsInside m r) (used_once s t p q) h
 
   reply_once : (s : S) (x y : ℕ) → IsFirstReply m sheet r s x → IsFirstReply m sheet r s y → x ≡ y
   reply_once s x y p q = elim (cases_lt x y) [
@@ -102,10 +108,10 @@ module _ {S : Type 0} (m : GameModel S) (game : IsGame m) (sheet : Sheet) (r : S
   row_fault_once (Outside side1 key1) (Idle side2 key2) h1 h2 = absurd (h2.2 h1.0 h1.1)
   row_fault_once (Outside side1 key1) (Weights side2 key2) h1 h2 = absurd (h2.2.2 (whole_too h1.0 h2.0 h1.1 h2.1 h1.2.2))
   row_fault_once (Outside side1 key1) (Outside side2 key2) h1 h2 = rw (h1.2.0, h1.2.1, h2.2.0, h2.2.1) refl
-  row_fault_once (Outside side1 key1) (Bound side2 key2 reply2 amount2 need2) h1 h2 = absurd (h1.2.3 h2.2.1)
+  row_fault_once (Outside side1 key1) (Bound side2 key2 reply2 amount2 need2) h1 h2 = absurd (h1.2.3 (inside_too h2.0 h1.0 h2.1 h1.1 h2.2.1))
   row_fault_once (Bound side1 key1 reply1 amount1 need1) (Idle side2 key2) h1 h2 = absurd (h2.2 h1.0 h1.1)
   row_fault_once (Bound side1 key1 reply1 amount1 need1) (Weights side2 key2) h1 h2 = absurd (h2.2.2 (whole_too h1.0 h2.0 h1.1 h2.1 h1.2.0))
-  row_fault_once (Bound side1 key1 reply1 amount1 need1) (Outside side2 key2) h1 h2 = absurd (h2.2.3 h1.2.1)
+  row_fault_once (Bound side1 key1 reply1 amount1 need1) (Outside side2 key2) h1 h2 = absurd (h2.2.3 (inside_too h1.0 h2.0 h1.1 h2.1 h1.2.1))
   row_fault_once (Bound side1 key1 reply1 amount1 need1) (Bound side2 key2 reply2 amount2 need2) h1 h2 =
       bound_once h1.0 h2.0 (used_once h1.0 h2.0 h1.1 h2.1) side1 side2 key1 key2 reply1 reply2 amount1 amount2 need1 need2 h1.2.2 h2.2.2
   row_fault_once (Root side1) w h1 h2 = absurd h1.2

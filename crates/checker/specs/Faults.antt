@@ -3,7 +3,7 @@ use Rattle.std.specs.Prelude.{◌≡◌, ℕ, ◌<◌, ◌≤◌, ℤ, pos, ◌*
 use Rattle.std.specs.List.Sorted.{IsStrictlyIncreasing}
 use Rattle.sim_game.specs.Model.{GameModel}
 use Rattle.sim_game.specs.declared.Side.TheVariants.{One, Two}
-use Rattle.sim_game.specs.Sides.{other_side, IsNoTighter, IsTighter, opening_bound, child_of}
+use Rattle.sim_game.specs.Sides.{other_side, IsNoTighter, IsTighter, state_bound, over_turns}
 use Rattle.plan_book.specs.declared.Sheet.{Sheet}
 use Rattle.plan_book.specs.declared.SheetRow.{SheetRow}
 use Rattle.plan_book.specs.Plans.{AreWeights}
@@ -30,18 +30,18 @@ pub record IsUsed {S : Type 0} (m : GameModel S) (sheet : Sheet) (key : ℕ) (s 
 abbrev pub HasWholeWeights : {S : Type 0} → GameModel S → Sheet → SheetRow → S → Type 0
 HasWholeWeights m sheet r s = AreWeights (m.moves sheet.side s) sheet.total r.weights
 
--- the bound lies in the range of payoffs
-pub record IsInside {S : Type 0} (m : GameModel S) (r : SheetRow) : Type 0 where
-  pub low : opening_bound m One ≤ℤ r.bound
-  pub high : r.bound ≤ℤ opening_bound m Two
+-- the bound lies in the range of the state
+pub record IsInside {S : Type 0} (m : GameModel S) (r : SheetRow) (s : S) : Type 0 where
+  pub low : state_bound m One s ≤ℤ r.bound
+  pub high : r.bound ≤ℤ state_bound m Two s
 
--- the mean of the sheet's bounds at the draws of an own move and a reply
+-- the mean, over the draws of an own move and a reply, of the turn's reward with the sheet's bound at the state that follows
 abbrev pub cell_of : {S : Type 0} → GameModel S → Sheet → S → ℕ → ℕ → ℤ
-cell_of m sheet s own reply = cell m sheet.side s (λ o q d. bound_at m sheet.side sheet.rows (child_of m sheet.side s o q d)) own reply
+cell_of m sheet s own reply = cell m sheet.side s (over_turns m sheet.side s (bound_at m sheet.side sheet.rows)) own reply
 
 -- what weights are worth against a reply, over the bounds of the sheet
 abbrev pub worth_of : {S : Type 0} → GameModel S → Sheet → List ℕ → S → ℕ → ℤ
-worth_of m sheet weights s reply = worth m sheet.side s weights (λ own q d. bound_at m sheet.side sheet.rows (child_of m sheet.side s own q d)) reply
+worth_of m sheet weights s reply = worth m sheet.side s weights (over_turns m sheet.side s (bound_at m sheet.side sheet.rows)) reply
 
 -- what the weights have to be worth against each reply
 abbrev pub need_of : Sheet → SheetRow → ℤ
@@ -66,15 +66,15 @@ IsReplyFault m sheet r s _ = ⊥
 -- what is wrong with the row at its state; each fault comes where those before it do not
 abbrev pub IsFaultAt : {S : Type 0} → GameModel S → Sheet → SheetRow → S → Why → Type 0
 IsFaultAt m sheet r s (Weights side key) = (side ≡ sheet.side) × (key ≡ r.key) × ¬ HasWholeWeights m sheet r s
-IsFaultAt m sheet r s (Outside side key) = (side ≡ sheet.side) × (key ≡ r.key) × HasWholeWeights m sheet r s × ¬ IsInside m r
+IsFaultAt m sheet r s (Outside side key) = (side ≡ sheet.side) × (key ≡ r.key) × HasWholeWeights m sheet r s × ¬ IsInside m r s
 IsFaultAt m sheet r s (Bound side key reply amount need) =
-    HasWholeWeights m sheet r s × IsInside m r × IsReplyFault m sheet r s (Bound side key reply amount need)
+    HasWholeWeights m sheet r s × IsInside m r s × IsReplyFault m sheet r s (Bound side key reply amount need)
 IsFaultAt m sheet r s _ = ⊥
 
 -- nothing is wrong with the row at its state
 pub record IsSoundAt {S : Type 0} (m : GameModel S) (sheet : Sheet) (r : SheetRow) (s : S) : Type 0 where
   pub whole : HasWholeWeights m sheet r s
-  pub inside : IsInside m r
+  pub inside : IsInside m r s
   pub holds : HoldsBelow m sheet r s (m.moves (other_side sheet.side) s)
 
 -- what is wrong with the row

@@ -6,7 +6,7 @@ ghost use Rattle.sim_game.specs.Model.{Reachable};
 ghost use Rattle.plan_book.specs.Sheets.{row_at, bound_at};
 
 use plan_book::{Sheet, SheetRow};
-use sim_game::{Game, end_bound, opening_bound};
+use sim_game::{Game, end_bound, state_bound};
 
 /// How many places `Recent` has.
 pub(crate) const NUMBERS: usize = 1024;
@@ -16,7 +16,8 @@ pub(crate) const NUMBERS: usize = 1024;
 /// that a search from there takes a few steps.
 pub(crate) type Recent = [usize; NUMBERS];
 
-/// The bound of the state's row, else the payoff of an end, else what holds of every state; in millionths.
+/// The bound of the state's row, else the payoff of an end, else what holds of every value of the state; in
+/// millionths.
 pub(crate) fn bound_near<G: Game>(g: G, sheet: &Sheet, s: G::State, recent: &mut usize) -> i64
     requires rising { IsStrictlyIncreasing (map (λ r. r.key) sheet.now.rows) }
     requires reachable { Reachable (G.model g) s }
@@ -26,7 +27,7 @@ pub(crate) fn bound_near<G: Game>(g: G, sheet: &Sheet, s: G::State, recent: &mut
     match find(rows, g.key(s), recent) {
         Some(place) => rows[place].bound,
         None if g.rank(s) == 0 => end_bound(g, s),
-        None => opening_bound(g, sheet.side),
+        None => state_bound(g, sheet.side, s),
     }
 }
 

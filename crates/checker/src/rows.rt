@@ -13,7 +13,7 @@ use crate::reach::find_states;
 use crate::verdict::Why;
 use crate::worth::worth;
 use plan_book::{Sheet, SheetRow, is_whole};
-use sim_game::{Game, NoMemory, Side, opening_bound};
+use sim_game::{Game, NoMemory, Side, state_bound};
 use std::alloc::Global;
 use sums::weighted;
 
@@ -79,17 +79,18 @@ fn fault_at<G: Game>(
     if !is_whole(row.weights.as_slice(), g.moves(side, s), sheet.total) {
         return Some(Why::Weights { side, key });
     }
-    if !is_inside(g, row) {
+    if !is_inside(g, row, s) {
         return Some(Why::Outside { side, key });
     }
     reply_fault(g, sheet, row, s, recent)
 }
 
-/// Whether the row's bound is in the range of payoffs.
-fn is_inside<G: Game>(g: G, row: &SheetRow) -> bool
-    ensures { MatchBool result (IsInside (G.model g) row.now) (¬ IsInside (G.model g) row.now) }
+/// Whether the row's bound is in the range of its state.
+fn is_inside<G: Game>(g: G, row: &SheetRow, s: G::State) -> bool
+    requires { Reachable (G.model g) s }
+    ensures { MatchBool result (IsInside (G.model g) row.now s) (¬ IsInside (G.model g) row.now s) }
 {
-    opening_bound(g, Side::One) <= row.bound && row.bound <= opening_bound(g, Side::Two)
+    state_bound(g, Side::One, s) <= row.bound && row.bound <= state_bound(g, Side::Two, s)
 }
 
 /// The first reply against which the row's weights are not worth its bound.

@@ -1,5 +1,5 @@
 -- What the answers of solve and of check say of each other.
-use Rattle.std.proofs.Common.{◌≡◌, ℕ, List, Option, None, Some, Result, Ok, Err, refl, sym, ap, subst, ◌∙◌}
+use Rattle.std.proofs.Common.{◌≡◌, ℕ, ◌≤◌, List, length, Option, None, Some, Result, Ok, Err, refl, sym, ap, subst, ◌∙◌, arith}
 use Rattle.sim_game.specs.Model.{GameModel}
 use Rattle.sim_game.specs.Resolution.{IsResolution}
 use Rattle.checker.specs.declared.verdict.Why.{Why}
@@ -13,6 +13,8 @@ use Rattle.fields.specs.declared.positions.PositionText.{PositionText}
 use Rattle.certificate.specs.declared.report.Report.{Report}
 use Rattle.certificate.specs.Ranges.{IsInRange}
 use Rattle.certificate.specs.Texts.{report_text}
+use Rattle.certificate.specs.Versions.{version_of}
+use Rattle.certificate.proofs.ReportLaws.{read_named}
 use Rattle.position.specs.declared.games.InputError.{InputError}
 use Rattle.position.proofs.GameLemmas.{of_game_weaker, of_one_game}
 use Rattle.position.specs.Objects.{◌>>=◌, known_at}
@@ -21,7 +23,7 @@ use Rattle.commands.specs.declared.reports.ReportFault.TheVariants as faults
 use Rattle.position.specs.Games.{position_text_in, fault_of, OfGame}
 use Rattle.commands.specs.Runs.{IsSolved}
 use Rattle.commands.proofs.CheckLemmas.{report_built}
-use Rattle.certificate.proofs.LengthLemmas.{report_short}
+use Rattle.commands.proofs.ShortLemmas.{short_enough}
 use Rattle.commands.specs.Reports.{accepted_text, fault_text}
 use Rattle.commands.specs.Checks.{report_in, IsJudged, IsChecked}
 
@@ -81,13 +83,16 @@ built bytes task is =
 -- ---- what solve writes as a report is accepted
 pub reported_accepted : (bytes text : List ℕ) (status : ℕ) → IsSolved bytes status text → ¬ (status ≡ 2) → (r : Report) × (text ≡ report_text r) × IsChecked text 0 (accepted_text r)
 reported_accepted bytes _ _ (IsSolved.refused e is) not = absurd (not refl)
-reported_accepted bytes _ _ (IsSolved.reported task r is solves again) not =
+reported_accepted bytes _ _ (IsSolved.reported task r is asked solves again) not =
     let P : (S : Type 0) → GameModel S → Type 0 = λ S m. IsSolution m task.text task.ask r in
     let position : r.position ≡ task.text = of_one_game task.text P P (r.position ≡ task.text) (λ S m game p q. p.of_ask.position) solves solves in
     let in_range : IsInRange r = of_one_game task.text P P (IsInRange r) (λ S m game p q. p.in_range) solves solves in
+    let one : length r.one.rows ≤ task.ask.rows = of_one_game task.text P P (length r.one.rows ≤ task.ask.rows) (λ S m game p q. p.one_few) solves solves in
+    let two : length r.two.rows ≤ task.ask.rows = of_one_game task.text P P (length r.two.rows ≤ task.ask.rows) (λ S m game p q. p.two_few) solves solves in
     let right = of_game_weaker task.text P (λ S m. IsVerdict m r Accepted) (λ S m p. solution_is_right S m task.text task.ask r p) solves in
     let judged = subst (λ (t : PositionText). OfGame t (λ S m. IsVerdict m r Accepted)) (sym position) right in
-    (r, refl, IsChecked.accepted r (report_built (report_text r) (report_short r in_range) r again (ap fault_of position ∙ built bytes task is)) judged)
+    let short = short_enough r in_range (omega (arith, one, asked.rows)) (omega (arith, two, asked.rows)) in
+    (r, refl, IsChecked.accepted r (report_built (report_text r) short (version_of r) r (read_named (report_text r) r again) (ap fault_of position ∙ built bytes task is) refl) judged)
 
 pub accepted_alone : (bytes text answer : List ℕ) (status state : ℕ) → IsSolved bytes status text → ¬ (status ≡ 2) → IsChecked text state answer → state ≡ 0
 accepted_alone bytes text answer status state solved not checked =

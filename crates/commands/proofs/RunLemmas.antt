@@ -29,9 +29,11 @@ pub answers_where : (P : ℕ → List ℕ → Type 0) (Q : Type 0) (status : ℕ
 answers_where P Q status text result is said = IfOk-weaker result _ (λ a. P a.status a.text) (λ a s. rw (s.0, s.1) (is s.2)) said
 
 -- the refusal of bytes that are too many
-pub long_as : (P : List ℕ → ℕ → List ℕ → Type 0) (Q : Type 0) (limit status : ℕ) (text : List ℕ) (result : Result Answer NoMemory) → ((bytes : List ℕ) → length bytes ≡ limit + 1 → P bytes status text)
-    → IfOk result (λ a. (a.status ≡ status) × (a.text ≡ text) × Q) → IfOk result (λ a. (bytes : List ℕ) → length bytes ≡ limit + 1 → P bytes a.status a.text)
-long_as P Q limit status text result is said = IfOk-weaker result _ (λ a. (bytes : List ℕ) → length bytes ≡ limit + 1 → P bytes a.status a.text) (λ a s bytes long. rw (s.0, s.1) (is bytes long)) said
+pub long_as : (P : List ℕ → ℕ → List ℕ → Type 0) (Q : Type 0) (limit : List ℕ → ℕ) (status : ℕ) (text : List ℕ) (result : Result Answer NoMemory)
+    → ((bytes : List ℕ) → length bytes ≡ limit bytes + 1 → P bytes status text)
+    → IfOk result (λ a. (a.status ≡ status) × (a.text ≡ text) × Q) → IfOk result (λ a. (bytes : List ℕ) → length bytes ≡ limit bytes + 1 → P bytes a.status a.text)
+long_as P Q limit status text result is said =
+    IfOk-weaker result _ (λ a. (bytes : List ℕ) → length bytes ≡ limit bytes + 1 → P bytes a.status a.text) (λ a s bytes long. rw (s.0, s.1) (is bytes long)) said
 
 -- ---- refusals of positions
 pub fails_unless : (bytes : List ℕ) (e : InputError) → Fails e (position_of bytes) → ¬ (e ≡ errors.NoMemory) → position_of bytes ≡ Err e

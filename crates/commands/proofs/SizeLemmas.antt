@@ -18,6 +18,7 @@ use Rattle.sim_game.specs.Model.{GameModel, Turn, IsTurn, IsGame, Reachable, Has
 use Rattle.sim_game.proofs.StateLemmas.{more_states}
 use Rattle.sim_game.proofs.ReachLemmas.{reachable_induction}
 use Rattle.plan_book.specs.Serial.{nodes_within, tree_size}
+use Rattle.goofspiel.specs.declared.Pay.{Pay}
 use Rattle.goofspiel.specs.declared.Pay.TheVariants.{Margin}
 use Rattle.goofspiel.specs.declared.Setting.{Setting}
 use Rattle.goofspiel.specs.declared.State.{State}
@@ -25,7 +26,7 @@ use Rattle.goofspiel.specs.Cards.{members, cards, packed, rising}
 use Rattle.goofspiel.specs.CardLaws.{cards_packed, card_bid}
 use Rattle.goofspiel.specs.Laws.{goofspiel_is_game}
 use Rattle.goofspiel.specs.Position.{prizes_of, IsPosition, IsSettingOf}
-use Rattle.goofspiel.specs.Rules.{won, next_prize, after_bids, deal_of, state_of, goofspiel_game}
+use Rattle.goofspiel.specs.Rules.{won, won_by, next_prize, score_after, after_bids, deal_of, state_of, goofspiel_game}
 use Rattle.commands.specs.Samples.{sample_cards, rotated_left, sample_prizes}
 
 pub below_five : (P : ℕ → Type 0) → P 0 → P 1 → P 2 → P 3 → P 4 → (n : ℕ) → n < 5 → P n
@@ -139,7 +140,7 @@ keys_of held found = product with_score (product both_hands held held) found
 
 -- ---- the states of the first turns, one by one
 abbrev next_states : List ℕ → State → List State
-next_states prizes s = product (λ a b. state_of (after_bids (next_prize prizes (deal_of s)) (deal_of s) a b)) (range_with_len 0 (length (cards s.one))) (range_with_len 0 (length (cards s.two)))
+next_states prizes s = product (λ a b. state_of (after_bids Margin (next_prize prizes (deal_of s)) (deal_of s) a b)) (range_with_len 0 (length (cards s.one))) (range_with_len 0 (length (cards s.two)))
 
 abbrev states_after : List ℕ → State → ℕ → List State
 states_after prizes root zero = root ∷ []
@@ -164,7 +165,7 @@ nodes (suc count) = 1 + suc count * (suc count * nodes count)
 count_same_all : (n each : ℕ) (f : ℕ → ℕ) → ((a : ℕ) → a < n → f a ≡ each) → count_below n f ≡ n * each
 count_same_all n each f same = count_same n f (λ a. each) same ∙ count_constant n each
 
-module _ (g : Setting) (p : IsPosition g) where
+module _ (g : Setting) (p : IsPosition g) (by_margin : g.pay ≡ Margin) where
   abbrev game : GameModel State
   game = goofspiel_game g
 
@@ -195,11 +196,15 @@ module _ (g : Setting) (p : IsPosition g) where
       record {
         one_hand = hand_turn (length prizes) turns s.one t.one here.one_hand turn.one_below;
         two_hand = hand_turn (length prizes) turns s.two t.two here.two_hand turn.two_below;
-        score_found = rw place (in_unique (flat_map (outcomes prize) before) (s.score +ℤ change prize)
-            (in_flat_map (outcomes prize) before s.score (s.score +ℤ change prize) here.score_found (in_outcomes (get_or (cards s.one) t.one 0) (get_or (cards s.two) t.two 0) prize s.score)));
-        found = in_flat_map (next_states prizes) (states_after prizes game.root turns) s (after_turn game s t) here.found
-            (in_product (λ a b. state_of (after_bids (next_prize prizes (deal_of s)) (deal_of s) a b)) (range_with_len 0 (length (cards s.one))) (range_with_len 0 (length (cards s.two))) t.one t.two
-            (in_range (length (cards s.one)) t.one turn.one_below) (in_range (length (cards s.two)) t.two turn.two_below));
+        score_found = subst (λ (pay : Pay). Contains (scores g.score prizes (suc turns)) (score_after pay s.score (won_by (next_prize prizes (deal_of s)) (deal_of s) t.one t.two)))
+            (sym by_margin)
+            (rw place (in_unique (flat_map (outcomes prize) before) (s.score +ℤ change prize)
+            (in_flat_map (outcomes prize) before s.score (s.score +ℤ change prize) here.score_found (in_outcomes (get_or (cards s.one) t.one 0) (get_or (cards s.two) t.two 0) prize s.score))));
+        found = subst (λ (pay : Pay). Contains (states_after prizes game.root (suc turns)) (state_of (after_bids pay (next_prize prizes (deal_of s)) (deal_of s) t.one t.two))) (sym by_margin)
+            (in_flat_map (next_states prizes) (states_after prizes game.root turns) s (state_of (after_bids Margin (next_prize prizes (deal_of s)) (deal_of s) t.one t.two)) here.found
+            (in_product (λ a b. state_of (after_bids Margin (next_prize prizes (deal_of s)) (deal_of s) a b))
+            (range_with_len 0 (length (cards s.one))) (range_with_len 0 (length (cards s.two))) t.one t.two
+            (in_range (length (cards s.one)) t.one turn.one_below) (in_range (length (cards s.two)) t.two turn.two_below)));
       }
 
   -- one by one, or by hands and score
@@ -260,8 +265,8 @@ module _ (n : ℕ) (g : Setting) (p : IsPosition g) (is : IsSettingOf sample_car
       rw is.prizes_are (take_at (sample_prizes n) (replicate (13 - length (sample_prizes n)) 0) (length (sample_prizes n)) refl) in
       ap (λ count. take count g.prizes) is.count_is ∙ listed
 
-  start : IsAfter g p 0 (goofspiel_game g).root
-  start = root_after g p (all_cards g.one is.one_small is.one_is).0 (all_cards g.two is.two_small is.two_is).0
+  start : IsAfter g p is.pay_is 0 (goofspiel_game g).root
+  start = root_after g p is.pay_is (all_cards g.one is.one_small is.one_is).0 (all_cards g.two is.two_small is.two_is).0
 
   pub rank_is : (goofspiel_game g).rank (goofspiel_game g).root ≡ 5
   rank_is = (all_cards g.one is.one_small is.one_is).1
@@ -271,7 +276,7 @@ module _ (n : ℕ) (g : Setting) (p : IsPosition g) (is : IsSettingOf sample_car
       let made : ℕ → ℕ → ℤ → State = λ one two score. record { one = one; two = two; score = score } in
       let root : made g.one g.two g.score ≡ all_held = rw ((all_cards g.one is.one_small is.one_is).2, (all_cards g.two is.two_small is.two_is).2, is.score_is) refl in
       let few : length (all_keys (made g.one g.two g.score) (prizes_of g)) ≤ 3682 = rw (root, prizes_are) (few_below (n % 5) (mod-lt n (omega arith))) in
-      more_states (goofspiel_game g) _ 3682 (few_here g p start) few
+      more_states (goofspiel_game g) _ 3682 (few_here g p is.pay_is start) few
 
   pub size_is : tree_size (goofspiel_game g) (goofspiel_game g).root ≡ 32826
-  size_is = nodes_after g p ((goofspiel_game g).rank (goofspiel_game g).root) 0 (goofspiel_game g).root refl start ∙ ap nodes rank_is
+  size_is = nodes_after g p is.pay_is ((goofspiel_game g).rank (goofspiel_game g).root) 0 (goofspiel_game g).root refl start ∙ ap nodes rank_is

@@ -3,6 +3,7 @@ use Rattle.std.specs.Prelude.{◌≡◌, ℕ, ◌+◌, List, [], take, Option, N
 use Rattle.certificate.specs.declared.report.Report.{Report}
 use Rattle.position.specs.Games.{OfGame}
 use Rattle.position.specs.Position.{TaskText, position_of}
+use Rattle.fields.specs.Ranges.{IsAskInRange}
 use Rattle.solution.specs.Solutions.{IsSolution}
 use Rattle.commands.specs.declared.words.Command.{Command}
 use Rattle.commands.specs.declared.words.Command.TheVariants.{Reading, Sample}
@@ -13,7 +14,7 @@ use Rattle.commands.specs.Runs.{limit_of}
 abbrev pub input_of : Option Command → List ℕ → List ℕ
 input_of None bytes = []
 input_of (Some (Sample number)) bytes = []
-input_of (Some (Reading command)) bytes = take (limit_of command + 1) bytes
+input_of (Some (Reading command)) bytes = take (limit_of command bytes + 1) bytes
 
 -- as many games as can be played, where games are played
 abbrev pub CanRun : Option Command → Type 0
@@ -25,4 +26,5 @@ CanRun (Some (Reading command)) = HasFewGames command
 pub record IsFoundReport (bytes : List ℕ) (r : Report) : Type 0 where
   pub task : TaskText
   pub is_task : position_of bytes ≡ Ok task
+  pub asked : IsAskInRange task.ask
   pub solution : OfGame task.text (λ S m. IsSolution m task.text task.ask r)

@@ -1,8 +1,10 @@
 -- What check answers to the bytes of a report.
-use Rattle.std.specs.Prelude.{◌≡◌, ℕ, List, length, nat_lt, if◌then◌else◌, Option, None, Some, Result, Ok, Err}
+use Rattle.std.specs.Prelude.{◌≡◌, ◌==◌, ℕ, List, [], ◌∷◌, ◌++◌, codes, length, nat_lt, if◌then◌else◌, Option, None, Some, Result, Ok, Err}
 use Rattle.certificate.specs.declared.error.TextError.{TextError}
 use Rattle.certificate.specs.declared.report.Report.{Report}
-use Rattle.certificate.specs.Reading.{read_report}
+use Rattle.certificate.specs.declared.error.TextError.TheVariants as errors
+use Rattle.certificate.specs.Reading.{named_report}
+use Rattle.certificate.specs.Versions.{version_of}
 use Rattle.position.specs.declared.games.InputError.{InputError}
 use Rattle.position.specs.Games.{fault_of}
 use Rattle.checker.specs.declared.verdict.Why.{Why}
@@ -12,24 +14,29 @@ use Rattle.checker.specs.Verdicts.{IsVerdict}
 use Rattle.commands.specs.declared.reports.ReportFault.{ReportFault}
 use Rattle.commands.specs.declared.reports.ReportFault.TheVariants as faults
 use Rattle.position.specs.Games.{OfGame}
+use Rattle.devices.specs.Taken.{limit_for}
 use Rattle.commands.specs.Reports.{accepted_text, fault_text}
 
--- how many bytes a report may have
-abbrev pub most_report : ℕ
-most_report = 1073741824
+-- the first line of a report of version 3
+abbrev pub newest_head : List ℕ
+newest_head = codes "dosolve report 3" ++ 10 ∷ []
 
--- a report whose position breaks no rule of its game
-abbrev pub if_built : Option InputError → Report → Result Report ReportFault
-if_built None r = Ok r
-if_built (Some e) r = Err (faults.Position e)
+-- how many bytes a report may have, by its first line
+abbrev pub most_report : List ℕ → ℕ
+most_report bytes = limit_for 1073741824 newest_head 4294967296 bytes
 
-abbrev pub if_read : Result Report TextError → Result Report ReportFault
-if_read (Ok r) = if_built (fault_of r.position) r
+-- a report whose position breaks no rule of its game, under its own version
+abbrev pub if_built : Option InputError → ℕ → Report → Result Report ReportFault
+if_built None version r = if version_of r == version then Ok r else Err (faults.Text errors.Head)
+if_built (Some e) version r = Err (faults.Position e)
+
+abbrev pub if_read : Result (ℕ × Report) TextError → Result Report ReportFault
+if_read (Ok x) = if_built (fault_of x.1.position) x.0 x.1
 if_read (Err e) = Err (faults.Text e)
 
--- the report of the bytes, or the first fault: of their length, of the text, of the position
+-- the report of the bytes, or the first fault: of their length, of the text, of the position, of the version that they name
 unfoldable pub report_in : List ℕ → Result Report ReportFault
-report_in bytes = if nat_lt most_report (length bytes) then Err faults.TooLong else if_read (read_report bytes)
+report_in bytes = if nat_lt (most_report bytes) (length bytes) then Err faults.TooLong else if_read (named_report bytes)
 
 -- the checker's verdict on the report, for the game of its position
 abbrev pub IsJudged : Report → Verdict → Type 0

@@ -9,7 +9,8 @@ use Rattle.certificate.specs.Reading.{read_report}
 use Rattle.position.specs.declared.games.InputError.{InputError}
 use Rattle.position.specs.Position.{TaskText, position_of}
 use Rattle.devices.specs.Causes.{Rose}
-use Rattle.devices.specs.Taken.{SourceState, SinkState, ConsumesAtMost, AppendsFront}
+use Rattle.devices.specs.Taken.{SourceState, SinkState, TakesWithin, AppendsFront}
+use Rattle.fields.specs.Ranges.{IsAskInRange}
 use Rattle.solution.specs.Solutions.{IsSolution}
 use Rattle.sim_game.specs.declared.NoMemory.{NoMemory}
 use Rattle.commands.specs.declared.run.Answer.{Answer}
@@ -35,7 +36,7 @@ status_of Full = 5
 -- the status and the text that solve answers to the bytes of a position
 pub data IsSolved (bytes : List ℕ) : ℕ → List ℕ → Type 0 where
   refused : (e : InputError) → position_of bytes ≡ Err e → IsSolved bytes 2 (input_text e)
-  reported : (task : TaskText) (r : Report) → position_of bytes ≡ Ok task
+  reported : (task : TaskText) (r : Report) → position_of bytes ≡ Ok task → IsAskInRange task.ask
       → OfGame task.text (λ S m. IsSolution m task.text task.ask r) → read_report (report_text r) ≡ Ok r
       → IsSolved bytes (status_of r.outcome) (report_text r)
 
@@ -58,18 +59,18 @@ IsAnswer (Some (Sample number)) bytes status text = IsSampled number status text
 IsAnswer (Some (Reading command)) bytes status text = IsAnswerTo command bytes status text
 
 -- ---- what is taken
--- how many bytes a command reads
-abbrev pub limit_of : ReadingCommand → ℕ
-limit_of Solve = 1048576
-limit_of Check = most_report
-limit_of Bounds = 1048576
-limit_of (Exploit side) = most_report
-limit_of (Play games seed) = most_report
+-- how many bytes a command reads, of bytes that begin so
+abbrev pub limit_of : ReadingCommand → List ℕ → ℕ
+limit_of Solve bytes = 1048576
+limit_of Check bytes = most_report bytes
+limit_of Bounds bytes = 1048576
+limit_of (Exploit side) bytes = most_report bytes
+limit_of (Play games seed) bytes = most_report bytes
 
 -- all that was left, or one byte more than the limit, from a source of which no call failed
-pub record IsInput (limit : ℕ) (old new : SourceState) (bytes : List ℕ) : Type 0 where
+pub record IsInput (limit : List ℕ → ℕ) (old new : SourceState) (bytes : List ℕ) : Type 0 where
   pub taken : Consumes old.left new.left bytes
-  pub whole : (length bytes ≤ limit × IsAtEnd new.left) ⊎ (length bytes ≡ limit + 1)
+  pub whole : (length bytes ≤ limit bytes × IsAtEnd new.left) ⊎ (length bytes ≡ limit bytes + 1)
   pub calm : new.faults ≡ old.faults
 
 -- words that are no command, and sample, leave the source as it was
@@ -82,7 +83,7 @@ abbrev pub IsTakenInPart : Option Command → SourceState → SourceState → Ty
 IsTakenInPart None old new = new ≡ old
 IsTakenInPart (Some (Sample number)) old new = new ≡ old
 IsTakenInPart (Some (Reading command)) old new =
-    ConsumesAtMost old.left new.left (limit_of command + 1) × (new.faults ≡ old.faults)
+    TakesWithin (λ bytes. limit_of command bytes + 1) old.left new.left × (new.faults ≡ old.faults)
 
 -- ---- runs
 -- with a source and a sink, before and after
@@ -93,7 +94,7 @@ pub data IsRun (command : Option Command) (source source' : SourceState) (sink s
       → IsRun command source source' sink sink' status
   -- the source of a command that reads failed: nothing is written
   unread : (reading : ReadingCommand) → command ≡ Some (Reading reading)
-      → ConsumesAtMost source.left source'.left (limit_of reading) → Rose source.faults source'.faults → sink' ≡ sink
+      → TakesWithin (limit_of reading) source.left source'.left → Rose source.faults source'.faults → sink' ≡ sink
       → IsRun command source source' sink sink' 6
   -- the sink failed: a part of an answer's text is written
   cut_off : (bytes text : List ℕ) (status : ℕ) → IsTaken command source source' bytes

@@ -49,9 +49,9 @@ fn answer_all<F: FnOnce(AnyGame, Ask) -> Result<Found, NoMemory>>(
 ) -> Result<Answer, NoMemory>
     requires find { IsFinder (F.pre find) (F.post find) }
     requires few { HasFewGames command }
-    ensures { IfOk result (λ a. IsAnswerTo command (take (limit_of command + 1) bytes.now) a.status a.text) }
+    ensures { IfOk result (λ a. IsAnswerTo command (take (limit_of command bytes.now + 1) bytes.now) a.status a.text) }
 {
-    if bytes.len() as u64 > limit_of(command) {
+    if bytes.len() as u64 > limit_of(command, bytes) {
         too_long(alloc, command)
     } else {
         answer_to(alloc, find, command, bytes)

@@ -70,7 +70,7 @@ pub fn worst_of(alloc: Global, found: &ReportedGame, side: Side) -> Result<Worst
 
 /// The answer to the bytes of a report, which are not too many.
 pub(crate) fn exploited(alloc: Global, side: Side, bytes: &[u8]) -> Result<Answer, NoMemory>
-    requires { length bytes.now ≤ most_report }
+    requires { length bytes.now ≤ most_report bytes.now }
     ensures { IfOk result (λ a. IsExploited side bytes.now a.status a.text) }
 {
     match report_in(alloc, bytes) {

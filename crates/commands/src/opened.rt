@@ -6,16 +6,13 @@ ghost use Rattle.certificate.specs.Ranges.{IsInRange};
 ghost use Rattle.commands.specs.Checks.{report_in};
 ghost use Rattle.commands.specs.Measured.{sheet_of};
 
-use crate::check::{ReportedGame, report_in};
+use crate::check::{ReportedGame, most_report, report_in};
 use crate::measure::sheet_of;
 use crate::reports::ReportFault;
 use certificate::{Report, TextError};
 use plan_book::{SheetRow, place_of};
 use sim_game::Side;
 use std::alloc::Global;
-
-/// How many bytes a report may have.
-const MOST_REPORT: u64 = 1_073_741_824;
 
 /// The report of bytes of any number, where its position has a game; or what is wrong first.
 #[tactic(auto, unfolding(crate::specs::Checks::report_in))]
@@ -24,7 +21,7 @@ pub fn open(alloc: Global, bytes: &[u8]) -> Result<ReportedGame, ReportFault>
         (λ found. (report_in bytes.now ≡ Ok found.report) × IsInRange found.report)
         (λ fault. fault ≢ ReportFault.Text TextError.NoMemory → report_in bytes.now ≡ Err fault) }
 {
-    if bytes.len() as u64 > MOST_REPORT {
+    if bytes.len() as u64 > most_report(bytes) {
         return Err(ReportFault::TooLong);
     }
     report_in(alloc, bytes)

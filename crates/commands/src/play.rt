@@ -52,7 +52,7 @@ impl<'a> GameVisitor for Referee<'a> {
 
 /// The answer to the bytes of a report, which are not too many: 1 to 100000 games.
 pub(crate) fn played(alloc: Global, games: u32, seed: u64, bytes: &[u8]) -> Result<Answer, NoMemory>
-    requires short { length bytes.now ≤ most_report }
+    requires short { length bytes.now ≤ most_report bytes.now }
     requires some { 1 ≤ games }
     requires few { games ≤ 100000 }
     ensures { IfOk result (λ a. IsPlayedMatch games seed bytes.now a.status a.text) }

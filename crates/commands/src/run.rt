@@ -1,6 +1,9 @@
 //! A run of the program.
 
-ghost use Rattle.std.specs.Prelude.{◌≡◌, ◌≢◌, ◌≤◌, ◌+◌, ℕ, List, length, map, string_bytes, IfOk};
+ghost use Rattle.std.specs.Prelude.{◌≡◌, ◌≢◌, ◌≤◌, ◌+◌, ℕ, List, length, map, string_bytes, IfOk, Err};
+ghost use Rattle.std.specs.Io.KnownBytes.{Consumes, IsAtEnd};
+ghost use Rattle.devices.specs.Causes.{Rose, IsCalm};
+ghost use Rattle.devices.specs.Taken.{TakesPast, TakesWithin};
 ghost use Rattle.fields.specs.Ranges.{IsAskInRange};
 ghost use Rattle.lazy_workers.specs.Findings.{IsFoundFor};
 ghost use Rattle.position.specs.Games.{OfSame};
@@ -10,7 +13,7 @@ ghost use Rattle.commands.specs.Texts.{usage_text, input_text};
 ghost use Rattle.commands.specs.Runs.{IsAnswerTo, limit_of, IsRun, IsWritten};
 
 use crate::bounds::bounded;
-use crate::check::{checked, faulty};
+use crate::check::{checked, faulty, most_report, read_report};
 use crate::finding::find_any;
 use crate::measure::exploited;
 use crate::play::played;
@@ -68,7 +71,7 @@ pub fn run<R: Threads + Sync, S: Source, K: Sink, T: Gate + Sync>(
     match command_of(words) {
         None => respond(sink, usage(alloc)),
         Some(Command::Sample(number)) => respond(sink, sampled(alloc, find, number)),
-        Some(Command::Reading(command)) => match read_all(alloc, source, limit_of(command)) {
+        Some(Command::Reading(command)) => match input(alloc, source, command) {
             Ok(bytes) => respond(sink, answer_to(alloc, find, command, &bytes)),
             Err(ReadError::TooLong) => respond(sink, too_long(alloc, command)),
             Err(ReadError::Failed) => 6,
@@ -77,15 +80,44 @@ pub fn run<R: Threads + Sync, S: Source, K: Sink, T: Gate + Sync>(
     }
 }
 
-/// The most bytes that a command reads.
-pub(crate) fn limit_of(command: ReadingCommand) -> u64
-    ensures { result ≡ limit_of command }
+/// How many bytes a position may have.
+const MOST_POSITION: u64 = 1_048_576;
+
+/// The most bytes that a command reads, of bytes that begin so.
+pub(crate) fn limit_of(command: ReadingCommand, bytes: &[u8]) -> u64
+    ensures { result ≡ limit_of command bytes.now }
 {
     match command {
-        ReadingCommand::Solve => 1_048_576,
-        ReadingCommand::Check => 1_073_741_824,
-        ReadingCommand::Bounds => 1_048_576,
-        ReadingCommand::Exploit(_) | ReadingCommand::Play { .. } => 1_073_741_824,
+        ReadingCommand::Solve => MOST_POSITION,
+        ReadingCommand::Check => most_report(bytes),
+        ReadingCommand::Bounds => MOST_POSITION,
+        ReadingCommand::Exploit(_) => most_report(bytes),
+        ReadingCommand::Play { .. } => most_report(bytes),
+    }
+}
+
+/// All bytes of a source up to its end, if there are no more than the command reads.
+fn input<S: Source>(
+    alloc: Global,
+    source: &mut S,
+    command: ReadingCommand,
+) -> Result<Vec<u8>, ReadError>
+    ensures ok { IfOk result (λ v. Consumes (S.state source.old).left (S.state source.new).left v.items
+        × IsAtEnd (S.state source.new).left) }
+    ensures within { IfOk result (λ v. length v.items ≤ limit_of command v.items) }
+    ensures too_long { result ≡ Err ReadError.TooLong
+        → TakesPast (limit_of command) (S.state source.old).left (S.state source.new).left }
+    ensures others { result ≢ Err ReadError.TooLong
+        → TakesWithin (limit_of command) (S.state source.old).left (S.state source.new).left }
+    ensures failed { result ≡ Err ReadError.Failed → Rose (S.state source.old).faults (S.state source.new).faults }
+    ensures calm { result ≢ Err ReadError.Failed → IsCalm (S.state source.old).faults (S.state source.new).faults }
+{
+    match command {
+        ReadingCommand::Solve => read_all(alloc, source, MOST_POSITION),
+        ReadingCommand::Check => read_report(alloc, source),
+        ReadingCommand::Bounds => read_all(alloc, source, MOST_POSITION),
+        ReadingCommand::Exploit(_) => read_report(alloc, source),
+        ReadingCommand::Play { .. } => read_report(alloc, source),
     }
 }
 
@@ -97,7 +129,7 @@ pub(crate) fn answer_to<F: FnOnce(AnyGame, Ask) -> Result<Found, NoMemory>>(
     bytes: &[u8],
 ) -> Result<Answer, NoMemory>
     requires find { IsFinder (F.pre find) (F.post find) }
-    requires short { length bytes.now ≤ limit_of command }
+    requires short { length bytes.now ≤ limit_of command bytes.now }
     requires few { HasFewGames command }
     ensures { IfOk result (λ a. IsAnswerTo command bytes.now a.status a.text) }
 {
@@ -112,7 +144,7 @@ pub(crate) fn answer_to<F: FnOnce(AnyGame, Ask) -> Result<Found, NoMemory>>(
 
 /// The answer to more bytes than the command reads.
 pub(crate) fn too_long(alloc: Global, command: ReadingCommand) -> Result<Answer, NoMemory>
-    ensures { IfOk result (λ a. (bytes : List ℕ) → length bytes ≡ limit_of command + 1
+    ensures { IfOk result (λ a. (bytes : List ℕ) → length bytes ≡ limit_of command bytes + 1
         → IsAnswerTo command bytes a.status a.text) }
 {
     match command {

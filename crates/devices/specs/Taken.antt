@@ -1,5 +1,6 @@
 -- What sources and sinks tell, what a whole read takes from a source, and what a whole write leaves in a sink.
-use Rattle.std.specs.Prelude.{◌≡◌, ℕ, ◌<◌, ◌≤◌, List, length, take}
+use Rattle.std.specs.Prelude.{◌≡◌, ℕ, ◌+◌, ◌<◌, ◌≤◌, List, length, take, if◌then◌else◌, nat_eq}
+use Rattle.std.specs.List.{starts_with}
 use Rattle.std.specs.declared.option.Option.{Option}
 use Rattle.std.specs.Io.KnownBytes.{Consumes, Appends}
 
@@ -20,6 +21,18 @@ Takes old new n = (bs : List ℕ) × Consumes old new bs × (length bs ≡ n)
 -- at most n bytes were taken
 abbrev pub ConsumesAtMost : Option (List ℕ) → Option (List ℕ) → ℕ → Type 0
 ConsumesAtMost old new n = (bs : List ℕ) × Consumes old new bs × length bs ≤ n
+
+-- how many bytes may be read: the one number, or the other where they begin with the head
+abbrev pub limit_for : ℕ → List ℕ → ℕ → List ℕ → ℕ
+limit_for most head with_head bytes = if starts_with nat_eq bytes head then with_head else most
+
+-- no more bytes were taken than such bytes may be
+abbrev pub TakesWithin : (List ℕ → ℕ) → Option (List ℕ) → Option (List ℕ) → Type 0
+TakesWithin limit old new = (bs : List ℕ) × Consumes old new bs × length bs ≤ limit bs
+
+-- one byte more was taken than such bytes may be
+abbrev pub TakesPast : (List ℕ → ℕ) → Option (List ℕ) → Option (List ℕ) → Type 0
+TakesPast limit old new = (bs : List ℕ) × Consumes old new bs × (length bs ≡ limit bs + 1)
 
 -- a front of the bytes was appended, and not all of them
 abbrev pub AppendsFront : Option (List ℕ) → Option (List ℕ) → List ℕ → Type 0

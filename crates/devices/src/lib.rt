@@ -13,5 +13,5 @@ pub use memory_sink::MemorySink;
 pub use memory_source::MemorySource;
 pub use plain::{PlainSink, PlainSource};
 pub use sink::{Sink, write_all};
-pub use source::{Failed, ReadError, Source, read_all};
+pub use source::{Failed, ReadError, Source, limit_for, read_all, read_within};
 pub use standard::{StdSink, StdSource};

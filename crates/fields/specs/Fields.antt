@@ -3,9 +3,9 @@ use Rattle.std.specs.Prelude.{◌≡◌, ℕ, List, [], ◌∷◌, codes, bytes_
 use Rattle.fields.specs.declared.field.Field.{Field}
 use Rattle.fields.specs.declared.field.Field.TheVariants as fields
 use Rattle.fields.specs.declared.field.Word.{Word}
-use Rattle.fields.specs.declared.field.Word.TheVariants.{Margin, Win, Regret, Linear}
+use Rattle.fields.specs.declared.field.Word.TheVariants.{Margin, Win, Prizes, Regret, Linear}
 use Rattle.fields.specs.declared.field.Choices.{Choices}
-use Rattle.fields.specs.declared.field.Choices.TheVariants.{Pay, Stages}
+use Rattle.fields.specs.declared.field.Choices.TheVariants.{Pay, PayAtEnd, Stages}
 use Rattle.fields.specs.declared.field.FieldKind.{FieldKind}
 use Rattle.fields.specs.declared.field.FieldKind.TheVariants as holds
 use Rattle.fields.specs.declared.field.Value.{Value}
@@ -42,11 +42,13 @@ name_of fields.Stages = codes "stages"
 abbrev pub spelling : Word → List ℕ
 spelling Margin = codes "margin"
 spelling Win = codes "win"
+spelling Prizes = codes "prizes"
 spelling Regret = codes "regret"
 spelling Linear = codes "linear"
 
 abbrev pub choices_of : Choices → List Word
-choices_of Pay = Margin ∷ Win ∷ []
+choices_of Pay = Margin ∷ Win ∷ Prizes ∷ []
+choices_of PayAtEnd = Margin ∷ Win ∷ []
 choices_of Stages = Regret ∷ Linear ∷ []
 
 -- the word of these that is spelled so
@@ -67,6 +69,7 @@ abbrev pub Fits : FieldKind → Value → Type 0
 Fits (holds.Number low high) (values.Number z) = Between low high z
 Fits (holds.List most) (values.List ns) = IsByteList most ns
 Fits (holds.Numbers low high most) (values.Numbers zs) = IsNumberList low high most zs
+Fits (holds.Optional low high most) (values.Optional zs) = IsNumberList low high most zs
 Fits (holds.Word choices) (values.Word w) = word_in choices (spelling w) ≡ Some w
 Fits kind v = ⊥
 

@@ -1,13 +1,17 @@
 -- The games, one by one: their words, their fields, and positions as values of these fields.
-use Rattle.std.specs.Prelude.{ℕ, ℤ, pos, unsigned_abs, List, [], ◌∷◌, map, get_or, codes, bytes_eq, find, Option}
+use Rattle.std.specs.Prelude.{ℕ, ℤ, pos, unsigned_abs, int_le, Bool, true, false, ◌&&◌, ◌==◌, nat_le, List, [], ◌∷◌, length, map, get_or, codes, bytes_eq, find, Option}
+use Rattle.std.specs.List.{list_all}
 use Rattle.goofspiel.specs.declared.Pay.{Pay}
-use Rattle.goofspiel.specs.declared.Pay.TheVariants.{Margin, Win}
+use Rattle.goofspiel.specs.declared.Pay.TheVariants.{Margin, Win, Prizes}
 use Rattle.fields.specs.declared.field.FieldKind.{FieldKind}
+use Rattle.fields.specs.declared.field.FieldKind.TheVariants as holds
 use Rattle.fields.specs.declared.field.Value.{Value}
 use Rattle.fields.specs.declared.field.Value.TheVariants as values_are
 use Rattle.fields.specs.declared.field.Word.{Word}
 use Rattle.fields.specs.declared.field.Word.TheVariants as words
-use Rattle.fields.specs.declared.positions.TheConstants.{GAMES, GOOFSPIEL, OSHI_ZUMO, TRON, PURSUIT, TABLE}
+use Rattle.fields.specs.declared.positions.TheConstants.{GAMES, GOOFSPIEL, NARROW_GOOFSPIEL, OSHI_ZUMO, TRON, PURSUIT, TABLE, NARROW_TABLE}
+use Rattle.fields.specs.declared.positions.Limits.{Limits}
+use Rattle.fields.specs.declared.positions.Limits.TheVariants.{Narrow, Wide}
 use Rattle.fields.specs.declared.positions.PositionText.{PositionText}
 use Rattle.fields.specs.declared.positions.PositionText.TheVariants as texts
 use Rattle.fields.specs.declared.positions.Shown.{Shown}
@@ -29,17 +33,23 @@ game_word Table = codes "table"
 unfoldable pub game_of : List ℕ → Option GameKind
 game_of word = find (λ k. bytes_eq word (game_word k)) GAMES
 
--- the fields of the game, in the order of refusals
-abbrev pub fields_of : GameKind → List FieldRow
-fields_of Goofspiel = GOOFSPIEL
-fields_of OshiZumo = OSHI_ZUMO
-fields_of Tron = TRON
-fields_of GoofspielDrawn = GOOFSPIEL
-fields_of Pursuit = PURSUIT
-fields_of Table = TABLE
+-- the fields of the game within the limits, in the order of refusals
+abbrev pub fields_of : Limits → GameKind → List FieldRow
+fields_of Narrow Goofspiel = NARROW_GOOFSPIEL
+fields_of Wide Goofspiel = GOOFSPIEL
+fields_of limits OshiZumo = OSHI_ZUMO
+fields_of limits Tron = TRON
+fields_of Narrow GoofspielDrawn = NARROW_GOOFSPIEL
+fields_of Wide GoofspielDrawn = GOOFSPIEL
+fields_of limits Pursuit = PURSUIT
+fields_of Narrow Table = NARROW_TABLE
+fields_of Wide Table = TABLE
 
-abbrev pub kinds_of : GameKind → List FieldKind
-kinds_of game = map (λ (row : FieldRow). row.1) (fields_of game)
+abbrev pub kinds_in : List FieldRow → List FieldKind
+kinds_in rows = map (λ (row : FieldRow). row.1) rows
+
+abbrev pub kinds_of : Limits → GameKind → List FieldKind
+kinds_of limits game = kinds_in (fields_of limits game)
 
 abbrev pub kind_of : PositionText → GameKind
 kind_of (texts.Goofspiel one two prizes score pay) = Goofspiel
@@ -47,16 +57,18 @@ kind_of (texts.OshiZumo size one two least place) = OshiZumo
 kind_of (texts.Tron height width walls one two) = Tron
 kind_of (texts.GoofspielDrawn one two prizes score pay) = GoofspielDrawn
 kind_of (texts.Pursuit nodes edges one two rounds) = Pursuit
-kind_of (texts.Table ranks moves values cells draws) = Table
+kind_of (texts.Table ranks moves values cells draws rewards) = Table
 
 -- ---- positions as values of their fields
 abbrev pub pay_named : Word → Pay
 pay_named words.Win = Win
+pay_named words.Prizes = Prizes
 pay_named word = Margin
 
 abbrev pub pay_word : Pay → Word
 pay_word Margin = words.Margin
 pay_word Win = words.Win
+pay_word Prizes = words.Prizes
 
 abbrev whole : ℕ → Value
 whole n = values_are.Number (pos n)
@@ -67,7 +79,8 @@ values_of (texts.OshiZumo size one two least place) = whole size ∷ whole one �
 values_of (texts.Tron height width walls one two) = whole height ∷ whole width ∷ values_are.List walls ∷ whole one ∷ whole two ∷ []
 values_of (texts.GoofspielDrawn one two prizes score pay) = values_are.List one ∷ values_are.List two ∷ values_are.List prizes ∷ values_are.Number score ∷ values_are.Word (pay_word pay) ∷ []
 values_of (texts.Pursuit nodes edges one two rounds) = whole nodes ∷ values_are.List edges ∷ whole one ∷ whole two ∷ whole rounds ∷ []
-values_of (texts.Table ranks moves values cells draws) = values_are.Numbers ranks ∷ values_are.Numbers moves ∷ values_are.Numbers values ∷ values_are.Numbers cells ∷ values_are.Numbers draws ∷ []
+values_of (texts.Table ranks moves values cells draws rewards) =
+    values_are.Numbers ranks ∷ values_are.Numbers moves ∷ values_are.Numbers values ∷ values_are.Numbers cells ∷ values_are.Numbers draws ∷ values_are.Optional rewards ∷ []
 
 abbrev pub number_in_value : Value → ℤ
 number_in_value (values_are.Number z) = z
@@ -84,6 +97,14 @@ numbers_in_value v = []
 abbrev pub HoldsNumbers : Value → Type 0
 HoldsNumbers (values_are.Numbers zs) = Unit {0}
 HoldsNumbers v = ⊥
+
+abbrev pub optional_in_value : Value → List ℤ
+optional_in_value (values_are.Optional zs) = zs
+optional_in_value v = []
+
+abbrev pub HoldsOptional : Value → Type 0
+HoldsOptional (values_are.Optional zs) = Unit {0}
+HoldsOptional v = ⊥
 
 abbrev pub word_in_value : Value → Word
 word_in_value (values_are.Word w) = w
@@ -102,6 +123,9 @@ list_at i vs = list_in_value (get_or vs i (whole 0))
 abbrev pub numbers_at : ℕ → List Value → List ℤ
 numbers_at i vs = numbers_in_value (get_or vs i (whole 0))
 
+abbrev pub optional_at : ℕ → List Value → List ℤ
+optional_at i vs = optional_in_value (get_or vs i (whole 0))
+
 abbrev pub word_value_at : ℕ → List Value → Word
 word_value_at i vs = word_in_value (get_or vs i (whole 0))
 
@@ -112,15 +136,43 @@ position_with OshiZumo vs = texts.OshiZumo (count_at 0 vs) (count_at 1 vs) (coun
 position_with Tron vs = texts.Tron (count_at 0 vs) (count_at 1 vs) (list_at 2 vs) (count_at 3 vs) (count_at 4 vs)
 position_with GoofspielDrawn vs = texts.GoofspielDrawn (list_at 0 vs) (list_at 1 vs) (list_at 2 vs) (number_at 3 vs) (pay_named (word_value_at 4 vs))
 position_with Pursuit vs = texts.Pursuit (count_at 0 vs) (list_at 1 vs) (count_at 2 vs) (count_at 3 vs) (count_at 4 vs)
-position_with Table vs = texts.Table (numbers_at 0 vs) (numbers_at 1 vs) (numbers_at 2 vs) (numbers_at 3 vs) (numbers_at 4 vs)
+position_with Table vs = texts.Table (numbers_at 0 vs) (numbers_at 1 vs) (numbers_at 2 vs) (numbers_at 3 vs) (numbers_at 4 vs) (optional_at 5 vs)
 
 -- each value of the position fits its field
 abbrev pub IsPositionInRange : PositionText → Type 0
-IsPositionInRange text = AllFit (kinds_of (kind_of text)) (values_of text)
+IsPositionInRange text = AllFit (kinds_of Wide (kind_of text)) (values_of text)
+
+-- ---- the narrow limits
+abbrev pub is_between : ℤ → ℤ → ℤ → Bool
+is_between low high z = int_le low z && int_le z high
+
+-- the numbers fit the field
+abbrev pub numbers_fit : FieldKind → List ℤ → Bool
+numbers_fit (holds.Numbers low high most) zs = nat_le (length zs) most && list_all (is_between low high) zs
+numbers_fit kind zs = false
+
+abbrev pub is_paid_at_end : Pay → Bool
+is_paid_at_end Prizes = false
+is_paid_at_end pay = true
+
+abbrev narrow_kind : ℕ → FieldKind
+narrow_kind i = get_or (kinds_in NARROW_TABLE) i (holds.List 0)
+
+-- The position is within the narrow limits: no prize is paid when it is won, no turn of a table pays, and no list of a
+-- table is longer, or has a number beyond, what the narrow fields allow.
+abbrev pub is_narrow : PositionText → Bool
+is_narrow (texts.Goofspiel one two prizes score pay) = is_paid_at_end pay
+is_narrow (texts.GoofspielDrawn one two prizes score pay) = is_paid_at_end pay
+is_narrow (texts.Table ranks moves values cells draws rewards) =
+    length rewards == 0
+    && (numbers_fit (narrow_kind 0) ranks && (numbers_fit (narrow_kind 1) moves && (numbers_fit (narrow_kind 2) values
+    && (numbers_fit (narrow_kind 3) cells && numbers_fit (narrow_kind 4) draws))))
+is_narrow text = true
 
 -- a value that is shown by reference
 abbrev pub shown_value : Shown → Value
 shown_value (shown.Number z) = values_are.Number z
 shown_value (shown.List ns) = values_are.List ns.now
 shown_value (shown.Numbers zs) = values_are.Numbers zs.now
+shown_value (shown.Optional zs) = values_are.Optional zs.now
 shown_value (shown.Word w) = values_are.Word w

@@ -1,5 +1,5 @@
 -- The positions and the asks whose numbers are all in range.
-use Rattle.std.specs.Prelude.{ℕ, ◌≤◌, pos}
+use Rattle.std.specs.Prelude.{◌≤◌, pos}
 use Rattle.fields.specs.declared.ask.Ask.{Ask}
 pub use Rattle.fields.specs.Numbers.{Within, Between, IsByteList}
 pub use Rattle.fields.specs.Positions.{IsPositionInRange}

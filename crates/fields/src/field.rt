@@ -71,6 +71,7 @@ impl Field {
 pub enum Word {
     Margin,
     Win,
+    Prizes,
     Regret,
     Linear,
 }
@@ -82,6 +83,7 @@ impl Word {
         match self {
             Word::Margin => b"margin",
             Word::Win => b"win",
+            Word::Prizes => b"prizes",
             Word::Regret => b"regret",
             Word::Linear => b"linear",
         }
@@ -91,17 +93,21 @@ impl Word {
 /// Words of which a field holds one.
 #[derive(Clone, Copy, Debug, PartialEq, Eq)]
 pub enum Choices {
+    /// How prizes pay.
     Pay,
+    /// The same, if nothing is paid before the end.
+    PayAtEnd,
     Stages,
 }
 
 impl Choices {
-    fn both(self) -> (Word, Word)
-        ensures { choices_of self ≡ result.0 ∷ result.1 ∷ [] }
+    fn words(self) -> &'static [Word]
+        ensures { result.now ≡ choices_of self }
     {
         match self {
-            Choices::Pay => (Word::Margin, Word::Win),
-            Choices::Stages => (Word::Regret, Word::Linear),
+            Choices::Pay => &[Word::Margin, Word::Win, Word::Prizes],
+            Choices::PayAtEnd => &[Word::Margin, Word::Win],
+            Choices::Stages => &[Word::Regret, Word::Linear],
         }
     }
 
@@ -110,20 +116,10 @@ impl Choices {
         ensures exact { result ≡ word_in self text.now }
         ensures fits { IfSome result (λ w. Fits (FieldKind.Word self) (Value.Word w)) }
     {
-        let (first, second) = self.both();
-        either(text, first, second)
-    }
-}
-
-fn either(text: &[u8], first: Word, second: Word) -> Option<Word>
-    ensures { result ≡ find (λ w. bytes_eq text.now (spelling w)) (first ∷ second ∷ []) }
-{
-    if text == first.text() {
-        Some(first)
-    } else if text == second.text() {
-        Some(second)
-    } else {
-        None
+        self.words()
+            .iter()
+            .copied()
+            .find(|word| text == word.text())
     }
 }
 
@@ -136,6 +132,8 @@ pub enum FieldKind {
     List(usize),
     /// At most so many whole numbers from the first to the second.
     Numbers(i32, i32, usize),
+    /// The same, in a field that is left out if there is no number. It is the last of its game.
+    Optional(i32, i32, usize),
     Word(Choices),
 }
 
@@ -145,6 +143,7 @@ pub enum Value {
     Number(i64),
     List(Seq<u8>),
     Numbers(Seq<i32>),
+    Optional(Seq<i32>),
     Word(Word),
 }
 

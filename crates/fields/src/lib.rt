@@ -8,4 +8,4 @@ mod positions;
 pub use ask::{ASK, ASKED, Ask, LEAST, StageMethod};
 pub use field::{Absent, AskRow, Choices, Field, FieldKind, FieldRow, Value, Word};
 pub use goofspiel::Pay;
-pub use positions::{FIELDS, GAMES, GameKind, PositionText, Shown};
+pub use positions::{GAMES, GameKind, Limits, PositionText, Shown, narrow_positions_fit};

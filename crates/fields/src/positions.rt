@@ -1,15 +1,16 @@
 //! The games, one by one: their words, their fields, and positions as values of these fields.
 
-ghost use Rattle.std.specs.Prelude.{◌≡◌, ℕ, pos, map};
+ghost use Rattle.std.specs.Prelude.{◌≡◌, ℕ, pos, true, length, map, IfOk};
+ghost use Rattle.std.specs.List.{list_all};
+ghost use Rattle.fields.specs.declared.positions.Limits.TheVariants.{Narrow, Wide};
+ghost use Rattle.fields.specs.declared.positions.PositionText.{PositionText};
 ghost use Rattle.fields.specs.Fields.{Fits, AllFit};
-ghost use Rattle.fields.specs.Positions.{game_word, fields_of, kinds_of, kind_of, pay_word, HoldsNumbers, shown_value, values_of, position_with, IsPositionInRange, game_of};
+ghost use Rattle.fields.specs.Positions.{game_word, fields_of, kinds_of, kind_of, pay_word, HoldsNumbers, HoldsOptional, shown_value, values_of, position_with, IsPositionInRange, game_of, is_between, numbers_fit, is_paid_at_end, is_narrow};
 ghost use Rattle.fields.specs.declared.positions.TheConstants.{BYTE, SCORE, PLACE};
 
 use crate::{Choices, Field, FieldKind, FieldRow, Pay, Value, Word};
 use seq::Seq;
-
-/// How many fields each game has.
-pub const FIELDS: usize = 5;
+use std::alloc::{AllocError, Global};
 
 const BYTE: FieldKind = FieldKind::Number(0, 255);
 
@@ -19,8 +20,15 @@ const PLACE: FieldKind = FieldKind::Number(-128, 127);
 
 const BYTES: FieldKind = FieldKind::List(255);
 
+/// How much a report of a version can hold: narrow limits are those of the versions below 3.
+#[derive(Clone, Copy, Debug, PartialEq, Eq)]
+pub enum Limits {
+    Narrow,
+    Wide,
+}
+
 /// The fields of each game, in the order of refusals.
-pub const GOOFSPIEL: [FieldRow; FIELDS] = [
+pub const GOOFSPIEL: [FieldRow; 5] = [
     (Field::One, BYTES),
     (Field::Two, BYTES),
     (Field::Prizes, BYTES),
@@ -28,7 +36,15 @@ pub const GOOFSPIEL: [FieldRow; FIELDS] = [
     (Field::Pay, FieldKind::Word(Choices::Pay)),
 ];
 
-pub const OSHI_ZUMO: [FieldRow; FIELDS] = [
+pub const NARROW_GOOFSPIEL: [FieldRow; 5] = [
+    (Field::One, BYTES),
+    (Field::Two, BYTES),
+    (Field::Prizes, BYTES),
+    (Field::Score, SCORE),
+    (Field::Pay, FieldKind::Word(Choices::PayAtEnd)),
+];
+
+pub const OSHI_ZUMO: [FieldRow; 5] = [
     (Field::Size, BYTE),
     (Field::One, BYTE),
     (Field::Two, BYTE),
@@ -36,7 +52,7 @@ pub const OSHI_ZUMO: [FieldRow; FIELDS] = [
     (Field::Place, PLACE),
 ];
 
-pub const TRON: [FieldRow; FIELDS] = [
+pub const TRON: [FieldRow; 5] = [
     (Field::Height, BYTE),
     (Field::Width, BYTE),
     (Field::Walls, BYTES),
@@ -44,7 +60,7 @@ pub const TRON: [FieldRow; FIELDS] = [
     (Field::Two, BYTE),
 ];
 
-pub const PURSUIT: [FieldRow; FIELDS] = [
+pub const PURSUIT: [FieldRow; 5] = [
     (Field::Nodes, BYTE),
     (Field::Edges, FieldKind::List(1024)),
     (Field::One, BYTE),
@@ -53,7 +69,25 @@ pub const PURSUIT: [FieldRow; FIELDS] = [
 ];
 
 /// The lists that are made of the one field of a position.
-pub const TABLE: [FieldRow; FIELDS] = [
+pub const TABLE: [FieldRow; 6] = [
+    (Field::States, FieldKind::Numbers(0, 16_777_216, 16_777_216)),
+    (Field::States, FieldKind::Numbers(0, 255, 33_554_432)),
+    (
+        Field::States,
+        FieldKind::Numbers(-1_000_000, 16_777_216, 16_777_216),
+    ),
+    (
+        Field::States,
+        FieldKind::Numbers(-16_777_216, 16_777_215, 16_777_216),
+    ),
+    (Field::States, FieldKind::Numbers(0, 16_777_215, 33_554_432)),
+    (
+        Field::States,
+        FieldKind::Optional(-1_000_000, 1_000_000, 16_777_216),
+    ),
+];
+
+pub const NARROW_TABLE: [FieldRow; 6] = [
     (Field::States, FieldKind::Numbers(0, 524_288, 524_288)),
     (Field::States, FieldKind::Numbers(0, 255, 1_048_576)),
     (
@@ -65,6 +99,7 @@ pub const TABLE: [FieldRow; FIELDS] = [
         FieldKind::Numbers(-1_048_576, 1_048_575, 524_288),
     ),
     (Field::States, FieldKind::Numbers(0, 1_048_575, 524_288)),
+    (Field::States, FieldKind::Optional(0, 0, 0)),
 ];
 
 /// The kinds of games.
@@ -111,26 +146,19 @@ impl GameKind {
         GAMES.iter().copied().find(|game| word == game.word())
     }
 
-    /// The fields of the game.
-    pub fn fields(self) -> &'static [FieldRow; FIELDS]
-        ensures { result.now ≡ fields_of self }
+    /// The fields of the game within the limits. A position can have what the wide ones allow.
+    pub fn fields(self, limits: Limits) -> &'static [FieldRow]
+        ensures { result.now ≡ fields_of limits self }
     {
-        match self {
-            GameKind::Goofspiel => &GOOFSPIEL,
-            GameKind::OshiZumo => &OSHI_ZUMO,
-            GameKind::Tron => &TRON,
-            GameKind::GoofspielDrawn => &GOOFSPIEL,
-            GameKind::Pursuit => &PURSUIT,
-            GameKind::Table => &TABLE,
+        match (self, limits) {
+            (GameKind::Goofspiel | GameKind::GoofspielDrawn, Limits::Narrow) => &NARROW_GOOFSPIEL,
+            (GameKind::Goofspiel | GameKind::GoofspielDrawn, Limits::Wide) => &GOOFSPIEL,
+            (GameKind::OshiZumo, _) => &OSHI_ZUMO,
+            (GameKind::Tron, _) => &TRON,
+            (GameKind::Pursuit, _) => &PURSUIT,
+            (GameKind::Table, Limits::Narrow) => &NARROW_TABLE,
+            (GameKind::Table, Limits::Wide) => &TABLE,
         }
-    }
-
-    /// What each of these fields holds.
-    pub fn kinds(self) -> [FieldKind; FIELDS]
-        ensures { result ≡ kinds_of self }
-    {
-        let [a, b, c, d, e] = *self.fields();
-        [a.1, b.1, c.1, d.1, e.1]
     }
 }
 
@@ -207,6 +235,8 @@ pub enum PositionText {
         cells: Seq<i32>,
         /// The draws of all cells, each by the state that can follow and its weight.
         draws: Seq<i32>,
+        /// For each draw what One gets by the turn, in whole payoffs; empty if no turn pays.
+        rewards: Seq<i32>,
     },
 }
 
@@ -216,6 +246,7 @@ pub enum Shown<'a> {
     Number(i64),
     List(&'a [u8]),
     Numbers(&'a [i32]),
+    Optional(&'a [i32]),
     Word(Word),
 }
 
@@ -225,6 +256,7 @@ fn word_for(pay: Pay) -> Word
     match pay {
         Pay::Margin => Word::Margin,
         Pay::Win => Word::Win,
+        Pay::Prizes => Word::Prizes,
     }
 }
 
@@ -279,6 +311,16 @@ impl Value {
         }
     }
 
+    fn optional(self) -> Seq<i32>
+        requires { HoldsOptional self }
+        ensures { self ≡ Value.Optional result }
+    {
+        match self {
+            Value::Optional(zs) => zs,
+            _ => unreachable!(),
+        }
+    }
+
     fn pay(self) -> Pay
         requires { Fits (FieldKind.Word Choices.Pay) self }
         ensures { self ≡ Value.Word (pay_word result) }
@@ -286,69 +328,163 @@ impl Value {
         match self {
             Value::Word(Word::Margin) => Pay::Margin,
             Value::Word(Word::Win) => Pay::Win,
+            Value::Word(Word::Prizes) => Pay::Prizes,
             _ => unreachable!(),
         }
     }
 }
 
+/// The values of a game that has five fields.
+fn five(values: Vec<Value>) -> [Value; 5]
+    requires { length values.items ≡ 5 }
+    ensures { result ≡ values.items }
+{
+    match <[Value; 5]>::try_from(values) {
+        Ok(values) => values,
+        Err(_) => unreachable!(),
+    }
+}
+
+/// The values of a game that has six.
+fn six(values: Vec<Value>) -> [Value; 6]
+    requires { length values.items ≡ 6 }
+    ensures { result ≡ values.items }
+{
+    match <[Value; 6]>::try_from(values) {
+        Ok(values) => values,
+        Err(_) => unreachable!(),
+    }
+}
+
+fn goofspiel_with(values: [Value; 5]) -> PositionText
+    requires { AllFit (kinds_of Wide GameKind.Goofspiel) values }
+    ensures { result ≡ position_with GameKind.Goofspiel values }
+{
+    let [one, two, prizes, score, pay] = values;
+    PositionText::Goofspiel {
+        one: one.list(),
+        two: two.list(),
+        prizes: prizes.list(),
+        score: score.score(),
+        pay: pay.pay(),
+    }
+}
+
+fn oshi_zumo_with(values: [Value; 5]) -> PositionText
+    requires { AllFit (kinds_of Wide GameKind.OshiZumo) values }
+    ensures { result ≡ position_with GameKind.OshiZumo values }
+{
+    let [size, one, two, least, place] = values;
+    PositionText::OshiZumo {
+        size: size.byte(),
+        one: one.byte(),
+        two: two.byte(),
+        least: least.byte(),
+        place: place.place(),
+    }
+}
+
+fn tron_with(values: [Value; 5]) -> PositionText
+    requires { AllFit (kinds_of Wide GameKind.Tron) values }
+    ensures { result ≡ position_with GameKind.Tron values }
+{
+    let [height, width, walls, one, two] = values;
+    PositionText::Tron {
+        height: height.byte(),
+        width: width.byte(),
+        walls: walls.list(),
+        one: one.byte(),
+        two: two.byte(),
+    }
+}
+
+fn drawn_with(values: [Value; 5]) -> PositionText
+    requires { AllFit (kinds_of Wide GameKind.GoofspielDrawn) values }
+    ensures { result ≡ position_with GameKind.GoofspielDrawn values }
+{
+    let [one, two, prizes, score, pay] = values;
+    PositionText::GoofspielDrawn {
+        one: one.list(),
+        two: two.list(),
+        prizes: prizes.list(),
+        score: score.score(),
+        pay: pay.pay(),
+    }
+}
+
+fn pursuit_with(values: [Value; 5]) -> PositionText
+    requires { AllFit (kinds_of Wide GameKind.Pursuit) values }
+    ensures { result ≡ position_with GameKind.Pursuit values }
+{
+    let [nodes, edges, one, two, rounds] = values;
+    PositionText::Pursuit {
+        nodes: nodes.byte(),
+        edges: edges.list(),
+        one: one.byte(),
+        two: two.byte(),
+        rounds: rounds.byte(),
+    }
+}
+
+#[tactic(auto, using(crate::proofs::PositionLemmas::holds_numbers, crate::proofs::PositionLemmas::holds_optional))]
+fn table_with(values: [Value; 6]) -> PositionText
+    requires { AllFit (kinds_of Wide GameKind.Table) values }
+    ensures { result ≡ position_with GameKind.Table values }
+{
+    let [ranks, moves, numbers, cells, draws, rewards] = values;
+    PositionText::Table {
+        ranks: ranks.numbers(),
+        moves: moves.numbers(),
+        values: numbers.numbers(),
+        cells: cells.numbers(),
+        draws: draws.numbers(),
+        rewards: rewards.optional(),
+    }
+}
+
+/// Whether the numbers fit the field.
+fn are_within(kind: FieldKind, zs: &[i32]) -> bool
+    ensures { result ≡ numbers_fit kind zs.now }
+{
+    match kind {
+        FieldKind::Numbers(low, high, most) => zs.len() <= most && are_between(low, high, zs),
+        _ => false,
+    }
+}
+
+fn are_between(low: i32, high: i32, zs: &[i32]) -> bool
+    ensures { result ≡ list_all (is_between low high) zs.now }
+{
+    zs.iter().all(|z| low <= *z && *z <= high)
+}
+
+fn is_paid_at_end(pay: Pay) -> bool
+    ensures { result ≡ is_paid_at_end pay }
+{
+    !matches!(pay, Pay::Prizes)
+}
+
 impl PositionText {
     /// The position of the game that has these values in its fields.
-    #[tactic(auto, using(crate::proofs::PositionLemmas::holds_numbers))]
-    pub fn with_values(game: GameKind, values: [Value; FIELDS]) -> PositionText
-        requires { AllFit (kinds_of game) values }
-        ensures exact { result ≡ position_with game values }
+    #[tactic(auto, using(crate::proofs::PositionLemmas::in_range_with))]
+    pub fn with_values(game: GameKind, values: Vec<Value>) -> PositionText
+        requires { AllFit (kinds_of Wide game) values.items }
+        ensures exact { result ≡ position_with game values.items }
         ensures in_range { IsPositionInRange result }
     {
-        let [a, b, c, d, e] = values;
         match game {
-            GameKind::Goofspiel => PositionText::Goofspiel {
-                one: a.list(),
-                two: b.list(),
-                prizes: c.list(),
-                score: d.score(),
-                pay: e.pay(),
-            },
-            GameKind::OshiZumo => PositionText::OshiZumo {
-                size: a.byte(),
-                one: b.byte(),
-                two: c.byte(),
-                least: d.byte(),
-                place: e.place(),
-            },
-            GameKind::Tron => PositionText::Tron {
-                height: a.byte(),
-                width: b.byte(),
-                walls: c.list(),
-                one: d.byte(),
-                two: e.byte(),
-            },
-            GameKind::GoofspielDrawn => PositionText::GoofspielDrawn {
-                one: a.list(),
-                two: b.list(),
-                prizes: c.list(),
-                score: d.score(),
-                pay: e.pay(),
-            },
-            GameKind::Pursuit => PositionText::Pursuit {
-                nodes: a.byte(),
-                edges: b.list(),
-                one: c.byte(),
-                two: d.byte(),
-                rounds: e.byte(),
-            },
-            GameKind::Table => PositionText::Table {
-                ranks: a.numbers(),
-                moves: b.numbers(),
-                values: c.numbers(),
-                cells: d.numbers(),
-                draws: e.numbers(),
-            },
+            GameKind::Goofspiel => goofspiel_with(five(values)),
+            GameKind::OshiZumo => oshi_zumo_with(five(values)),
+            GameKind::Tron => tron_with(five(values)),
+            GameKind::GoofspielDrawn => drawn_with(five(values)),
+            GameKind::Pursuit => pursuit_with(five(values)),
+            GameKind::Table => table_with(six(values)),
         }
     }
 
     /// The values of the position's fields.
-    pub fn values(&self) -> [Shown<'_>; FIELDS]
-        ensures { map shown_value result ≡ values_of self.now }
+    pub fn values(&self, alloc: Global) -> Result<Vec<Shown<'_>>, AllocError>
+        ensures { IfOk result (λ v. map shown_value v.items ≡ values_of self.now) }
     {
         match self {
             PositionText::Goofspiel {
@@ -357,78 +493,117 @@ impl PositionText {
                 prizes,
                 score,
                 pay,
-            } => [
-                Shown::List(one.as_slice()),
-                Shown::List(two.as_slice()),
-                Shown::List(prizes.as_slice()),
-                Shown::Number(i64::from(*score)),
-                Shown::Word(word_for(*pay)),
-            ],
+            }
+            | PositionText::GoofspielDrawn {
+                one,
+                two,
+                prizes,
+                score,
+                pay,
+            } => Ok(Vec::from_array(
+                alloc,
+                [
+                    Shown::List(one.as_slice()),
+                    Shown::List(two.as_slice()),
+                    Shown::List(prizes.as_slice()),
+                    Shown::Number(i64::from(*score)),
+                    Shown::Word(word_for(*pay)),
+                ],
+            )?),
             PositionText::OshiZumo {
                 size,
                 one,
                 two,
                 least,
                 place,
-            } => [
-                Shown::Number(i64::from(*size)),
-                Shown::Number(i64::from(*one)),
-                Shown::Number(i64::from(*two)),
-                Shown::Number(i64::from(*least)),
-                Shown::Number(i64::from(*place)),
-            ],
+            } => Ok(Vec::from_array(
+                alloc,
+                [
+                    Shown::Number(i64::from(*size)),
+                    Shown::Number(i64::from(*one)),
+                    Shown::Number(i64::from(*two)),
+                    Shown::Number(i64::from(*least)),
+                    Shown::Number(i64::from(*place)),
+                ],
+            )?),
             PositionText::Tron {
                 height,
                 width,
                 walls,
                 one,
                 two,
-            } => [
-                Shown::Number(i64::from(*height)),
-                Shown::Number(i64::from(*width)),
-                Shown::List(walls.as_slice()),
-                Shown::Number(i64::from(*one)),
-                Shown::Number(i64::from(*two)),
-            ],
-            PositionText::GoofspielDrawn {
-                one,
-                two,
-                prizes,
-                score,
-                pay,
-            } => [
-                Shown::List(one.as_slice()),
-                Shown::List(two.as_slice()),
-                Shown::List(prizes.as_slice()),
-                Shown::Number(i64::from(*score)),
-                Shown::Word(word_for(*pay)),
-            ],
+            } => Ok(Vec::from_array(
+                alloc,
+                [
+                    Shown::Number(i64::from(*height)),
+                    Shown::Number(i64::from(*width)),
+                    Shown::List(walls.as_slice()),
+                    Shown::Number(i64::from(*one)),
+                    Shown::Number(i64::from(*two)),
+                ],
+            )?),
             PositionText::Pursuit {
                 nodes,
                 edges,
                 one,
                 two,
                 rounds,
-            } => [
-                Shown::Number(i64::from(*nodes)),
-                Shown::List(edges.as_slice()),
-                Shown::Number(i64::from(*one)),
-                Shown::Number(i64::from(*two)),
-                Shown::Number(i64::from(*rounds)),
-            ],
+            } => Ok(Vec::from_array(
+                alloc,
+                [
+                    Shown::Number(i64::from(*nodes)),
+                    Shown::List(edges.as_slice()),
+                    Shown::Number(i64::from(*one)),
+                    Shown::Number(i64::from(*two)),
+                    Shown::Number(i64::from(*rounds)),
+                ],
+            )?),
             PositionText::Table {
                 ranks,
                 moves,
                 values,
                 cells,
                 draws,
-            } => [
-                Shown::Numbers(ranks.as_slice()),
-                Shown::Numbers(moves.as_slice()),
-                Shown::Numbers(values.as_slice()),
-                Shown::Numbers(cells.as_slice()),
-                Shown::Numbers(draws.as_slice()),
-            ],
+                rewards,
+            } => Ok(Vec::from_array(
+                alloc,
+                [
+                    Shown::Numbers(ranks.as_slice()),
+                    Shown::Numbers(moves.as_slice()),
+                    Shown::Numbers(values.as_slice()),
+                    Shown::Numbers(cells.as_slice()),
+                    Shown::Numbers(draws.as_slice()),
+                    Shown::Optional(rewards.as_slice()),
+                ],
+            )?),
+        }
+    }
+
+    /// Whether the position is within the narrow limits.
+    pub fn is_narrow(&self) -> bool
+        ensures { result ≡ is_narrow self.now }
+    {
+        match self {
+            PositionText::Goofspiel { pay, .. } | PositionText::GoofspielDrawn { pay, .. } => {
+                is_paid_at_end(*pay)
+            }
+            PositionText::Table {
+                ranks,
+                moves,
+                values,
+                cells,
+                draws,
+                rewards,
+            } => {
+                let [a, b, c, d, e, _] = NARROW_TABLE;
+                rewards.is_empty()
+                    && are_within(a.1, ranks.as_slice())
+                    && are_within(b.1, moves.as_slice())
+                    && are_within(c.1, values.as_slice())
+                    && are_within(d.1, cells.as_slice())
+                    && are_within(e.1, draws.as_slice())
+            }
+            _ => true,
         }
     }
 
@@ -446,3 +621,11 @@ impl PositionText {
         }
     }
 }
+
+/// A position is within the narrow limits exactly if its values fit the narrow fields of its game.
+pub fn narrow_positions_fit()
+    ensures fits { (text : PositionText) → IsPositionInRange text → is_narrow text ≡ true
+        → AllFit (kinds_of Narrow (kind_of text)) (values_of text) }
+    ensures only { (text : PositionText) → AllFit (kinds_of Narrow (kind_of text)) (values_of text)
+        → IsPositionInRange text × (is_narrow text ≡ true) }
+{}

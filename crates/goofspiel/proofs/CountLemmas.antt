@@ -17,7 +17,7 @@ use Rattle.goofspiel.specs.declared.State.{State}
 use Rattle.goofspiel.specs.Cards.{cards, packed, packed_from, places}
 use Rattle.goofspiel.specs.CardLaws.{cards_packed, set_packed, card_bid}
 use Rattle.goofspiel.specs.Counts.{choose}
-use Rattle.goofspiel.specs.DealLaws.{IsDealt, same_goofspiel_state}
+use Rattle.goofspiel.specs.DealLaws.{IsDealt, spread, spread_more, same_goofspiel_state}
 use Rattle.goofspiel.specs.DrawnLaws.{IsDrawnSound, root_undrawn, drawn_sound, drawn_out, same_drawn_state}
 use Rattle.goofspiel.specs.DrawnRules.{drawn_game}
 use Rattle.goofspiel.specs.Laws.{gone, goofspiel_sound}
@@ -147,8 +147,8 @@ hands g left = choose g.count left
 -- the number of the hands and the score, among those with as many cards
 abbrev deal_number : Setting → ℕ → State → ℕ
 deal_number g spent s =
-    (rank (cards g.one) (cards s.one) * hands g (length (cards s.one)) + rank (cards g.two) (cards s.two)) * (2 * spent + 1)
-    + unsigned_abs (s.score -ℤ (g.score -ℤ pos spent))
+    (rank (cards g.one) (cards s.one) * hands g (length (cards s.one)) + rank (cards g.two) (cards s.two)) * (2 * spread g.pay spent + 1)
+    + unsigned_abs (s.score -ℤ (g.score -ℤ pos (spread g.pay spent)))
 
 module _ (g : Setting) (p : IsPosition g) where
   one_below : (s : State) → IsPart (cards g.one) (cards s.one) → rank (cards g.one) (cards s.one) < hands g (length (cards s.one))
@@ -159,19 +159,19 @@ module _ (g : Setting) (p : IsPosition g) where
       subst (λ (n : ℕ). rank (cards g.two) (cards s.two) < choose n (length (cards s.one))) p.two_count
       (subst (λ (k : ℕ). rank (cards g.two) (cards s.two) < choose (length (cards g.two)) k) (sym same) (rank_below (cards g.two) (cards s.two) part))
 
-  score_below : (spent : ℕ) (s : State) → IsDealt g spent s → unsigned_abs (s.score -ℤ (g.score -ℤ pos spent)) < 2 * spent + 1
-  score_below spent s here = omega (arith, ints, here.score_low, here.score_high)
+  score_below : (spent : ℕ) (s : State) → IsDealt g spent s → unsigned_abs (s.score -ℤ (g.score -ℤ pos (spread g.pay spent))) < 2 * spread g.pay spent + 1
+  score_below spent s here = omega (arith, ints, here.near.low, here.near.high)
 
-  deal_below : (spent : ℕ) (s : State) → IsDealt g spent s → HasParts g s → deal_number g spent s < deals (hands g (length (cards s.one))) spent
+  deal_below : (spent : ℕ) (s : State) → IsDealt g spent s → HasParts g s → deal_number g spent s < deals (hands g (length (cards s.one))) (spread g.pay spent)
   deal_below spent s here parts =
       let w = hands g (length (cards s.one)) in
-      mul-add-lt (rank (cards g.one) (cards s.one) * w + rank (cards g.two) (cards s.two)) (2 * spent + 1) (unsigned_abs (s.score -ℤ (g.score -ℤ pos spent))) (w * w)
+      mul-add-lt (rank (cards g.one) (cards s.one) * w + rank (cards g.two) (cards s.two)) (2 * spread g.pay spent + 1) (unsigned_abs (s.score -ℤ (g.score -ℤ pos (spread g.pay spent)))) (w * w)
       (mul-add-lt (rank (cards g.one) (cards s.one)) w (rank (cards g.two) (cards s.two)) w (one_below s parts.one) (two_below s here.same_count parts.two))
       (score_below spent s here)
 
   same_score : (spent : ℕ) (s t : State) → IsDealt g spent s → IsDealt g spent t
-      → unsigned_abs (s.score -ℤ (g.score -ℤ pos spent)) ≡ unsigned_abs (t.score -ℤ (g.score -ℤ pos spent)) → s.score ≡ t.score
-  same_score spent s t here there e = omega (arith, ints, here.score_low, there.score_low, e)
+      → unsigned_abs (s.score -ℤ (g.score -ℤ pos (spread g.pay spent))) ≡ unsigned_abs (t.score -ℤ (g.score -ℤ pos (spread g.pay spent))) → s.score ≡ t.score
+  same_score spent s t here there e = omega (arith, ints, here.near.low, there.near.low, e)
 
   same_hand : (all hand other : ℕ) → hand < 2 ^ 13 → other < 2 ^ 13 → IsPart (cards all) (cards hand) → IsPart (cards all) (cards other)
       → length (cards hand) ≡ length (cards other) → rank (cards all) (cards hand) ≡ rank (cards all) (cards other) → hand ≡ other
@@ -184,8 +184,8 @@ module _ (g : Setting) (p : IsPosition g) where
       let w = hands g (length (cards s.one)) in
       let width : w ≡ hands g (length (cards t.one)) = ap (hands g) long in
       let again : deal_number g spent t
-      ≡ (rank (cards g.one) (cards t.one) * w + rank (cards g.two) (cards t.two)) * (2 * spent + 1) + unsigned_abs (t.score -ℤ (g.score -ℤ pos spent)) = rw width refl in
-      let outer = digits_apart (2 * spent + 1) _ _ _ _ (score_below spent s here) (score_below spent t there) (e ∙ again) in
+      ≡ (rank (cards g.one) (cards t.one) * w + rank (cards g.two) (cards t.two)) * (2 * spread g.pay spent + 1) + unsigned_abs (t.score -ℤ (g.score -ℤ pos (spread g.pay spent))) = rw width refl in
+      let outer = digits_apart (2 * spread g.pay spent + 1) _ _ _ _ (score_below spent s here) (score_below spent t there) (e ∙ again) in
       let inner = digits_apart w _ _ _ _ (two_below s here.same_count parts.two) (rw width (two_below t there.same_count parts'.two)) outer.0 in
       same_goofspiel_state s t (same_hand g.one s.one t.one here.one_small there.one_small parts.one parts'.one long inner.0)
       (same_hand g.two s.two t.two here.two_small there.two_small parts.two parts'.two (omega (arith, long, here.same_count, there.same_count)) inner.1)
@@ -209,7 +209,7 @@ module _ (g : Setting) (p : IsPosition g) where
 
   -- ---- the game with known prizes
   abbrev pub deals_with : ℕ → ℕ
-  deals_with left = deals (hands g left) (sum (take (g.count - left) (prizes_of g)))
+  deals_with left = deals (hands g left) (spread g.pay (sum (take (g.count - left) (prizes_of g))))
 
   pub few_deals : HasAtMost (goofspiel_game g) (count_below (g.count + 1) deals_with)
   few_deals = few_by_classes (goofspiel_game g) (g.count + 1) (λ s. length (cards s.one)) (λ s. deal_number g (gone g s) s) deals_with
@@ -244,8 +244,7 @@ module _ (g : Setting) (p : IsPosition g) where
     two_small = here.two_small;
     same_count = here.same_count;
     few = here.few;
-    score_low = omega (arith, ints, here.score_low);
-    score_high = omega (arith, ints, here.score_high);
+    near = let wider = spread_more g.pay few many more in record { low = omega (arith, ints, wider, here.near.low); high = omega (arith, ints, wider, here.near.high) };
   }
 
   abbrev total : ℕ
@@ -259,7 +258,7 @@ module _ (g : Setting) (p : IsPosition g) where
   sets left = choose (g.count - 1) (left - 1)
 
   abbrev pub drawn_deals_with : ℕ → ℕ
-  drawn_deals_with left = max 1 g.count * (sets left * deals (hands g left) total)
+  drawn_deals_with left = max 1 g.count * (sets left * deals (hands g left) (spread g.pay total))
 
   abbrev drawn_number : DrawnState → ℕ
   drawn_number s = (deal_number g total s.hands * sets (length (cards s.hands.one)) + rank later (places s.undrawn)) * max 1 g.count + s.place
@@ -277,8 +276,8 @@ module _ (g : Setting) (p : IsPosition g) where
       let here = drawn_sound g p s r in
       let parts = drawn_parts s r in
       let left = length (cards s.hands.one) in
-      mul-add-lt (deal_number g total s.hands * sets left + rank later (places s.undrawn)) (max 1 g.count) s.place (sets left * deals (hands g left) total)
-      (mul-add-lt (deal_number g total s.hands) (sets left) (rank later (places s.undrawn)) (deals (hands g left) total)
+      mul-add-lt (deal_number g total s.hands * sets left + rank later (places s.undrawn)) (max 1 g.count) s.place (sets left * deals (hands g left) (spread g.pay total))
+      (mul-add-lt (deal_number g total s.hands) (sets left) (rank later (places s.undrawn)) (deals (hands g left) (spread g.pay total))
       (deal_below total s.hands (dealt s here) parts.hands) (set_below s here parts.undrawn))
       here.place_below
 

@@ -17,10 +17,10 @@ use Rattle.goofspiel.specs.declared.Setting.{Setting}
 use Rattle.goofspiel.specs.Cards.{members, cards, places, packed_from}
 use Rattle.state_key.proofs.SetLemmas.{members_none, members_even, members_odd}
 use Rattle.goofspiel.specs.CardLaws.{few_members, few_cards, set_packed, taken_out}
-use Rattle.goofspiel.specs.DealLaws.{FitsKey, IsDealt, IsBidFor, pay_low, pay_high, pay_range, key_small, keys_apart, hand_count, few_prizes, total_high, dealt_first, small_score, bid_for}
-use Rattle.goofspiel.specs.DrawnRules.{DrawnDeal, after_draw, drawn_deal_of, draw_count, drawn_key_of, drawn_game}
+use Rattle.goofspiel.specs.DealLaws.{FitsKey, IsDealt, IsBidFor, IsSumRange, IsTurnRange, sum_range_of, turn_range, pay_range, key_small, keys_apart, hand_count, few_prizes, total_high, dealt_first, small_score, bid_for}
+use Rattle.goofspiel.specs.DrawnRules.{DrawnDeal, after_draw, drawn_deal_of, draw_count, drawn_left, drawn_key_of, drawn_game}
 use Rattle.goofspiel.specs.Position.{prizes_of, IsPosition}
-use Rattle.goofspiel.specs.Rules.{deal_of, goofspiel_key}
+use Rattle.goofspiel.specs.Rules.{deal_of, won_by, goofspiel_key}
 
 -- ---- equal weights
 -- so many equal weights sum to the whole
@@ -201,6 +201,52 @@ module _ (g : Setting) (p : IsPosition g) where
   pub drawn_prize_is : (s : DrawnState) → IsDrawnSound g s → 1 ≤ length (cards s.hands.one) → get_or g.prizes s.place 0 ≡ prize_at g s.place
   drawn_prize_is s here some = sym (get_or-take g.count g.prizes s.place 0 (omega (arith, here.place_below, here.hands.few, some)))
 
+  -- ---- the prizes that are still to be won
+  pub left_is : (s : DrawnState) → IsDrawnSound g s → 1 ≤ length (cards s.hands.one)
+      → drawn_left (prizes_of g) (drawn_deal_of s) ≡ prize_at g s.place + sum_by (prize_at g) (places s.undrawn)
+  left_is s here some =
+      ap (sum_by (prize_at g)) (take_all (length (cards s.hands.one)) (s.place ∷ places s.undrawn) (omega (arith, here.left, some)))
+      ∙ sum_by-cons (prize_at g) s.place (places s.undrawn)
+
+  pub left_none : (s : DrawnState) → length (cards s.hands.one) ≡ 0 → drawn_left (prizes_of g) (drawn_deal_of s) ≡ 0
+  left_none s none = ap (λ (n : ℕ). sum_by (prize_at g) (take n (s.place ∷ places s.undrawn))) none
+
+  pub left_high : (s : DrawnState) → IsDrawnSound g s → drawn_left (prizes_of g) (drawn_deal_of s) ≤ sum (prizes_of g)
+  left_high s here = elim (cases_lt 0 (length (cards s.hands.one))) [
+    | inl some ↦ let rest = here.spent_rest (omega (arith, some)) in let is = left_is s here (omega (arith, some)) in omega (arith, rest, is)
+    | inr none ↦ let is = left_none s (omega (arith, none)) in omega (arith, is)
+  ]
+
+  -- the prize that is bid for is one of them, and gone after the turn
+  left_less : (s : DrawnState) (t : Turn) → IsDrawnSound g s → IsTurn (drawn_game g) s t
+      → prize_at g s.place + drawn_left (prizes_of g) (drawn_deal_of (after_turn (drawn_game g) s t)) ≤ drawn_left (prizes_of g) (drawn_deal_of s)
+  left_less s t here turn =
+      let xs = places s.undrawn in
+      let next = after_turn (drawn_game g) s t in
+      let bids = drawn_bids_for s t here turn in
+      let is = left_is s here (omega (arith, turn.one_below)) in
+      elim (cases_lt 0 (length (cards next.hands.one))) [
+        | inl some ↦
+            let out = drawn_out s.undrawn t.draw here.undrawn_small turn.draw_below in
+            let place : t.draw < length xs = omega (arith, turn.draw_below, here.left, bids.fewer, some) in
+            let after = left_is next (sound_turn s t here turn) (omega (arith, some)) in
+            let taken = sum_by-remove (prize_at g) xs t.draw 0 place in
+            let again = ap (sum_by (prize_at g)) out.again in
+            omega (arith, is, after, taken, again)
+        | inr none ↦ let after = left_none next (omega (arith, none)) in omega (arith, is, after)
+      ]
+
+  drawn_range : (s : DrawnState) → IsDrawnSound g s → IsSumRange g.pay g.score (sum (prizes_of g)) (drawn_left (prizes_of g) (drawn_deal_of s)) s.hands.score
+  drawn_range s here =
+      sum_range_of g.pay g.score (sum (prizes_of g)) here.spent (drawn_left (prizes_of g) (drawn_deal_of s)) s.hands.score here.spent_high (left_high s here) here.hands.near
+
+  reward_range : (s : DrawnState) (t : Turn) → IsDrawnSound g s → IsTurn (drawn_game g) s t
+      → IsTurnRange g.pay (drawn_game g).low (drawn_game g).high s.hands.score (won_by (prize_at g s.place) (deal_of s.hands) t.one t.two)
+      (drawn_left (prizes_of g) (drawn_deal_of (after_turn (drawn_game g) s t))) (drawn_left (prizes_of g) (drawn_deal_of s))
+  reward_range s t here turn =
+      turn_range g.pay (drawn_game g).low (drawn_game g).high s.hands.score (get_or (cards s.hands.one) t.one 0) (get_or (cards s.hands.two) t.two 0) (prize_at g s.place)
+      (drawn_left (prizes_of g) (drawn_deal_of (after_turn (drawn_game g) s t))) (drawn_left (prizes_of g) (drawn_deal_of s)) (left_less s t here turn)
+
   -- ---- keys
   pub drawn_key_is : (s : DrawnState) → IsDrawnSound g s → drawn_key_of (drawn_deal_of s) ≡ (goofspiel_key (deal_of s.hands) * 2 ^ 13 + s.undrawn) * 2 ^ 4 + s.place
   drawn_key_is s here = ap (λ (m : ℕ). (goofspiel_key (deal_of s.hands) * 2 ^ 13 + m) * 2 ^ 4 + s.place) (set_packed 0 s.undrawn here.undrawn_small)
@@ -238,8 +284,12 @@ module _ (g : Setting) (p : IsPosition g) where
         moves_high = λ side s r. let here = drawn_sound s r in omega (arith, hand_count g here.spent side s.hands here.hands, here.hands.few, p.one_count);
         rank_high = λ s r. omega (arith, few_cards s.hands.one (drawn_sound s r).hands.one_small);
         rank_falls = λ s t r turn. let fewer = (drawn_bids_for s t (drawn_sound s r) turn).fewer in omega (arith, fewer);
-        payoff_low = λ s r h. let here = drawn_sound s r in pay_low g.pay s.hands.score g.score (sum (prizes_of g)) (omega (arith, ints, here.hands.score_low, here.spent_high));
-        payoff_high = λ s r h. let here = drawn_sound s r in pay_high g.pay s.hands.score g.score (sum (prizes_of g)) (omega (arith, ints, here.hands.score_high, here.spent_high));
+        least_low = λ s r. (drawn_range s (drawn_sound s r)).least_low;
+        most_high = λ s r. (drawn_range s (drawn_sound s r)).most_high;
+        payoff_low = λ s r h. (drawn_range s (drawn_sound s r)).payoff_low;
+        payoff_high = λ s r h. (drawn_range s (drawn_sound s r)).payoff_high;
+        reward_low = λ s t r turn. (reward_range s t (drawn_sound s r) turn).reward_low;
+        reward_high = λ s t r turn. (reward_range s t (drawn_sound s r) turn).reward_high;
         same_key = λ s t r r' e. drawn_keys_apart s t (drawn_sound s r) (drawn_sound t r') e;
         key_high = λ s r. drawn_key_small s (drawn_sound s r);
         draws_low = λ s a b r h h'. (draws_range s (drawn_sound s r)).0;
@@ -250,5 +300,5 @@ module _ (g : Setting) (p : IsPosition g) where
       }
 
   pub drawn_follows : (s : DrawnState) (t : Turn) → IsDrawnSound g s → IsTurn (drawn_game g) s t
-      → drawn_deal_of (after_turn (drawn_game g) s t) ≡ after_draw (prizes_of g) (drawn_deal_of s) t.one t.two t.draw
+      → drawn_deal_of (after_turn (drawn_game g) s t) ≡ after_draw g.pay (prizes_of g) (drawn_deal_of s) t.one t.two t.draw
   drawn_follows s t here turn = same_drawn_deal _ _ (drawn_bids_for s t here turn).follows (drawn_out s.undrawn t.draw here.undrawn_small turn.draw_below).again refl

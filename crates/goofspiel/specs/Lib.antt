@@ -8,3 +8,4 @@ pub mod Laws
 pub mod Position
 pub mod Refusals
 pub mod Rules
+pub mod SameTree

@@ -1,14 +1,19 @@
 //! Goofspiel with prizes drawn by chance: the first prize is bid for first, and after both bids each of those that
 //! are left is the next one with equal chances.
 
-ghost use Rattle.std.specs.Prelude.{◌≡◌, ℕ, ℤ, List, ◌<◌, ◌^◌, length, sum, MatchResult, None, Some};
+ghost use Rattle.std.specs.Prelude.{◌≡◌, ℕ, ℤ, List, ◌<◌, ◌≤◌, ◌^◌, length, slice_index, sum, MatchResult, None, Some};
+ghost use Rattle.goofspiel.specs.declared.Pay.TheVariants.{Margin, Prizes};
+ghost use Rattle.goofspiel.specs.SameTree.{with_pay, HasSameSerialBounds, HasSameTree};
 ghost use Rattle.goofspiel.specs.DrawnLaws.{drawn_is_game};
-ghost use Rattle.goofspiel.specs.DrawnRules.{drawn_game, KeepsDrawnRules};
+ghost use Rattle.goofspiel.specs.DrawnRules.{drawn_deal_of, drawn_game, drawn_left, KeepsDrawnRules};
+ghost use Rattle.sim_game.specs.Model.{Reachable};
+ghost use Rattle.std.specs.List.{sum_by};
+ghost use Rattle.goofspiel.specs.Cards.{places};
 ghost use Rattle.goofspiel.specs.Position.{first_fault, prizes_of, IsPosition, IsSettingOf};
 ghost use Rattle.goofspiel.specs.Rules.{high_of, low_of};
 
-use crate::counts::{choose, deals};
-use crate::hands::{hands_key, play};
+use crate::counts::{choose, deals, spread};
+use crate::hands::{hands_key, play, won_by};
 use crate::position::prize_sum;
 use crate::sets::{number_at, size, take_out};
 use crate::{Goofspiel, GoofspielError, Pay, Setting, State};
@@ -63,6 +68,37 @@ impl GoofspielDrawn {
     }
 }
 
+/// The sum of the prizes at the places of a set.
+fn sum_at(prizes: &[u8; 13], set: u16) -> u32
+    requires { set < 2 ^ 13 }
+    ensures is { result ≡ sum_by (slice_index prizes.now) (places set) }
+    ensures small { result ≤ 3315 }
+{
+    let mut rest = set;
+    let mut sum: u32 = 0;
+    for _ in 0..size(set) {
+        let prize = prizes[rest.trailing_zeros() as usize];
+        sum += prize as u32;
+        rest &= rest - 1;
+    }
+    sum
+}
+
+impl GoofspielDrawn {
+    /// The sum of the prizes that are still to be won, the current one included.
+    fn prizes_left(&self, s: DrawnState) -> u32
+        requires { Reachable (drawn_game self.now.setting) s }
+        ensures is { result ≡ drawn_left (prizes_of self.now.setting) (drawn_deal_of s) }
+        ensures small { result ≤ 3570 }
+    {
+        if self.rank(s) == 0 {
+            return 0;
+        }
+        let prize = self.setting.prizes[s.place as usize] as u32;
+        prize + sum_at(&self.setting.prizes, s.undrawn)
+    }
+}
+
 impl Game for GoofspielDrawn {
     type State = DrawnState;
 
@@ -97,8 +133,32 @@ impl Game for GoofspielDrawn {
     #[inline]
     fn payoff(&self, s: DrawnState) -> i32 {
         match self.setting.pay {
-            Pay::Margin => s.hands.score,
+            Pay::Margin | Pay::Prizes => s.hands.score,
             Pay::Win => s.hands.score.signum(),
+        }
+    }
+
+    #[inline]
+    fn reward(&self, s: DrawnState, a: u32, b: u32, _d: u32) -> i32 {
+        match self.setting.pay {
+            Pay::Margin | Pay::Win => 0,
+            Pay::Prizes => won_by(s.hands, a, b, self.setting.prizes[s.place as usize]),
+        }
+    }
+
+    #[inline]
+    fn least(&self, s: DrawnState) -> i32 {
+        match self.setting.pay {
+            Pay::Margin | Pay::Win => self.low,
+            Pay::Prizes => s.hands.score - self.prizes_left(s) as i32,
+        }
+    }
+
+    #[inline]
+    fn most(&self, s: DrawnState) -> i32 {
+        match self.setting.pay {
+            Pay::Margin | Pay::Win => self.high,
+            Pay::Prizes => s.hands.score + self.prizes_left(s) as i32,
         }
     }
 
@@ -114,15 +174,17 @@ impl Game for GoofspielDrawn {
     }
 
     /// With so many cards left, besides, one set of places fewer by one than the cards is not drawn, and any place is bid
-    /// for; the score differs from the first one by no more than the sum of the prizes.
+    /// for; the score differs from the first one by no more than the sum of the prizes, or not at all where they are paid
+    /// when they are won.
     fn most_states(&self) -> u64 {
         let count = self.setting.count as u32;
         let later = count.saturating_sub(1);
         let total = prize_sum(&self.setting.prizes[..count as usize]);
+        let far = spread(self.setting.pay, total);
         let mut most = 0;
         for left in 0..count + 1 {
             let sets = choose(later, left.saturating_sub(1));
-            let deals = deals(choose(count, left), total);
+            let deals = deals(choose(count, left), far);
             most += 1.max(count) as u64 * (sets * deals);
         }
         most
@@ -166,7 +228,8 @@ impl Game for GoofspielDrawn {
 
     #[inline]
     fn drawn(&self, s: DrawnState, a: u32, b: u32, d: u32) -> DrawnState {
-        let hands = play(s.hands, a, b, self.setting.prizes[s.place as usize]);
+        let prize = self.setting.prizes[s.place as usize];
+        let hands = play(self.setting.pay, s.hands, a, b, prize);
         if s.undrawn == 0 {
             return DrawnState {
                 hands,
@@ -196,4 +259,16 @@ pub fn drawn_position_has_one_game()
     ensures { (one two prizes : List ℕ) (score : ℤ) (pay : Pay) (g h : Setting)
         → IsSettingOf one two prizes score pay g → IsSettingOf one two prizes score pay h
         → drawn_game g ≡ drawn_game h }
+{}
+
+/// The same cards and prizes with `Pay::Margin` and with `Pay::Prizes` are one game but for its states, draws and
+/// chances too.
+pub fn drawn_margin_by_prizes()
+    ensures { (g : Setting) → HasSameTree (drawn_game (with_pay Margin g)) (drawn_game (with_pay Prizes g)) }
+{}
+
+/// The same cards and prizes with `Pay::Margin` and with `Pay::Prizes` have the same serial bounds at the root.
+pub fn drawn_same_serial_bounds()
+    ensures { (g : Setting) → IsPosition g
+        → HasSameSerialBounds (drawn_game (with_pay Margin g)) (drawn_game (with_pay Prizes g)) }
 {}

@@ -1,14 +1,14 @@
 //! The hands of both sides and the score, as both games have them.
 ghost use Rattle.std.specs.Prelude.{◌≡◌, ◌<◌, ◌≤◌, ◌^◌, length, unsigned_abs};
 ghost use Rattle.goofspiel.specs.Cards.{cards};
-ghost use Rattle.goofspiel.specs.Rules.{after_bids, deal_of, goofspiel_key, state_of, won};
+ghost use Rattle.goofspiel.specs.Rules.{after_bids, deal_of, goofspiel_key, score_after, state_of, won, won_by};
 ghost use Rattle.goofspiel.specs.DealLaws.{FitsKey};
 
-use crate::State;
-use crate::sets::take_out;
+use crate::sets::{number_at, take_out};
+use crate::{Pay, State};
 use state_key::{Key, put};
 
-/// What a prize adds to the score.
+/// What One wins by a prize where these cards are bid.
 #[inline]
 fn change(one: u8, two: u8, prize: u8) -> i32
     ensures is { result ≡ won one two prize }
@@ -23,20 +23,44 @@ fn change(one: u8, two: u8, prize: u8) -> i32
     }
 }
 
-/// The hands and the score after both bids for a prize.
+/// What One wins by both bids for a prize.
 #[inline]
-pub(crate) fn play(s: State, a: u32, b: u32, prize: u8) -> State
+pub(crate) fn won_by(s: State, a: u32, b: u32, prize: u8) -> i32
     requires small { FitsKey s }
     requires one { a < length (cards s.one) }
     requires two { b < length (cards s.two) }
-    ensures { result ≡ state_of (after_bids prize (deal_of s) a b) }
+    ensures { result ≡ won_by prize (deal_of s) a b }
+{
+    change(number_at(s.one, 1, a), number_at(s.two, 1, b), prize)
+}
+
+/// The score after a turn by which One wins so much.
+#[inline]
+fn score_after(pay: Pay, score: i32, win: i32) -> i32
+    requires score { unsigned_abs score ≤ 2300 }
+    requires win { unsigned_abs win ≤ 255 }
+    ensures { result ≡ score_after pay score win }
+{
+    match pay {
+        Pay::Margin | Pay::Win => score + win,
+        Pay::Prizes => score,
+    }
+}
+
+/// The hands and the score after both bids for a prize.
+#[inline]
+pub(crate) fn play(pay: Pay, s: State, a: u32, b: u32, prize: u8) -> State
+    requires small { FitsKey s }
+    requires one { a < length (cards s.one) }
+    requires two { b < length (cards s.two) }
+    ensures { result ≡ state_of (after_bids pay prize (deal_of s) a b) }
 {
     let (card_one, one) = take_out(s.one, 1, a);
     let (card_two, two) = take_out(s.two, 1, b);
     State {
         one,
         two,
-        score: s.score + change(card_one, card_two, prize),
+        score: score_after(pay, s.score, change(card_one, card_two, prize)),
     }
 }
 

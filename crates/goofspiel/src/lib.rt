@@ -2,9 +2,14 @@
 #![tactic(auto)]
 
 ghost use Rattle.std.specs.Prelude.{◌≡◌, ◌<◌, ◌≤◌, ◌^◌, length, sum, unsigned_abs, MatchResult, None, Some};
+ghost use Rattle.goofspiel.specs.declared.Pay.TheVariants.{Margin, Prizes};
+ghost use Rattle.goofspiel.specs.declared.Setting.{Setting};
 ghost use Rattle.goofspiel.specs.Laws.{goofspiel_is_game};
+ghost use Rattle.goofspiel.specs.SameTree.{with_pay, HasSameSerialBounds, HasSameTree};
 ghost use Rattle.goofspiel.specs.Position.{first_fault, prizes_of, IsPosition, IsSettingOf};
-ghost use Rattle.goofspiel.specs.Rules.{goofspiel_game, high_of, low_of, KeepsRules};
+ghost use Rattle.goofspiel.specs.Rules.{deal_of, goofspiel_game, high_of, low_of, next_prize, prizes_left, KeepsRules};
+ghost use Rattle.sim_game.specs.Model.{Reachable};
+ghost use Rattle.goofspiel.specs.Cards.{cards};
 
 mod counts;
 mod drawn;
@@ -13,9 +18,12 @@ mod position;
 mod refusals;
 mod sets;
 
-use counts::{choose, deals};
-pub use drawn::{DrawnState, GoofspielDrawn, drawn_position_has_one_game, keeps_drawn_rules};
-use hands::{hands_key, play};
+use counts::{choose, deals, spread};
+pub use drawn::{
+    DrawnState, GoofspielDrawn, drawn_margin_by_prizes, drawn_position_has_one_game,
+    drawn_same_serial_bounds, keeps_drawn_rules,
+};
+use hands::{hands_key, play, won_by};
 pub use position::position_has_one_game;
 use position::{
     check_cards, check_lengths, check_prizes, check_score, hand_of, prize_array, prize_sum,
@@ -24,17 +32,19 @@ use sets::{number_at, size};
 use sim_game::{CHANCE, Game, Side};
 use thiserror::Error;
 
-/// What a player gets at an end.
+/// What One gets; Two gets its negative.
 #[derive(Clone, Copy, PartialEq, Eq, Debug)]
 pub enum Pay {
-    /// The score.
+    /// The score at an end.
     Margin,
-    /// The score's sign.
+    /// The score's sign at an end.
     Win,
+    /// Each prize when it is won, and at an end the position's score. No turn changes the score of a state.
+    Prizes,
 }
 
-/// The hands of both sides, packed, and the score: One's prizes less Two's. In a packed hand the lowest bit
-/// stands for card 1, and that of each card held is 1.
+/// The hands of both sides, packed, and the score: One's prizes less Two's, but for those that were paid when they were
+/// won. In a packed hand the lowest bit stands for card 1, and that of each card held is 1.
 #[derive(Clone, Copy, PartialEq, Eq, Debug)]
 pub struct State {
     pub one: u16,
@@ -123,27 +133,51 @@ impl Goofspiel {
     }
 }
 
-/// The least payoff from a score, where the prizes have this sum.
+/// The least sum that One gets from a score, where the prizes have this sum.
 fn least_payoff(pay: Pay, score: i32, total: u32) -> i32
     requires score { unsigned_abs score ≤ 1000 }
     requires total { total ≤ 3315 }
     ensures { result ≡ low_of pay score total }
 {
     match pay {
-        Pay::Margin => score - total as i32,
+        Pay::Margin | Pay::Prizes => score - total as i32,
         Pay::Win => -1,
     }
 }
 
-/// The greatest payoff from a score, where the prizes have this sum.
+/// The greatest sum that One gets from a score, where the prizes have this sum.
 fn greatest_payoff(pay: Pay, score: i32, total: u32) -> i32
     requires score { unsigned_abs score ≤ 1000 }
     requires total { total ≤ 3315 }
     ensures { result ≡ high_of pay score total }
 {
     match pay {
-        Pay::Margin => score + total as i32,
+        Pay::Margin | Pay::Prizes => score + total as i32,
         Pay::Win => 1,
+    }
+}
+
+impl Goofspiel {
+    /// The prize that is bid for.
+    #[inline]
+    fn prize(&self, s: State) -> u8
+        requires reachable { Reachable (goofspiel_game self.now.setting) s }
+        requires some { 1 ≤ length (cards s.one) }
+        ensures { result ≡ next_prize (prizes_of self.now.setting) (deal_of s) }
+    {
+        let gone = self.setting.count as u32 - self.rank(s);
+        self.setting.prizes[gone as usize]
+    }
+
+    /// The sum of the prizes that are still to be won, the current one included.
+    fn prizes_left(&self, s: State) -> u32
+        requires { Reachable (goofspiel_game self.now.setting) s }
+        ensures is { result ≡ prizes_left (prizes_of self.now.setting) (deal_of s) }
+        ensures small { result ≤ 3315 }
+    {
+        let count = self.setting.count as usize;
+        let gone = count - self.rank(s) as usize;
+        prize_sum(&self.setting.prizes[gone..count])
     }
 }
 
@@ -170,15 +204,38 @@ impl Game for Goofspiel {
 
     #[inline]
     fn next(&self, s: State, a: u32, b: u32) -> State {
-        let gone = self.setting.count as u32 - self.rank(s);
-        play(s, a, b, self.setting.prizes[gone as usize])
+        play(self.setting.pay, s, a, b, self.prize(s))
     }
 
     #[inline]
     fn payoff(&self, s: State) -> i32 {
         match self.setting.pay {
-            Pay::Margin => s.score,
+            Pay::Margin | Pay::Prizes => s.score,
             Pay::Win => s.score.signum(),
+        }
+    }
+
+    #[inline]
+    fn reward(&self, s: State, a: u32, b: u32, _d: u32) -> i32 {
+        match self.setting.pay {
+            Pay::Margin | Pay::Win => 0,
+            Pay::Prizes => won_by(s, a, b, self.prize(s)),
+        }
+    }
+
+    #[inline]
+    fn least(&self, s: State) -> i32 {
+        match self.setting.pay {
+            Pay::Margin | Pay::Win => self.low,
+            Pay::Prizes => s.score - self.prizes_left(s) as i32,
+        }
+    }
+
+    #[inline]
+    fn most(&self, s: State) -> i32 {
+        match self.setting.pay {
+            Pay::Margin | Pay::Win => self.high,
+            Pay::Prizes => s.score + self.prizes_left(s) as i32,
         }
     }
 
@@ -193,13 +250,14 @@ impl Game for Goofspiel {
     }
 
     /// With so many cards left, each side has one of the sets of so many of its cards, and the score differs from the
-    /// first one by no more than the prizes that are gone.
+    /// first one by no more than the prizes that are gone, or not at all where they are paid when they are won.
     fn most_states(&self) -> u64 {
         let count = self.setting.count;
         let mut most = 0;
         for left in 0..count + 1 {
             let gone = prize_sum(&self.setting.prizes[..(count - left) as usize]);
-            most += deals(choose(count as u32, left as u32), gone);
+            let far = spread(self.setting.pay, gone);
+            most += deals(choose(count as u32, left as u32), far);
         }
         most
     }
@@ -251,4 +309,17 @@ impl Game for Goofspiel {
 /// The states stand for hands of cards and a score, and every call answers by the rules on these.
 pub fn keeps_rules(_game: &Goofspiel)
     ensures { KeepsRules _game.now.setting }
+{}
+
+/// The same cards and prizes with `Pay::Margin` and with `Pay::Prizes` are one game but for its states: each way of
+/// play has the same moves in both, and pays the same in the end. So any two plans that look at the turns alone, and
+/// not at the score of the state, lead to the same sum in both.
+pub fn margin_by_prizes()
+    ensures { (g : Setting) → HasSameTree (goofspiel_game (with_pay Margin g)) (goofspiel_game (with_pay Prizes g)) }
+{}
+
+/// The same cards and prizes with `Pay::Margin` and with `Pay::Prizes` have the same serial bounds at the root.
+pub fn same_serial_bounds()
+    ensures { (g : Setting) → IsPosition g
+        → HasSameSerialBounds (goofspiel_game (with_pay Margin g)) (goofspiel_game (with_pay Prizes g)) }
 {}

@@ -1,28 +1,31 @@
 -- That the plans of the best entries are what is to be found.
-use Rattle.std.proofs.Common.{◌≡◌, ⊎_elim, ℕ, ◌+◌, ◌*◌, ◌<◌, ◌≤◌, ℤ, pos, ◌-ℤ◌, ◌≤ℤ◌, ◌<ℤ◌, true, false, cond, Some, List, length, All, Contains, refl, sym, ap, subst, ◌∙◌, arith}
+use Rattle.std.proofs.Common.{◌≡◌, ⊎_elim, ℕ, ◌+◌, ◌*◌, ◌≤◌, ℤ, pos, ◌-ℤ◌, ◌≤ℤ◌, ◌<ℤ◌, true, false, cond, Option, None, Some, option_map, List, length, All, Contains, sym, ap, subst, ◌∙◌, arith}
 use Rattle.std.specs.Int.RustNames.{unsigned_abs}
+use Rattle.std.specs.List.{AllByRecursion}
 use Rattle.std.proofs.lemmas.Int.{ints}
 use Rattle.std.proofs.lemmas.Bool.{cases_eq}
-use Rattle.std.proofs.lemmas.List.Elements.{All-contains, All-weaker, at_from_Contains}
+use Rattle.std.proofs.lemmas.List.Elements.{All-contains, All-weaker, at_from_Contains, recursion_from_All}
 use Rattle.sim_game.specs.declared.Side.{Side}
 use Rattle.sim_game.specs.declared.Side.TheVariants.{One, Two}
 use Rattle.sim_game.specs.Model.{GameModel, IsGame, IsEnd}
 use Rattle.sim_game.specs.Resolution.{IsLeastGap, payoff_range, IsResolution}
-use Rattle.sim_game.specs.Sides.{IsNoTighter, opening_bound}
+use Rattle.sim_game.specs.Sides.{IsNoTighter, better, opening_bound, state_bound}
 use Rattle.sim_game.proofs.ReachLemmas.{reachable_root}
-use Rattle.sim_game.proofs.SideLemmas.{end_range}
+use Rattle.sim_game.proofs.SideLemmas.{looser_trans, opening_state, end_range}
 use Rattle.plan_book.specs.declared.Entry.{Entry}
 use Rattle.plan_book.specs.declared.Sheet.{Sheet}
 use Rattle.plan_book.specs.declared.SheetRow.{SheetRow}
-use Rattle.plan_book.specs.Books.{IsClosed, IsBooked, IsBestSheet, best_posted, best_row, book_bound}
+use Rattle.plan_book.specs.Books.{IsClosed, IsBooked, IsBestSheet, best_entry, best_posted, best_row, row_of, book_bound}
+use Rattle.plan_book.specs.Entries.{IsEntry}
 use Rattle.plan_book.specs.Plans.{one_move}
-use Rattle.plan_book.specs.Sheets.{IsLawful, IsReached, bound_or, root_bound, plan_of}
+use Rattle.plan_book.specs.Sheets.{IsLawful, IsReached, root_bound, plan_of}
 use Rattle.plan_book.specs.Expected.{Guarantees}
 use Rattle.plan_book.specs.Serial.{serial_bound}
-use Rattle.plan_book.proofs.BestLemmas.{book_row, row_entry}
-use Rattle.plan_book.proofs.BookLemmas.{best_range}
+use Rattle.plan_book.proofs.BestLemmas.{row_entry}
+use Rattle.plan_book.proofs.BookLemmas.{IsRanged, bound_kept, best_kept, best_range, entry_range}
 use Rattle.plan_book.proofs.ExpectedLemmas.{is_same, is_other}
 use Rattle.plan_book.proofs.SheetLemmas.{sheet_guarantees}
+use Rattle.bounds_board.proofs.KnownLemmas.{better_has, state_in}
 use Rattle.serial_ab.specs.Searches.{IsPureEntry}
 use Rattle.fields.specs.declared.ask.Ask.{Ask}
 use Rattle.fields.specs.Ranges.{IsAskInRange}
@@ -46,9 +49,23 @@ module _ {S : Type 0} (m : GameModel S) (game : IsGame m) (weight : ℕ) (entrie
   -- the bounds at the root lie in the range of payoffs
   root_range : (side of : Side) → IsNoTighter of (opening_bound m of) (book_bound m entries side m.root)
   root_range side of = ⊎_elim
-      (λ (end : IsEnd m m.root). rw (is_same (m.rank m.root) 0 end) (end_range m of m.root game (reachable_root m) end))
-      (λ (on : IsEnd m m.root → ⊥). rw (is_other (m.rank m.root) 0 on) (best_range m weight (IsBooked m entries) entries side of (m.key m.root) game closed))
+      (λ (end : IsEnd m m.root). rw (is_same (m.rank m.root) 0 end)
+      (looser_trans of _ _ _ (opening_state m of m.root game (reachable_root m)) (end_range m of m.root game (reachable_root m) end)))
+      (λ (on : IsEnd m m.root → ⊥). rw (is_other (m.rank m.root) 0 on)
+      (better_has side (IsNoTighter of (opening_bound m of)) (best_posted m entries side (m.key m.root)) (state_bound m side m.root)
+      (best_range m weight (IsBooked m entries) entries side of (m.key m.root) game closed) (state_in m side of m.root game (reachable_root m))))
       (cases_eq (m.rank m.root) 0)
+
+  -- the best bound posted at the key of a best row is that of the row
+  row_posted : (side : Side) (key : ℕ) (r : SheetRow) → best_row side entries key ≡ Some r → best_posted m entries side key ≡ r.bound
+  row_posted side key r found = sym (best_kept m side key entries ranged) ∙ kept (best_entry side entries key) found where
+    ranged : AllByRecursion (IsRanged m side) entries
+    ranged = recursion_from_All (IsRanged m side) entries (All-weaker (IsEntry m weight (IsBooked m entries)) (IsRanged m side)
+        (λ e entry is_side. entry_range m game weight (IsBooked m entries) side e entry) entries closed)
+
+    kept : (o : Option Entry) → option_map row_of o ≡ Some r → bound_kept m side o ≡ r.bound
+    kept None e = absurd (cc)
+    kept (Some entry) e = let same : row_of entry ≡ r = cc in ap (λ (x : SheetRow). x.bound) same
 
   root_small : (side : Side) → unsigned_abs (book_bound m entries side m.root) ≤ 4000000000
   root_small side = abs_small (book_bound m entries side m.root) (scaled_low m game (book_bound m entries side m.root) (root_range side One))
@@ -86,25 +103,19 @@ module _ {S : Type 0} (m : GameModel S) (game : IsGame m) (ask : Ask) (asks : Is
         let behind = row_entry (λ e. HasKey x.kept e.key) side entries r.key r searched.entered only.3 in
         let held : HasKey x.kept r.key = subst (HasKey x.kept) behind.1.is_key behind.1.holds in
         let row : IsKeptRow m entries held.row = All-contains (IsKeptRow m entries) x.kept held.row searched.best held.is_kept in
-        let t = row.named.state in
-        let goes_on = row.named.goes_on in
-        let at : m.key t ≡ r.key = row.named.is_key ∙ held.is_key in
-        let found : best_row side entries (m.key t) ≡ Some r = ap (best_row side entries) at ∙ only.3 in
-        let on = is_other (m.rank t) 0 (λ e. absurd (omega arith)) in
-        let posted : book_bound m entries side t ≡ best_posted m entries side (m.key t) = rw on refl in
-        let booked = book_row m game ask.weight (IsBooked m entries) entries searched.closed side t row.named.reachable in
         record {
           held = held;
-          bound = row.best side ∙ ap (best_posted m entries side) (sym row.named.is_key) ∙ sym posted ∙ booked ∙ ap (bound_or m side t) found;
+          bound = row.best side ∙ row_posted m game ask.weight entries searched.closed side held.row.key r (ap (best_row side entries) held.is_key ∙ only.3);
         }
 
-    -- the root's row has the best bounds of the book; a root that is an end has none
-    root_row : (row : Kept) → Contains x.kept row → row.key ≡ m.key m.root → book_bound m entries side m.root ≡ kept_bound side row
+    -- the root's row has the best bounds posted in the book; a root that is an end has none
+    root_row : (row : Kept) → Contains x.kept row → row.key ≡ m.key m.root
+        → book_bound m entries side m.root ≡ better side (kept_bound side row) (state_bound m side m.root)
     root_row row held at = ⊎_elim
         (λ (end : IsEnd m m.root). let it = at_from_Contains x.kept row held in let none = ap length (searched.rows.none end) in absurd (omega (arith, it.1, none)))
         (λ (on : IsEnd m m.root → ⊥).
         let best : IsKeptRow m entries row = All-contains (IsKeptRow m entries) x.kept row searched.best held in
-        rw (is_other (m.rank m.root) 0 on) (sym (best.best side ∙ ap (best_posted m entries side) at)))
+        rw (is_other (m.rank m.root) 0 on) (ap (λ (x : ℤ). better side x (state_bound m side m.root)) (sym (best.best side ∙ ap (best_posted m entries side) at))))
         (cases_eq (m.rank m.root) 0)
 
     pub found_plan : (bound : ℤ) → bound ≡ root_bound m sheet → IsFoundPlan m ask x side sheet bound

@@ -1,5 +1,5 @@
 -- What workers have found together, pass by pass.
-use Rattle.std.proofs.Common.{◌≡◌, ◌⊎◌, ⊎_elim, inl, inr, ℕ, ◌+◌, ◌≤◌, ℤ, ◌-ℤ◌, ◌≤ℤ◌, Bool, true, false, ◌||◌, max, Result, Ok, IfOk, Some, List, [], ◌∷◌, ◌++◌, length, All, refl, sym, ap, subst, ◌∙◌, arith}
+use Rattle.std.proofs.Common.{◌≡◌, ◌⊎◌, ⊎_elim, inl, inr, ℕ, ◌+◌, ◌≤◌, ℤ, ◌+ℤ◌, ◌-ℤ◌, ◌≤ℤ◌, Bool, true, false, ◌||◌, max, Result, Ok, IfOk, Some, List, [], ◌∷◌, ◌++◌, length, All, refl, sym, ap, subst, ◌∙◌, arith}
 use Rattle.std.proofs.lemmas.Int.{ints}
 use Rattle.std.proofs.lemmas.List.{length-append, append-nil, append_assoc}
 use Rattle.std.proofs.lemmas.List.Elements.{All-append, All-cons, All-nil, All-pop, All-weaker}
@@ -7,10 +7,11 @@ use Rattle.std.proofs.lemmas.Result.{IfOk-weaker}
 use Rattle.sim_game.specs.declared.Side.{Side}
 use Rattle.sim_game.specs.declared.Side.TheVariants.{One, Two}
 use Rattle.sim_game.specs.Model.{GameModel}
-use Rattle.sim_game.specs.Sides.{IsNoTighter}
+use Rattle.sim_game.specs.Sides.{IsNoTighter, state_bound}
 use Rattle.sim_game.proofs.SideLemmas.{looser_trans}
 use Rattle.plan_book.specs.Serial.{serial_bound}
 use Rattle.sim_game.specs.declared.NoMemory.{NoMemory}
+use Rattle.bounds_board.proofs.KnownLemmas.{better_more}
 use Rattle.shared_board.specs.Plays.{issuing, issued_view, joined}
 use Rattle.shared_board.specs.Passes.{seen_by, KnowsNoLess}
 use Rattle.shared_board.specs.Values.{BoardValue, PassValue, DeskValue, DeskName, IsPassOf, desk_view}
@@ -25,7 +26,7 @@ use Rattle.matrix_game.specs.Budget.{Budget}
 use Rattle.serial_ab.specs.Searches.{IsPureEntry}
 use Rattle.lazy_workers.specs.Keeping.{HasLimit}
 use Rattle.lazy_workers.specs.Searched.{IsFar, HasFound}
-use Rattle.lazy_workers.specs.Workers.{IsLead, IsWorkerPass, Rows, rows_of, KnowsEach, IsFinishedKey, AreOwedTo, IsDueTo, HaveFound, HasView, IsJobDone, IsNoLooser}
+use Rattle.lazy_workers.specs.Workers.{IsLead, IsWorkerPass, Rows, rows_of, KnowsEach, known_of, IsFinishedKey, AreOwedTo, IsDueTo, HaveFound, HasView, IsJobDone, IsNoLooser}
 
 -- ---- passes
 module _ {G : Type 0} where
@@ -119,8 +120,13 @@ module _ {S : Type 0} (m : GameModel S) (ask : Ask) where
       named = f.named;
       row = f.row;
       has_row = later f.row key f.has_row;
-      close = λ regret stage is. let before = f.close regret stage is in omega (arith, ints, gap_less (λ side. seen side key) (λ side. next side key) (λ side. tighter side key));
-    }
+      close = λ regret stage is.
+          let s = f.named.state in
+          closer _ _ _ _ _ (better_more One _ _ (state_bound m One s) (tighter One (m.key s))) (better_more Two _ _ (state_bound m Two s) (tighter Two (m.key s)))
+          (f.close regret stage is);
+    } where
+      closer : (a b c d gap : ℤ) → a ≤ℤ b → d ≤ℤ c → c ≤ℤ (a +ℤ gap) → d ≤ℤ (b +ℤ gap)
+      closer a b c d gap low high near = omega (arith, ints)
 
     due_later : IsDueTo m ask seen known → IsDueTo m ask next more
     due_later due = ⊎_elim
@@ -137,8 +143,9 @@ module _ {S : Type 0} (m : GameModel S) (ask : Ask) where
 
     pub seen_later : (Met : Type 0) (turns : List Budget) → HaveFound m ask seen known Met turns → HaveFound m ask next more Met turns
     seen_later Met turns f =
-        found_later (λ side. seen side (m.key m.root)) (λ side. next side (m.key m.root)) (KnowsEach ask.rows known) (KnowsEach ask.rows more)
-        (IsDueTo m ask seen known) (IsDueTo m ask next more) ((row : ℕ) × known row (m.key m.root)) ((row : ℕ) × more row (m.key m.root)) Met turns (λ side. tighter side (m.key m.root))
+        found_later (known_of m seen m.root) (known_of m next m.root) (KnowsEach ask.rows known) (KnowsEach ask.rows more)
+        (IsDueTo m ask seen known) (IsDueTo m ask next more) ((row : ℕ) × known row (m.key m.root)) ((row : ℕ) × more row (m.key m.root)) Met turns
+        (λ side. better_more side _ _ (state_bound m side m.root) (tighter side (m.key m.root)))
         (knows_later ask.rows known more later) due_later (λ it. (it.0, later it.0 (m.key m.root) it.1)) f
 
 -- ---- nothing is forgotten
@@ -184,7 +191,7 @@ module _ {S G : Type 0} (model : G → GameModel S) (g : G) (b : BoardValue G) (
     holds = refl;
     counts = omega arith;
     each = each;
-    joined = found_none (model g) ask (λ side. seen_by (model g) first.view side ((model g).key (model g).root)) (KnowsEach ask.rows (rows_of first.view))
+    joined = found_none (model g) ask (known_of (model g) (seen_by (model g) first.view) (model g).root) (KnowsEach ask.rows (rows_of first.view))
         (IsDueTo (model g) ask (seen_by (model g) first.view) (rows_of first.view)) ((row : ℕ) × rows_of first.view row ((model g).key (model g).root)) (false ≡ true) (λ e. absurd (cc));
     alone = λ _. subst (All (IsPureEntry (model g) ask.weight)) (sym none) (All-nil (IsPureEntry (model g) ask.weight));
     taken = [];
@@ -229,7 +236,7 @@ module _ {S G : Type 0} (model : G → GameModel S) (g : G) (b : BoardValue G) (
         counts = omega (arith, j.counts);
         each = parts.0;
         joined = subst (λ (l : List Budget). HasView m ask next.view (now ≡ true) l) (sym more_is)
-            (found_more m ask (λ side. seen_by m next.view side key) (KnowsEach ask.rows (rows_of next.view))
+            (found_more m ask (known_of m (seen_by m next.view) m.root) (KnowsEach ask.rows (rows_of next.view))
             (IsDueTo m ask (seen_by m next.view) (rows_of next.view)) ((row : ℕ) × rows_of next.view row key) (was ≡ true) (d.end ≡ Full)
             (now ≡ true) turns (d.turns ∷ []) then (met_not was now d.end else) (omega arith)
             (seen_later m ask (seen_by m lead.view) (seen_by m next.view) (rows_of lead.view) (rows_of next.view) from_lead.seen from_lead.keys (was ≡ true) turns j.joined)

@@ -1,5 +1,5 @@
 -- What the rows of the closed board show.
-use Rattle.std.proofs.Common.{◌≡◌, ◌≢◌, ⊎_elim, inl, inr, ℕ, suc, ◌+◌, ◌*◌, ◌<◌, ◌≤◌, ℤ, pos, ◌-ℤ◌, ◌*ℤ◌, ◌≤ℤ◌, Bool, true, cond, Some, List, [], ◌∷◌, length, get_or, slice_index, All, Contains, refl, sym, ap, subst, ◌∙◌, arith}
+use Rattle.std.proofs.Common.{◌≡◌, ◌≢◌, ⊎_elim, inl, inr, ℕ, suc, ◌+◌, ◌*◌, ◌<◌, ◌≤◌, ℤ, pos, ◌+ℤ◌, ◌-ℤ◌, ◌*ℤ◌, ◌≤ℤ◌, Bool, true, cond, Some, List, [], ◌∷◌, length, get_or, slice_index, All, Contains, refl, sym, ap, subst, ◌∙◌, arith}
 use Rattle.std.specs.List.{AllByRecursion}
 use Rattle.std.proofs.lemmas.Int.{ints}
 use Rattle.std.proofs.lemmas.List.Elements.{All-weaker, All-contains, All-from_recursion, recursion_from_All, at_from_Contains}
@@ -7,13 +7,15 @@ use Rattle.sums.proofs.IntegerLemmas.{times_mono}
 use Rattle.sim_game.specs.declared.Side.{Side}
 use Rattle.sim_game.specs.declared.Side.TheVariants.{One, Two}
 use Rattle.sim_game.specs.Model.{GameModel, IsGame}
-use Rattle.sim_game.specs.Sides.{IsNoTighter}
+use Rattle.sim_game.specs.Sides.{IsNoTighter, better, state_bound}
 use Rattle.sim_game.specs.Resolution.{IsResolution}
+use Rattle.sim_game.proofs.SideLemmas.{looser_trans, better_left}
 use Rattle.plan_book.specs.declared.Entry.{Entry}
 use Rattle.plan_book.specs.Books.{IsClosed, IsBooked, best_posted, book_bound}
 use Rattle.plan_book.proofs.BookLemmas.{best_backed, best_range}
 use Rattle.plan_book.proofs.ExpectedLemmas.{is_other}
 use Rattle.bounds_board.specs.Views.{IsEnclosure}
+use Rattle.bounds_board.proofs.KnownLemmas.{better_more}
 use Rattle.serial_ab.specs.Searches.{IsPureEntry}
 use Rattle.matrix_game.specs.Budget.{Budget}
 use Rattle.shared_board.specs.Rule.{Has}
@@ -21,11 +23,11 @@ use Rattle.shared_board.specs.Passes.{seen_by}
 use Rattle.shared_board.specs.Closing.{AreKeptRows, IsKeptRow, IsDistinct, HasKey, kept_bound}
 use Rattle.shared_board.specs.declared.view.View.{View}
 use Rattle.shared_board.specs.declared.close.Kept.{Kept}
-use Rattle.oracle_search.specs.Finished.{AreApart, rank_gap}
+use Rattle.oracle_search.specs.Finished.{AreApart}
 use Rattle.fields.specs.declared.ask.Ask.{Ask}
-use Rattle.lazy_workers.specs.Keeping.{IsKeptState, IsFinishedRow, AreOwed, AreRows}
+use Rattle.lazy_workers.specs.Keeping.{IsKeptState, known_gap, IsFinishedRow, AreOwed, AreRows}
 use Rattle.lazy_workers.specs.Searched.{HasKeysIn, IsOwed, IsRooted, IsSearched}
-use Rattle.lazy_workers.specs.Workers.{rows_of, KnowsEach, IsFinishedKey, AreOwedTo, IsDueTo, HasView}
+use Rattle.lazy_workers.specs.Workers.{rows_of, KnowsEach, known_of, IsFinishedKey, AreOwedTo, IsDueTo, HasView}
 use Rattle.lazy_workers.proofs.JoinLemmas.{found_later}
 
 nothing_kept : Kept
@@ -124,17 +126,19 @@ module _ {S G : Type 0} (m : GameModel S) (game : IsGame m) (ask : Ask) (v : Vie
     finished_row key f =
         let here = row_of key f in
         let row : IsKeptRow m entries here.row = All-contains (IsKeptRow m entries) kept here.row is.each here.is_kept in
-        let best : (side : Side) → IsNoTighter side (seen_by m v side key) (kept_bound side here.row) = λ side.
-        subst (IsNoTighter side (seen_by m v side key)) (sym (row.best side ∙ ap (best_posted m entries side) here.is_key)) (is.no_looser side key) in
-        let low : seen_by m v One key ≤ℤ here.row.lower = best One in
-        let high : here.row.upper ≤ℤ seen_by m v Two key = best Two in
+        let s = f.named.state in
+        let best : (side : Side) → IsNoTighter side (known_of m (seen_by m v) s side) (better side (kept_bound side here.row) (state_bound m side s)) = λ side.
+        better_more side _ _ (state_bound m side s) (subst (IsNoTighter side (seen_by m v side (m.key s)))
+        (sym (row.best side ∙ ap (best_posted m entries side) (here.is_key ∙ sym f.named.is_key))) (is.no_looser side (m.key s))) in
         record {
           named = record { state = f.named.state; reachable = f.named.reachable; goes_on = f.named.goes_on; is_key = f.named.is_key ∙ sym here.is_key };
           close = λ regret.
-              let near = f.close regret resolution.gap resolution.is_gap in
-              let apart : (here.row.upper -ℤ here.row.lower) ≤ℤ pos (rank_gap m resolution.gap (m.rank f.named.state)) = omega (arith, ints) in
-              share (m.rank m.root) (m.rank f.named.state) (resolution.gap + 1 + cond m.chance_free 0 1) n (here.row.upper -ℤ here.row.lower) resolution.sums apart;
+              share (m.rank m.root) (m.rank s) (resolution.gap + 1 + cond m.chance_free 0 1) n (known_gap m here.row s) resolution.sums
+              (apart _ _ _ _ _ (best One) (best Two) (f.close regret resolution.gap resolution.is_gap));
         } where
+          apart : (a b c d : ℤ) (gap : ℕ) → a ≤ℤ b → d ≤ℤ c → c ≤ℤ (a +ℤ pos gap) → (d -ℤ b) ≤ℤ pos gap
+          apart a b c d gap low high near = omega (arith, ints)
+
           share : (root rank each n : ℕ) (gap : ℤ) → n ≡ root * each → gap ≤ℤ pos (rank * each) → (pos root *ℤ gap) ≤ℤ (pos rank *ℤ pos n)
           share root rank each n gap is near =
               let times : root * (rank * each) ≡ rank * n = rw is (omega arith) in
@@ -158,14 +162,20 @@ module _ {S G : Type 0} (m : GameModel S) (game : IsGame m) (ask : Ask) (v : Vie
       (λ (owed : AreOwedTo m ask (seen_by m v) (rows_of v)). owed_rows owed n resolution)
       due
 
-  -- of a root that is no end, the bound of the book is that of its key
+  -- of a root that is no end, the bound of the book is the best posted at its key, or that of every value of it where that is better
   module _ (goes_on : 1 ≤ m.rank m.root) where
-    root_posted : (side : Side) → book_bound m entries side m.root ≡ best_posted m entries side (m.key m.root)
+    root_posted : (side : Side) → book_bound m entries side m.root ≡ better side (best_posted m entries side (m.key m.root)) (state_bound m side m.root)
     root_posted side = let on = is_other (m.rank m.root) 0 (λ e. absurd (omega arith)) in rw on refl
 
     -- it is no looser than what the pass has seen
     pub root_tighter : (side : Side) → IsNoTighter side (seen_by m v side (m.key m.root)) (book_bound m entries side m.root)
-    root_tighter side = subst (IsNoTighter side (seen_by m v side (m.key m.root))) (sym (root_posted side)) (is.no_looser side (m.key m.root))
+    root_tighter side = subst (IsNoTighter side (seen_by m v side (m.key m.root))) (sym (root_posted side))
+        (looser_trans side _ _ _ (is.no_looser side (m.key m.root)) (better_left side _ (state_bound m side m.root)))
+
+    -- and than what the pass knows
+    root_known : (side : Side) → IsNoTighter side (known_of m (seen_by m v) m.root side) (book_bound m entries side m.root)
+    root_known side = subst (IsNoTighter side (known_of m (seen_by m v) m.root side)) (sym (root_posted side))
+        (better_more side _ _ (state_bound m side m.root) (is.no_looser side (m.key m.root)))
 
     pub joined_searched : (turns : List Budget) (was_full : Bool) → HasView m ask v (was_full ≡ true) turns → length turns ≡ ask.workers
         → (All (λ t. t.spent ≡ 0) turns → All (IsPureEntry m ask.weight) entries) → IsSearched m ask entries kept turns was_full
@@ -176,8 +186,8 @@ module _ {S G : Type 0} (m : GameModel S) (game : IsGame m) (ask : Ask) (v : Vie
       entered = is.entered;
       best = is.each;
       workers = count;
-      found = found_later m ask (λ side. seen_by m v side (m.key m.root)) (λ side. book_bound m entries side m.root) (KnowsEach ask.rows (rows_of v))
+      found = found_later m ask (known_of m (seen_by m v) m.root) (λ side. book_bound m entries side m.root) (KnowsEach ask.rows (rows_of v))
           (length kept ≡ ask.rows) (IsDueTo m ask (seen_by m v) (rows_of v)) (IsOwed m ask kept)
-          ((row : ℕ) × rows_of v row (m.key m.root)) (IsRooted m kept) (was_full ≡ true) turns root_tighter is.full rows_left (λ it _. is.known it.0 (m.key m.root) it.1) j;
+          ((row : ℕ) × rows_of v row (m.key m.root)) (IsRooted m kept) (was_full ≡ true) turns root_known is.full rows_left (λ it _. is.known it.0 (m.key m.root) it.1) j;
       alone = alone;
     }

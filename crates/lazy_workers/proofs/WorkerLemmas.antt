@@ -1,5 +1,5 @@
 -- What the search of one worker shows of the game.
-use Rattle.std.proofs.Common.{◌≡◌, ◌⊎◌, ⊎_elim, inl, inr, ℕ, ◌+◌, ◌*◌, ◌<◌, ◌≤◌, pos, ◌-ℤ◌, ◌≤ℤ◌, Bool, true, false, None, Some, List, [], ◌∷◌, ◌++◌, length, get_or, slice_index, All, refl, sym, ap, subst, ◌∙◌, arith}
+use Rattle.std.proofs.Common.{◌≡◌, ◌⊎◌, ⊎_elim, inl, inr, ℕ, ◌+◌, ◌*◌, ◌<◌, ◌≤◌, ℤ, pos, ◌+ℤ◌, ◌-ℤ◌, ◌≤ℤ◌, ◌<ℤ◌, Bool, true, false, None, Some, List, [], ◌∷◌, ◌++◌, length, get_or, slice_index, All, refl, sym, ap, subst, ◌∙◌, arith}
 use Rattle.std.proofs.lemmas.Int.{ints}
 use Rattle.std.proofs.lemmas.Bool.{cases_lt}
 use Rattle.std.proofs.lemmas.List.Elements.{All-cons, All-get_or, All-nil, All-weaker}
@@ -19,7 +19,7 @@ use Rattle.serial_ab.proofs.ValueLemmas.{serial_end}
 use Rattle.matrix_game.specs.Budget.{Budget, left_of}
 use Rattle.matrix_game.specs.declared.solver.SolverKind.{SolverKind}
 use Rattle.matrix_game.specs.Solvers.{solver_of}
-use Rattle.bounds_board.specs.Views.{IsInnerKey}
+use Rattle.bounds_board.specs.Views.{IsInnerKey, known_bound}
 use Rattle.bounds_board.proofs.FullLemmas.{rows_too_few}
 use Rattle.serial_ab.specs.Counts.{VisitsView, left_on}
 use Rattle.oracle_search.specs.declared.ends.SearchEnd.{SearchEnd}
@@ -37,6 +37,10 @@ use Rattle.lazy_workers.specs.Solvers.{solver_kind}
 use Rattle.lazy_workers.specs.Workers.{Rows, KnowsEach, IsFinishedKey, AreOwedTo, IsDueTo, HaveFound}
 use Rattle.lazy_workers.specs.Keeping.{HasLimit}
 use Rattle.lazy_workers.specs.Searched.{IsFar, HasRoom, HasVisits, IsPureClose, TooFewTurns, IsSearched}
+
+-- bounds within a gap are no further apart
+too_near : (low high gap : ℤ) → high ≤ℤ (low +ℤ gap) → gap <ℤ (high -ℤ low) → ⊥
+too_near low high gap near far = absurd (omega (arith, ints))
 
 -- the turns of a search that ended so: 63 to a state with regret matching, a turn of each of three sweeps with linear stages
 abbrev pub AreTaken : {S G N : Type 0} → GameModel S → Ask → SearchEnd → WorkView G N → WorkView G N → Type 0
@@ -109,15 +113,15 @@ module _ {S : Type 0} (m : GameModel S) (game : IsGame m) where
     within = worked.turns.within (rw turns (omega arith))
 
     -- bounds further apart than was asked and than the resolution, and no full board
-    module _ (far : IsFar m ask (last.board.seen Two (m.key m.root) -ℤ last.board.seen One (m.key m.root))) where
+    module _ (far : IsFar m ask (known_bound m last.board Two m.root -ℤ known_bound m last.board One m.root)) where
       spent_by : (e : SearchEnd) → (e ≡ Full → ⊥) → Ends m m.root ask.gap last e → AreTaken m ask e start last
           → (last.turns.spent ≡ ask.turns) × TooFewTurns m ask × IsDueTo m ask last.board.seen has_row
       spent_by Reached not ends takes =
-          let asked = far.asked in let near : IsWithin last.board (m.key m.root) ask.gap = ends goes_on in absurd (omega (arith, ints))
+          let asked = far.asked in let near : IsWithin m last.board m.root ask.gap = ends goes_on in absurd (too_near _ _ _ near asked)
       spent_by Settled not ends takes =
           let stage : (stage : ℕ) × IsStageGap m ask.weight stage = least_exists m.width (payoff_range m) ask.weight game.width_low weight in
-          let near : IsWithin last.board (m.key m.root) (pos (rank_gap m stage.0 (m.rank m.root))) = ends.2 stage.0 (subst (λ (w : ℕ). IsStageGap m w stage.0) (sym total) stage.1) in
-          let beyond = far.resolution (rank_gap m stage.0 (m.rank m.root)) (record { gap = stage.0; is_gap = stage.1; sums = refl }) in absurd (omega (arith, ints))
+          let near : IsWithin m last.board m.root (pos (rank_gap m stage.0 (m.rank m.root))) = ends.2 stage.0 (subst (λ (w : ℕ). IsStageGap m w stage.0) (sym total) stage.1) in
+          let beyond = far.resolution (rank_gap m stage.0 (m.rank m.root)) (record { gap = stage.0; is_gap = stage.1; sums = refl }) in absurd (too_near _ _ _ near beyond)
       spent_by Spent not ends takes =
           let limit : last.turns.limit ≡ ask.turns = worked.turns.limit ∙ ap (λ (t : Budget). t.limit) turns in
           let inside = within in
@@ -138,8 +142,7 @@ module _ {S : Type 0} (m : GameModel S) (game : IsGame m) where
               named = record { state = f.state; reachable = f.reachable; goes_on = f.goes_on; is_key = f.is_key };
               row = f.row;
               has_row = f.held;
-              close = λ regret stage is. subst (λ (k : ℕ). IsWithin last.board k (pos (rank_gap m stage (m.rank f.state)))) f.is_key
-                  (f.close (so regret) stage (subst (λ (w : ℕ). IsStageGap m w stage) (sym total) is));
+              close = λ regret stage is. f.close (so regret) stage (subst (λ (w : ℕ). IsStageGap m w stage) (sym total) is);
             }
 
             owed : last.turns.spent ≡ ask.turns → AreTaken m ask Spent start last → last.settled.was_full ≡ false → AreOwedTo m ask last.board.seen has_row

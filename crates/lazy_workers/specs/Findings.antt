@@ -3,7 +3,7 @@ use Rattle.std.specs.Prelude.{◌≡◌, ℕ, ◌<◌, ◌≤◌, ℤ, pos, ◌-
 use Rattle.sim_game.specs.declared.Side.{Side}
 use Rattle.sim_game.specs.declared.Side.TheVariants.{One, Two}
 use Rattle.sim_game.specs.Model.{GameModel}
-use Rattle.sim_game.specs.Sides.{IsNoTighter}
+use Rattle.sim_game.specs.Sides.{IsNoTighter, better, state_bound}
 use Rattle.sim_game.specs.Resolution.{IsResolution}
 use Rattle.plan_book.specs.declared.Sheet.{Sheet}
 use Rattle.plan_book.specs.Expected.{Guarantees}
@@ -33,9 +33,9 @@ module _ {S : Type 0} (m : GameModel S) (ask : Ask) (x : Found) where
     pub alone : All (λ t. t.spent ≡ 0) x.turns → All (IsPureRow ask.weight) sheet.rows
     -- with a row for each state and a visit for each node of the tree, the bound is at least as tight as pure plans make it
     pub pure : HasRoom m ask → HasVisits m ask → IsNoTighter side (serial_bound m side m.root) bound
-    -- the rows are those of the board, and the bound is that of the root's row
+    -- the rows are those of the board, and the bound is that of the root's row, or of every value of the root where that is better
     pub kept : All (IsSheetRowKept side x.kept) sheet.rows
-    pub root : (row : Kept) → Contains x.kept row → row.key ≡ m.key m.root → bound ≡ kept_bound side row
+    pub root : (row : Kept) → Contains x.kept row → row.key ≡ m.key m.root → bound ≡ better side (kept_bound side row) (state_bound m side m.root)
 
   -- all turns are spent; they are too few for the game, and with a row left on the board they are owed to rows
   pub record AreSpent : Type 0 where

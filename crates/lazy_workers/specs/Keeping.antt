@@ -1,6 +1,7 @@
 -- The rows of the closed board, and the finished states among them.
 use Rattle.std.specs.Prelude.{◌≡◌, ℕ, ◌+◌, ◌*◌, ◌≤◌, ℤ, pos, ◌-ℤ◌, ◌*ℤ◌, ◌≤ℤ◌, List, [], length, All, Contains}
 use Rattle.sim_game.specs.Model.{GameModel, IsEnd}
+use Rattle.sim_game.specs.Sides.{better, state_bound}
 use Rattle.bounds_board.specs.Views.{IsInnerKey, IsEnclosure}
 use Rattle.matrix_game.specs.Budget.{Budget}
 use Rattle.shared_board.specs.declared.close.Kept.{Kept}
@@ -8,6 +9,7 @@ use Rattle.shared_board.specs.Closing.{IsDistinct, HasKey, kept_bound}
 use Rattle.plan_book.specs.declared.SheetRow.{SheetRow}
 use Rattle.plan_book.specs.Plans.{one_move}
 use Rattle.sim_game.specs.declared.Side.{Side}
+use Rattle.sim_game.specs.declared.Side.TheVariants.{One, Two}
 use Rattle.fields.specs.declared.ask.Ask.{Ask}
 use Rattle.fields.specs.declared.ask.StageMethod.TheVariants.{Regret}
 
@@ -32,11 +34,15 @@ module _ {S : Type 0} (m : GameModel S) where
     pub named : IsInnerKey m x.key
     pub bounds : IsEnclosure m x.lower x.upper named.state
 
-  -- besides, with regret matching, the bounds are no further apart than the resolution's share of the state's rank
+  -- how far the bounds of the row are apart, or those of every value of the state where they are better
+  abbrev pub known_gap : Kept → S → ℤ
+  known_gap x s = better Two x.upper (state_bound m Two s) -ℤ better One x.lower (state_bound m One s)
+
+  -- besides, with regret matching, they are no further apart than the resolution's share of the state's rank
   pub record IsFinishedRow (ask : Ask) (resolution : ℤ) (x : Kept) : Type 0 where
     pub named : IsInnerKey m x.key
     pub close : ask.stages ≡ Regret
-        → (pos (m.rank m.root) *ℤ (x.upper -ℤ x.lower)) ≤ℤ (pos (m.rank named.state) *ℤ resolution)
+        → (pos (m.rank m.root) *ℤ known_gap x named.state) ≤ℤ (pos (m.rank named.state) *ℤ resolution)
 
   -- the turns are owed to finished states among the rows, 63 to each, and to the states on the way to the root
   pub record AreOwed (ask : Ask) (resolution : ℤ) (kept : List Kept) : Type 0 where

@@ -3,7 +3,7 @@ use Rattle.std.specs.Prelude.{◌≡◌, ◌⊎◌, ℕ, ◌+◌, ◌*◌, ◌<�
 use Rattle.sim_game.specs.declared.Side.{Side}
 use Rattle.sim_game.specs.declared.Side.TheVariants.{One, Two}
 use Rattle.sim_game.specs.Model.{GameModel}
-use Rattle.sim_game.specs.Sides.{IsNoTighter}
+use Rattle.sim_game.specs.Sides.{IsNoTighter, better, state_bound}
 use Rattle.sim_game.specs.Resolution.{IsStageGap}
 use Rattle.matrix_game.specs.Budget.{Budget}
 use Rattle.bounds_board.specs.Views.{IsInnerKey}
@@ -50,14 +50,18 @@ abbrev pub KnowsEach : ℕ → Rows → Type 0
 KnowsEach rows known = (row : ℕ) → row < rows → (key : ℕ) × known row key
 
 -- ---- what a search leaves
+-- by the bounds that are seen at each key: the better of those at the state and what holds of every value of it
+abbrev pub known_of : {S : Type 0} → GameModel S → (Side → ℕ → ℤ) → S → Side → ℤ
+known_of m seen s side = better side (seen side (m.key s)) (state_bound m side s)
+
 module _ {S : Type 0} (m : GameModel S) (ask : Ask) where
-  -- the row of the key is known, and with regret matching the bounds seen are as close as the rank of its state allows
+  -- the row of the key is known, and with regret matching the bounds known are as close as the rank of its state allows
   pub record IsFinishedKey (seen : Side → ℕ → ℤ) (known : Rows) (key : ℕ) : Type 0 where
     pub named : IsInnerKey m key
     pub row : ℕ
     pub has_row : known row key
     pub close : ask.stages ≡ Regret → (stage : ℕ) → IsStageGap m ask.weight stage
-        → seen Two key ≤ℤ (seen One key +ℤ pos (rank_gap m stage (m.rank named.state)))
+        → known_of m seen named.state Two ≤ℤ (known_of m seen named.state One +ℤ pos (rank_gap m stage (m.rank named.state)))
 
   -- the turns of a worker are owed to states that it has finished, and to those on the way to the root
   pub record AreOwedTo (seen : Side → ℕ → ℤ) (known : Rows) : Type 0 where
@@ -73,7 +77,7 @@ module _ {S : Type 0} (m : GameModel S) (ask : Ask) where
   -- what workers have found, by the bounds that are seen at each key and by the rows that are known
   abbrev pub HaveFound : (Side → ℕ → ℤ) → Rows → Type 0 → List Budget → Type 0
   HaveFound seen known Met turns =
-      HasFound m ask (λ side. seen side (m.key m.root)) (KnowsEach ask.rows known) (IsDueTo seen known)
+      HasFound m ask (known_of m seen m.root) (KnowsEach ask.rows known) (IsDueTo seen known)
       ((row : ℕ) × known row (m.key m.root)) Met turns
 
   -- the same by what a pass shows

@@ -1,5 +1,5 @@
 -- What one part of a search after another leaves on the board.
-use Rattle.std.proofs.Common.{◌≡◌, ◌⊎◌, inl, inr, ⊎_elim, ℕ, Option, Some, None, IfSome, ℤ, pos, ◌-ℤ◌, ◌≤ℤ◌, ◌<ℤ◌, true, IsTrue, List, w64, SFits, to_z, of_z, refl, ap, subst, sym, ◌∙◌, arith}
+use Rattle.std.proofs.Common.{◌≡◌, ◌⊎◌, inl, inr, ⊎_elim, ℕ, Option, Some, None, IfSome, ℤ, pos, ◌+ℤ◌, ◌-ℤ◌, ◌≤ℤ◌, ◌<ℤ◌, true, IsTrue, List, w64, SFits, to_z, of_z, refl, ap, subst, sym, ◌∙◌, arith}
 use Rattle.std.specs.Int.Signed.{le_z, le_z_yes}
 use Rattle.std.proofs.lemmas.Int.{ints, to_z-of_z}
 use Rattle.std.proofs.lemmas.List.Elements.{All-weaker}
@@ -13,7 +13,8 @@ use Rattle.plan_book.specs.Books.{Grows}
 use Rattle.plan_book.specs.Serial.{serial_bound}
 use Rattle.plan_book.proofs.BackedLemmas.{backed_meet}
 use Rattle.plan_book.proofs.SerialLemmas.{serial_backed}
-use Rattle.bounds_board.specs.Views.{BoardView, IsLater, IsRead, IsEnclosure}
+use Rattle.bounds_board.specs.declared.bounds.Enclosure.{Enclosure}
+use Rattle.bounds_board.specs.Views.{BoardView, IsLater, IsEnclosure, known_bound, bound_in}
 use Rattle.bounds_board.proofs.PlainLemmas.{range_fits}
 use Rattle.bounds_board.proofs.ViewLemmas.{later_refl, later_trans}
 use Rattle.serial_ab.specs.Counts.{VisitsView}
@@ -22,7 +23,7 @@ use Rattle.serial_ab.specs.Ends.{IsValue}
 use Rattle.serial_ab.specs.declared.windowed.SerialEnd.{SerialEnd}
 use Rattle.serial_ab.specs.declared.windowed.SerialEnd.TheVariants.{Exact, AtLeast, AtMost, Cut}
 use Rattle.serial_ab.proofs.KeptLemmas.{grows_none, grows_after}
-use Rattle.serial_ab.proofs.ValueLemmas.{serial_low, serial_high}
+use Rattle.serial_ab.proofs.ValueLemmas.{serial_from, serial_to}
 use Rattle.oracle_search.specs.Finished.{IsWithin}
 use Rattle.oracle_search.specs.Searches.{IsBetter, IsPureTight, IsAhead, number_in, IsFoundBelow, IsFoundAbove}
 
@@ -50,30 +51,33 @@ better_serial m side most u v x y kept = record {
   posted = grows_weaker (IsPureEntry m u.total) (IsLawfulEntry m u.total) u.entries v.entries (λ e p. p.lawful) kept.posted;
 }
 
-module _ {S G N : Type 0} (m : GameModel S) (game : IsGame m) (s : S) (v : BoardView G N) (lower upper : ℤ) (both : IsEnclosure m lower upper s) where
-  -- numbers read that are one word
-  pub met_read : IsRead v lower upper (m.key s) → of_z w64 lower ≡ of_z w64 upper → v.seen One (m.key s) ≡ v.seen Two (m.key s)
-  met_read read met =
-      let same : lower ≡ upper = sym (to_z-of_z w64 lower (range_fits m game lower both.lower_low both.lower_high)) ∙ ap (to_z w64) met
-      ∙ to_z-of_z w64 upper (range_fits m game upper both.upper_low both.upper_high) in
-      sym read.lower_seen ∙ same ∙ read.upper_seen
+-- ---- what is known of a state
+module _ {S G N : Type 0} (m : GameModel S) (game : IsGame m) (s : S) (v : BoardView G N) (e : Enclosure) (both : IsEnclosure m e.lower e.upper s)
+    (known : (side : Side) → bound_in side e ≡ known_bound m v side s) where
+  -- bounds that are one word
+  pub met_known : of_z w64 e.lower ≡ of_z w64 e.upper → known_bound m v One s ≡ known_bound m v Two s
+  met_known met =
+      let same : e.lower ≡ e.upper = sym (to_z-of_z w64 e.lower (range_fits m game e.lower both.lower_low both.lower_high)) ∙ ap (to_z w64) met
+      ∙ to_z-of_z w64 e.upper (range_fits m game e.upper both.upper_low both.upper_high) in
+      sym (known One) ∙ same ∙ known Two
 
-  pub enclosure_read : IsRead v lower upper (m.key s) → IsEnclosure m (v.seen One (m.key s)) (v.seen Two (m.key s)) s
-  enclosure_read read = subst (λ (x : ℤ). IsEnclosure m x (v.seen Two (m.key s)) s) read.lower_seen (subst (λ (x : ℤ). IsEnclosure m lower x s) read.upper_seen both)
+  pub enclosure_known : IsEnclosure m (known_bound m v One s) (known_bound m v Two s) s
+  enclosure_known = subst (λ (x : ℤ). IsEnclosure m x (known_bound m v Two s) s) (known One) (subst (λ (x : ℤ). IsEnclosure m e.lower x s) (known Two) both)
 
-  -- the difference of the numbers read
-  pub gap_read : IsRead v lower upper (m.key s) → to_z w64 (of_z w64 (to_z w64 (of_z w64 upper) -ℤ to_z w64 (of_z w64 lower))) ≡ v.seen Two (m.key s) -ℤ v.seen One (m.key s)
-  gap_read read =
+  -- the difference of the bounds
+  pub gap_known : to_z w64 (of_z w64 (to_z w64 (of_z w64 e.upper) -ℤ to_z w64 (of_z w64 e.lower))) ≡ known_bound m v Two s -ℤ known_bound m v One s
+  gap_known =
       let a = game.low_least in let b = game.high_most in
-      let c = both.lower_low in let d = both.lower_high in let e = both.upper_low in let f = both.upper_high in
-      let fits : SFits w64 (upper -ℤ lower) = omega (arith, ints) in
+      let c = both.lower_low in let d = both.lower_high in let f = both.upper_low in let h = both.upper_high in
+      let fits : SFits w64 (e.upper -ℤ e.lower) = omega (arith, ints) in
+      let one : e.lower ≡ known_bound m v One s = known One in
+      let two : e.upper ≡ known_bound m v Two s = known Two in
       rw (
-        to_z-of_z w64 lower (range_fits m game lower both.lower_low both.lower_high),
-        to_z-of_z w64 upper
-            (range_fits m game upper both.upper_low both.upper_high),
-        to_z-of_z w64 (upper -ℤ lower) fits,
-        read.upper_seen,
-        read.lower_seen,
+        to_z-of_z w64 e.lower (range_fits m game e.lower both.lower_low both.lower_high),
+        to_z-of_z w64 e.upper (range_fits m game e.upper both.upper_low both.upper_high),
+        to_z-of_z w64 (e.upper -ℤ e.lower) fits,
+        two,
+        one,
       ) refl
 
 -- numbers of one word are one number
@@ -83,35 +87,43 @@ enclosure_met m game s lower upper both met =
 
 -- where both bounds are one number, each is as tight as pure plans can make it
 pub serial_met : {S G N : Type 0} (m : GameModel S) (game : IsGame m) (s : S) (v : BoardView G N) → Reachable m s
-    → IsEnclosure m (v.seen One (m.key s)) (v.seen Two (m.key s)) s → v.seen One (m.key s) ≡ v.seen Two (m.key s) → IsPureTight m s v
+    → IsEnclosure m (known_bound m v One s) (known_bound m v Two s) s → known_bound m v One s ≡ known_bound m v Two s → IsPureTight m s v
 serial_met m game s v r both same One =
-    subst (λ (x : ℤ). serial_bound m One s ≤ℤ x) (sym same) (backed_meet m game s (serial_bound m One s) (v.seen Two (m.key s)) r (serial_backed m game One s r) both.upper_backed)
+    subst (λ (x : ℤ). serial_bound m One s ≤ℤ x) (sym same) (backed_meet m game s (serial_bound m One s) (known_bound m v Two s) r (serial_backed m game One s r) both.upper_backed)
 serial_met m game s v r both same Two =
-    subst (λ (x : ℤ). x ≤ℤ serial_bound m Two s) same (backed_meet m game s (v.seen One (m.key s)) (serial_bound m Two s) r both.lower_backed (serial_backed m game Two s r))
+    subst (λ (x : ℤ). x ≤ℤ serial_bound m Two s) same (backed_meet m game s (known_bound m v One s) (serial_bound m Two s) r both.lower_backed (serial_backed m game Two s r))
 
 -- a gap read as none
-pub gap_closed : {S G N : Type 0} (m : GameModel S) (game : IsGame m) (s : S) (v : BoardView G N) (gap : ℤ) → IsEnclosure m (v.seen One (m.key s)) (v.seen Two (m.key s)) s
-    → gap ≡ v.seen Two (m.key s) -ℤ v.seen One (m.key s) → of_z w64 gap ≡ 0 → v.seen One (m.key s) ≡ v.seen Two (m.key s)
-gap_closed m game s v gap both is none =
-    let a = game.low_least in let b = game.high_most in
-    let c = both.lower_low in let d = both.lower_high in let e = both.upper_low in let f = both.upper_high in
-    let fits : SFits w64 gap = rw is (omega (arith, ints)) in
-    let zero : gap ≡ pos 0 = sym (to_z-of_z w64 gap fits) ∙ ap (to_z w64) none in
-    omega (arith, ints)
+pub gap_closed : {S G N : Type 0} (m : GameModel S) (game : IsGame m) (s : S) (v : BoardView G N) (gap : ℤ) → IsEnclosure m (known_bound m v One s) (known_bound m v Two s) s
+    → gap ≡ known_bound m v Two s -ℤ known_bound m v One s → of_z w64 gap ≡ 0 → known_bound m v One s ≡ known_bound m v Two s
+gap_closed m game s v gap both is none = closed (known_bound m v One s) (known_bound m v Two s) both is where
+  closed : (low high : ℤ) → IsEnclosure m low high s → gap ≡ high -ℤ low → low ≡ high
+  closed low high both is =
+      let a = game.low_least in let b = game.high_most in
+      let c = both.lower_low in let d = both.lower_high in let e = both.upper_low in let f = both.upper_high in
+      let fits : SFits w64 gap = rw is (omega (arith, ints)) in
+      let zero : gap ≡ pos 0 = sym (to_z-of_z w64 gap fits) ∙ ap (to_z w64) none in
+      omega (arith, ints)
+
+-- bounds that meet are within each target
+pub within_met : (low high target : ℤ) → low ≡ high → pos 0 ≤ℤ target → high ≤ℤ (low +ℤ target)
+within_met low high target met some = omega (arith, ints)
 
 -- a gap read as at most none
-pub gap_within : {S G N : Type 0} (m : GameModel S) (game : IsGame m) (s : S) (v : BoardView G N) (gap goal : ℤ) → IsEnclosure m (v.seen One (m.key s)) (v.seen Two (m.key s)) s
-    → gap ≡ v.seen Two (m.key s) -ℤ v.seen One (m.key s) → SFits w64 goal → IsTrue (le_z (to_z w64 (of_z w64 gap)) (to_z w64 (of_z w64 goal))) → IsWithin v (m.key s) goal
-gap_within m game s v gap goal both is small enough =
-    let a = game.low_least in let b = game.high_most in
-    let c = both.lower_low in let d = both.lower_high in let e = both.upper_low in let f = both.upper_high in
-    let fits : SFits w64 gap = rw is (omega (arith, ints)) in
-    let test : le_z gap goal ≡ true = sym (ap (λ (x : ℤ). le_z x goal) (to_z-of_z w64 gap fits)) ∙ sym (ap (le_z (to_z w64 (of_z w64 gap))) (to_z-of_z w64 goal small)) ∙ enough in
-    let low : gap ≤ℤ goal = le_z_yes {a = gap} {b = goal} (rw test tt) in
-    omega (arith, ints)
+pub gap_within : {S G N : Type 0} (m : GameModel S) (game : IsGame m) (s : S) (v : BoardView G N) (gap goal : ℤ) → IsEnclosure m (known_bound m v One s) (known_bound m v Two s) s
+    → gap ≡ known_bound m v Two s -ℤ known_bound m v One s → SFits w64 goal → IsTrue (le_z (to_z w64 (of_z w64 gap)) (to_z w64 (of_z w64 goal))) → IsWithin m v s goal
+gap_within m game s v gap goal both is small enough = within (known_bound m v One s) (known_bound m v Two s) both is where
+  within : (low high : ℤ) → IsEnclosure m low high s → gap ≡ high -ℤ low → high ≤ℤ (low +ℤ goal)
+  within low high both is =
+      let a = game.low_least in let b = game.high_most in
+      let c = both.lower_low in let d = both.lower_high in let e = both.upper_low in let f = both.upper_high in
+      let fits : SFits w64 gap = rw is (omega (arith, ints)) in
+      let test : le_z gap goal ≡ true = sym (ap (λ (x : ℤ). le_z x goal) (to_z-of_z w64 gap fits)) ∙ sym (ap (le_z (to_z w64 (of_z w64 gap))) (to_z-of_z w64 goal small)) ∙ enough in
+      let low : gap ≤ℤ goal = le_z_yes {a = gap} {b = goal} (rw test tt) in
+      omega (arith, ints)
 
-pub serial_closed : {S G N : Type 0} (m : GameModel S) (game : IsGame m) (s : S) (v : BoardView G N) (gap : ℤ) → Reachable m s → IsEnclosure m (v.seen One (m.key s)) (v.seen Two (m.key s)) s
-    → gap ≡ v.seen Two (m.key s) -ℤ v.seen One (m.key s) → of_z w64 gap ≡ 0 → IsPureTight m s v
+pub serial_closed : {S G N : Type 0} (m : GameModel S) (game : IsGame m) (s : S) (v : BoardView G N) (gap : ℤ) → Reachable m s → IsEnclosure m (known_bound m v One s) (known_bound m v Two s) s
+    → gap ≡ known_bound m v Two s -ℤ known_bound m v One s → of_z w64 gap ≡ 0 → IsPureTight m s v
 serial_closed m game s v gap r both is none = serial_met m game s v r both (gap_closed m game s v gap both is none)
 
 -- ---- the numbers that serial searches found
@@ -124,17 +136,17 @@ found_above None bound x is above = absurd above
 found_above (Some n) bound x is above = subst (λ (k : ℤ). bound <ℤ k) is above
 
 -- bounds that are tighter than a number found are tighter than pure plans make them
-pub ahead_read : {S G N : Type 0} (m : GameModel S) (s : S) (v : BoardView G N) (lower upper : ℤ) (one two : Option ℤ) → IsRead v lower upper (m.key s)
-    → IfSome one (λ n. n ≡ serial_bound m One s) → IfSome two (λ n. n ≡ serial_bound m Two s) → IsFoundBelow one lower ⊎ IsFoundAbove two upper → IsAhead m s v
-ahead_read m s v lower upper one two read is_one is_two found = ⊎_elim
-    (λ (a : IsFoundBelow one lower). inl (subst (λ (x : ℤ). serial_bound m One s <ℤ x) read.lower_seen (found_below one lower (serial_bound m One s) is_one a)))
-    (λ (b : IsFoundAbove two upper). inr (subst (λ (x : ℤ). x <ℤ serial_bound m Two s) read.upper_seen (found_above two upper (serial_bound m Two s) is_two b)))
+pub ahead_known : {S G N : Type 0} (m : GameModel S) (s : S) (v : BoardView G N) (e : Enclosure) (one two : Option ℤ) → ((side : Side) → bound_in side e ≡ known_bound m v side s)
+    → IfSome one (λ n. n ≡ serial_bound m One s) → IfSome two (λ n. n ≡ serial_bound m Two s) → IsFoundBelow one e.lower ⊎ IsFoundAbove two e.upper → IsAhead m s v
+ahead_known m s v e one two known is_one is_two found = ⊎_elim
+    (λ (a : IsFoundBelow one e.lower). inl (subst (λ (x : ℤ). serial_bound m One s <ℤ x) (known One) (found_below one e.lower (serial_bound m One s) is_one a)))
+    (λ (b : IsFoundAbove two e.upper). inr (subst (λ (x : ℤ). x <ℤ serial_bound m Two s) (known Two) (found_above two e.upper (serial_bound m Two s) is_two b)))
     found
 
 -- over the whole range of payoffs each number is the serial bound
 serial_range : {S : Type 0} (m : GameModel S) (game : IsGame m) (side : Side) (s : S) → Reachable m s → (opening_bound m One ≤ℤ serial_bound m side s) × (serial_bound m side s ≤ℤ opening_bound m Two)
-serial_range m game One s r = (serial_low m game One s r, serial_high m game One s r)
-serial_range m game Two s r = (serial_high m game Two s r, serial_low m game Two s r)
+serial_range m game One s r = (serial_from m game One s r, serial_to m game One s r)
+serial_range m game Two s r = (serial_to m game Two s r, serial_from m game Two s r)
 
 pub found_number : {S : Type 0} (m : GameModel S) (game : IsGame m) (side : Side) (s : S) → Reachable m s → (end : SerialEnd)
     → IsValue (opening_bound m One) (opening_bound m Two) (serial_bound m side s) end

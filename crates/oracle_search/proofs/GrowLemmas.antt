@@ -1,5 +1,5 @@
 -- Searches of states, and restricted games that grow.
-use Rattle.std.proofs.Common.{◌≡◌, ◌↔◌, inl, inr, ⊎_elim, ℕ, ◌+◌, ◌-◌, ◌*◌, ◌<◌, ◌≤◌, ℤ, pos, true, false, cond, Some, None, Contains, refl, sym, ap, subst, ◌∙◌, arith}
+use Rattle.std.proofs.Common.{◌≡◌, ◌↔◌, inl, inr, ⊎_elim, ℕ, ◌+◌, ◌-◌, ◌*◌, ◌<◌, ◌≤◌, ℤ, pos, ◌+ℤ◌, ◌≤ℤ◌, true, false, cond, Some, None, Contains, refl, sym, ap, subst, ◌∙◌, arith}
 use Rattle.std.proofs.lemmas.Int.{ints}
 use Rattle.std.proofs.Math.Nat.{mul-le-mul_right}
 use Rattle.sim_game.specs.declared.Side.TheVariants.{One, Two}
@@ -9,7 +9,7 @@ use Rattle.matrix_game.specs.declared.solver.StageSolver.{StageSolver}
 use Rattle.matrix_game.specs.declared.solver.StageSolver.TheVariants as solvers
 use Rattle.matrix_game.specs.Budget.{left_of}
 use Rattle.matrix_game.specs.Solvers.{UsesRegret}
-use Rattle.bounds_board.specs.Views.{BoardView, IsLater, IsFull}
+use Rattle.bounds_board.specs.Views.{BoardView, IsLater, IsFull, known_bound}
 use Rattle.restricted_game.specs.declared.held.StepEnd.{StepEnd}
 use Rattle.restricted_game.specs.declared.held.StepEnd.TheVariants.{Grown, Done}
 use Rattle.restricted_game.specs.Children.{KeptRows, AreChildRows}
@@ -98,18 +98,18 @@ stop_kept m s v board w stops.Spent later is = is
 stop_kept m s v board w stops.Full later is = (is.0, full_kept m s later is.1)
 
 -- a search that stopped did not settle its state
-pub stopped_unsettled : {G N : Type 0} (v : BoardView G N) (key : ℕ) (target : ℤ) (stop : Stop) (end : SearchEnd) → IsStoppedAs v key target stop end → end ≡ Settled → ⊥
-stopped_unsettled v key target stop end stopped is = subst (IsStoppedAs v key target stop) is stopped
+pub stopped_unsettled : {S G N : Type 0} (m : GameModel S) (v : BoardView G N) (s : S) (target : ℤ) (stop : Stop) (end : SearchEnd) → IsStoppedAs m v s target stop end → end ≡ Settled → ⊥
+stopped_unsettled m v s target stop end stopped is = subst (IsStoppedAs m v s target stop) is stopped
 
 module _ {S G N : Type 0} (m : GameModel S) (s : S) (goes_on : 1 ≤ m.rank s) where
-  pub stopped_ends : (w : WorkView G N) (target : ℤ) (stop : Stop) (end : SearchEnd) → IsStop m s w stop → IsStoppedAs w.board (m.key s) target stop end → Ends m s target w end
+  pub stopped_ends : (w : WorkView G N) (target : ℤ) (stop : Stop) (end : SearchEnd) → IsStop m s w stop → IsStoppedAs m w.board s target stop end → Ends m s target w end
   stopped_ends w target stop Reached why is = λ _. is
   stopped_ends w target stop Settled why is = absurd is
   stopped_ends w target stop Spent why is = (goes_on, is.0, subst (λ (x : Stop). IsStop m s w x) is.1 why)
   stopped_ends w target stop Full why is = let full : IsStop m s w stops.Full = subst (λ (x : Stop). IsStop m s w x) is.1 why in (full.0, full.1, λ row below held. is.0)
 
   stopped_taken : (u w : WorkView G N) (target : ℤ) (stop : Stop) (end : SearchEnd) → IsStop m s w stop
-      → IsStoppedAs w.board (m.key s) target stop end → TakesAtMost (m.rank s) (m.rank s) u.worker w.worker → HasTaken m s end u w
+      → IsStoppedAs m w.board s target stop end → TakesAtMost (m.rank s) (m.rank s) u.worker w.worker → HasTaken m s end u w
   stopped_taken u w target stops.Spent Reached why is taken = record {
     unless_full = λ not. inr (
       why,
@@ -122,7 +122,7 @@ module _ {S G N : Type 0} (m : GameModel S) (s : S) (goes_on : 1 ≤ m.rank s) w
   stopped_taken u w target stop Full why is taken = taken
 
   pub stopped_ended : (u w : WorkView G N) (target : ℤ) (stop : Stop) (end : SearchEnd) → IsStop m s w stop
-      → IsStoppedAs w.board (m.key s) target stop end → TakesAtMost (m.rank s) (m.rank s) u.worker w.worker → HasEnded m s target u w end
+      → IsStoppedAs m w.board s target stop end → TakesAtMost (m.rank s) (m.rank s) u.worker w.worker → HasEnded m s target u w end
   stopped_ended u w target stop end why is taken = record { ends = stopped_ends w target stop end why is; turns = stopped_taken u w target stop end why is taken }
 
   -- ---- how a search ends before its first turn
@@ -132,9 +132,9 @@ module _ {S G N : Type 0} (m : GameModel S) (s : S) (goes_on : 1 ≤ m.rank s) w
   early_ends w target Spent early = absurd early
   early_ends w target Full early = absurd early
 
-  pub early_reached : (v : BoardView G N) (target : ℤ) (end : SearchEnd) → IsWithin v (m.key s) target → IsEarlyEnd m v s target (Some end) → end ≡ Reached
+  pub early_reached : (v : BoardView G N) (target : ℤ) (end : SearchEnd) → IsWithin m v s target → IsEarlyEnd m v s target (Some end) → end ≡ Reached
   early_reached v target Reached within early = refl
-  early_reached v target Settled within early = absurd (within_not_beyond v (m.key s) target within early.0)
+  early_reached v target Settled within early = absurd (within_not_beyond m v s target within early.0)
   early_reached v target Spent within early = absurd early
   early_reached v target Full within early = absurd early
 
@@ -218,9 +218,11 @@ close_after m s goes_on game r v w held lower upper same rows cols done step sta
           let turn : IsTurn m s (record { one = one; two = two; draw = draw }) = record { one_below = rows one in_rows; two_below = cols two in_cols; draw_below = l } in
           let falls : m.rank child < m.rank s = game.rank_falls s (record { one = one; two = two; draw = draw }) r turn in
           let less : m.rank child * each ≤ (m.rank s - 1) * each = let low : m.rank child ≤ m.rank s - 1 = omega arith in mul-le-mul_right each low in
-          let within : IsWithin v (m.key child) (pos (rank_gap m stage (m.rank child))) = done one two in_rows in_cols draw l inner stage stage_of in
-          omega (arith, ints);
+          let within : IsWithin m v child (pos (rank_gap m stage (m.rank child))) = done one two in_rows in_cols draw l inner stage stage_of in
+          wider (known_bound m v One child) (known_bound m v Two child) _ _ within less;
     } in
-    let after = (step gap stage close stage_of).seen in
     let sum : (m.rank s - 1) * each + each ≡ m.rank s * each = one_rank (m.rank s) each goes_on in
-    omega (arith, ints)
+    wider (known_bound m w One s) (known_bound m w Two s) _ _ (step gap stage close stage_of).known (omega arith)
+  where
+    wider : (low high : ℤ) (part all : ℕ) → high ≤ℤ (low +ℤ pos part) → part ≤ all → high ≤ℤ (low +ℤ pos all)
+    wider low high part all near less = omega (arith, ints)

@@ -1,5 +1,5 @@
 -- The keys of finished states, and what stays done.
-use Rattle.std.proofs.Common.{◌≡◌, ⊎_elim, ℕ, ◌+◌, ◌-◌, ◌<◌, ◌≤◌, ℤ, pos, ◌≤ℤ◌, Bool, true, false, List, [], ◌∷◌, ◌++◌, length, get_or, Some, Contains, refl, sym, ap, subst, ◌∙◌, append_assoc, append-nil, arith}
+use Rattle.std.proofs.Common.{◌≡◌, ⊎_elim, ℕ, ◌+◌, ◌-◌, ◌<◌, ◌≤◌, ℤ, pos, ◌+ℤ◌, ◌≤ℤ◌, Bool, true, false, List, [], ◌∷◌, ◌++◌, length, get_or, Some, Contains, refl, sym, ap, subst, ◌∙◌, append_assoc, append-nil, arith}
 use Rattle.std.proofs.lemmas.Bool.{cases_lt}
 use Rattle.std.proofs.lemmas.Int.{ints}
 use Rattle.std.proofs.lemmas.List.{length-append, get_or_append_left, get_or-append_right}
@@ -7,22 +7,26 @@ use Rattle.std.proofs.lemmas.List.Elements.{All-append, All-contains, All-nil, A
 use Rattle.sim_game.specs.declared.Side.TheVariants.{One, Two}
 use Rattle.sim_game.specs.Model.{GameModel, IsGame, Reachable}
 use Rattle.sim_game.specs.Resolution.{IsStageGap}
-use Rattle.bounds_board.specs.Views.{BoardView, IsLater}
+use Rattle.bounds_board.specs.Views.{BoardView, IsLater, known_bound}
+use Rattle.bounds_board.proofs.KnownLemmas.{known_later}
 use Rattle.bounds_board.proofs.ViewLemmas.{later_refl}
 use Rattle.oracle_search.specs.Finished.{IsWithin, IsClose, IsFinished, AreFinished, AreApart, AreAdded, rank_gap}
 use Rattle.oracle_search.specs.Searches.{IsDone, AreDone}
 
 -- ---- numbers only come closer
-pub within_later : {G N : Type 0} (v w : BoardView G N) (key : ℕ) (gap : ℤ) → IsLater v w → IsWithin v key gap → IsWithin w key gap
-within_later v w key gap later near =
-    let low : v.seen One key ≤ℤ w.seen One key = later.seen One key in
-    let high : w.seen Two key ≤ℤ v.seen Two key = later.seen Two key in
-    omega (arith, ints)
+pub within_later : {S G N : Type 0} (m : GameModel S) (v w : BoardView G N) (s : S) (gap : ℤ) → IsLater v w → IsWithin m v s gap → IsWithin m w s gap
+within_later m v w s gap later near =
+    let low : known_bound m v One s ≤ℤ known_bound m w One s = known_later m v w One s later in
+    let high : known_bound m w Two s ≤ℤ known_bound m v Two s = known_later m v w Two s later in
+    between _ _ _ _ low high near
+  where
+    between : (a b c d : ℤ) → a ≤ℤ b → d ≤ℤ c → c ≤ℤ (a +ℤ gap) → d ≤ℤ (b +ℤ gap)
+    between a b c d low high near = omega (arith, ints)
 
 module _ {S G N : Type 0} (m : GameModel S) (s : S) {v w : BoardView G N} (later : IsLater v w) where
   pub close_later : IsClose m v s → IsClose m w s
   close_later close stage is =
-      within_later v w (m.key s) (pos (rank_gap m stage (m.rank s))) later (close stage (subst (λ (total : ℕ). IsStageGap m total stage) later.total is))
+      within_later m v w s (pos (rank_gap m stage (m.rank s))) later (close stage (subst (λ (total : ℕ). IsStageGap m total stage) later.total is))
 
   pub done_later : IsDone m v s → IsDone m w s
   done_later done goes_on = close_later (done goes_on)
@@ -31,8 +35,10 @@ pub are_done_later : {S G N : Type 0} (m : GameModel S) (s : S) (one two : ℕ) 
 are_done_later m s one two later done draw l = done_later m (m.drawn s one two draw) later (done draw l)
 
 -- bounds that meet are done
-pub done_within : {S G N : Type 0} (m : GameModel S) (s : S) (v : BoardView G N) → IsWithin v (m.key s) (pos 0) → IsDone m v s
-done_within m s v within goes_on stage is = omega (arith, ints)
+pub done_within : {S G N : Type 0} (m : GameModel S) (s : S) (v : BoardView G N) → IsWithin m v s (pos 0) → IsDone m v s
+done_within m s v within goes_on stage is = wider (known_bound m v One s) (known_bound m v Two s) (rank_gap m stage (m.rank s)) within where
+  wider : (low high : ℤ) (gap : ℕ) → high ≤ℤ (low +ℤ pos 0) → high ≤ℤ (low +ℤ pos gap)
+  wider low high gap near = omega (arith, ints)
 
 -- ---- keys
 key_later : {S G N : Type 0} {m : GameModel S} {old new : Bool} {a b key : ℕ} {v w : BoardView G N} → (new ≡ true → old ≡ true) → a ≤ b → IsLater v w

@@ -1,5 +1,5 @@
 -- Sweeps, one part after another.
-use Rattle.std.proofs.Common.{◌≡◌, ⊎_elim, ℕ, ◌+◌, ◌*◌, ◌<◌, ◌≤◌, ℤ, pos, ◌≤ℤ◌, Bool, true, false, List, [], ◌∷◌, ◌++◌, length, Some, None, Option, Contains, refl, sym, ap, subst, ◌∙◌, arith}
+use Rattle.std.proofs.Common.{◌≡◌, ⊎_elim, ℕ, ◌+◌, ◌*◌, ◌<◌, ◌≤◌, ℤ, pos, ◌+ℤ◌, ◌≤ℤ◌, ◌<ℤ◌, Bool, true, false, List, [], ◌∷◌, ◌++◌, length, Some, None, Option, Contains, refl, sym, ap, subst, ◌∙◌, arith}
 use Rattle.std.specs.List.{range_with_len}
 use Rattle.std.proofs.lemmas.Int.{ints}
 use Rattle.std.proofs.lemmas.Bool.{cases_lt}
@@ -9,6 +9,7 @@ use Rattle.std.proofs.lemmas.List.Elements.{All-contains}
 use Rattle.sim_game.specs.declared.Side.TheVariants.{One, Two}
 use Rattle.sim_game.specs.Model.{GameModel, IsGame, Reachable}
 use Rattle.bounds_board.specs.Views.{BoardView, IsLater}
+use Rattle.bounds_board.proofs.KnownLemmas.{known_later}
 use Rattle.bounds_board.proofs.ViewLemmas.{later_refl}
 use Rattle.restricted_game.specs.Children.{KeptRows, AreChildRows}
 use Rattle.restricted_game.specs.declared.held.StepEnd.{StepEnd}
@@ -147,11 +148,10 @@ close_full m game s goes_on r v w held (Done lower upper) same full done all gap
       is_col two has = is_move (m.moves Two s) (game.other_moves Two s r goes_on) two (subst (λ (l : List ℕ). Contains l two) full.cols has)
 
 -- bounds that meet are within each target
-pub met_not_beyond : {G N : Type 0} (v w : BoardView G N) (key : ℕ) (target : ℤ) → pos 0 ≤ℤ target → IsLater v w → IsWithin v key (pos 0) → IsBeyond w key target → ⊥
-met_not_beyond v w key target some later near far =
-    let low : v.seen One key ≤ℤ w.seen One key = later.seen One key in
-    let high : w.seen Two key ≤ℤ v.seen Two key = later.seen Two key in
-    absurd (omega (arith, ints))
+pub met_not_beyond : {S G N : Type 0} (m : GameModel S) (v w : BoardView G N) (s : S) (target : ℤ) → pos 0 ≤ℤ target → IsLater v w → IsWithin m v s (pos 0) → IsBeyond m w s target → ⊥
+met_not_beyond m v w s target some later near far = not_both _ _ _ _ (known_later m v w One s later) (known_later m v w Two s later) near far where
+  not_both : (a b c d : ℤ) → a ≤ℤ b → d ≤ℤ c → c ≤ℤ (a +ℤ pos 0) → (b +ℤ target) <ℤ d → ⊥
+  not_both a b c d low high near far = absurd (omega (arith, ints))
 
 -- ---- the turns of whole sweeps
 module _ {S G N : Type 0} {m : GameModel S} {rank : ℕ} where

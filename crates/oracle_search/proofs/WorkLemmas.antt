@@ -1,5 +1,5 @@
 -- What one part of a search after another keeps.
-use Rattle.std.proofs.Common.{◌≡◌, ◌⊎◌, inl, inr, ⊎_elim, ℕ, ◌+◌, ◌*◌, ◌/◌, ◌≤◌, ◌<◌, ℤ, pos, ◌-ℤ◌, ◌≤ℤ◌, ◌<ℤ◌, cond, true, false, Option, Some, List, [], Contains, refl, sym, ap, subst, ◌∙◌, arith}
+use Rattle.std.proofs.Common.{◌≡◌, ◌⊎◌, inl, inr, ⊎_elim, ℕ, ◌+◌, ◌*◌, ◌/◌, ◌≤◌, ◌<◌, ℤ, pos, ◌+ℤ◌, ◌-ℤ◌, ◌≤ℤ◌, ◌<ℤ◌, cond, true, false, Option, Some, List, [], Contains, refl, sym, ap, subst, ◌∙◌, arith}
 use Rattle.std.specs.Int.{div_ceil}
 use Rattle.std.proofs.Math.Nat.{mul-le-mul_left, mul-div_cancel_left}
 use Rattle.std.proofs.lemmas.Bool.{cases_lt}
@@ -15,8 +15,9 @@ use Rattle.plan_book.specs.Books.{Grows}
 use Rattle.plan_book.specs.Entries.{IsLawfulEntry}
 use Rattle.plan_book.specs.Serial.{serial_bound}
 use Rattle.matrix_game.specs.Budget.{Budget, left_of, after_one_turn}
-use Rattle.bounds_board.specs.Views.{BoardView, IsLater, IsFull}
+use Rattle.bounds_board.specs.Views.{BoardView, IsLater, IsFull, known_bound}
 use Rattle.bounds_board.proofs.FullLemmas.{full_later, full_weaker}
+use Rattle.bounds_board.proofs.KnownLemmas.{known_later}
 use Rattle.bounds_board.proofs.ViewLemmas.{later_refl}
 use Rattle.serial_ab.specs.Counts.{VisitsView, HasCounted, Counts, spent_on}
 use Rattle.serial_ab.specs.Searches.{IsSerialKept, IsPureEntry}
@@ -296,33 +297,37 @@ module _ {S G N : Type 0} {m : GameModel S} {s child : S} (after : IsAfter m s c
 -- ---- how far bounds are apart
 module _ {S G N : Type 0} (m : GameModel S) (s : S) where
   pub pure_later : {v w : BoardView G N} → IsLater v w → IsPureTight m s v → IsPureTight m s w
-  pure_later {v} {w} later pure side = looser_trans side (serial_bound m side s) (v.seen side (m.key s)) (w.seen side (m.key s)) (pure side) (later.seen side (m.key s))
+  pure_later {v} {w} later pure side = looser_trans side _ _ _ (pure side) (known_later m v w side s later)
 
   pub ahead_later : {v w : BoardView G N} → IsLater v w → IsAhead m s v → IsAhead m s w
-  ahead_later {v} {w} later ahead =
-      let low : v.seen One (m.key s) ≤ℤ w.seen One (m.key s) = later.seen One (m.key s) in
-      let high : w.seen Two (m.key s) ≤ℤ v.seen Two (m.key s) = later.seen Two (m.key s) in
-      ⊎_elim
-      (λ (a : serial_bound m One s <ℤ v.seen One (m.key s)). inl (omega (arith, ints)))
-      (λ (b : v.seen Two (m.key s) <ℤ serial_bound m Two s). inr (omega (arith, ints))) ahead
+  ahead_later {v} {w} later ahead = ⊎_elim
+      (λ (a : serial_bound m One s <ℤ known_bound m v One s). inl (tighter_than_later _ _ _ a (known_later m v w One s later)))
+      (λ (b : known_bound m v Two s <ℤ serial_bound m Two s). inr (later_than_tighter _ _ _ (known_later m v w Two s later) b)) ahead
+    where
+      tighter_than_later : (x y z : ℤ) → x <ℤ y → y ≤ℤ z → x <ℤ z
+      tighter_than_later x y z p q = omega (arith, ints)
+
+      later_than_tighter : (x y z : ℤ) → x ≤ℤ y → y <ℤ z → x <ℤ z
+      later_than_tighter x y z p q = omega (arith, ints)
 
   -- bounds as tight as pure plans make them are within each target that pure plans reach
-  pub pure_within : (v : BoardView G N) (target : ℤ) → IsPureTight m s v → IsPureWithin m s target → IsWithin v (m.key s) target
-  pure_within v target pure near =
-      let low : serial_bound m One s ≤ℤ v.seen One (m.key s) = pure One in
-      let high : v.seen Two (m.key s) ≤ℤ serial_bound m Two s = pure Two in
-      omega (arith, ints)
+  pub pure_within : (v : BoardView G N) (target : ℤ) → IsPureTight m s v → IsPureWithin m s target → IsWithin m v s target
+  pure_within v target pure near = between _ _ _ _ (pure One) (pure Two) near where
+    between : (a b c d : ℤ) → a ≤ℤ b → d ≤ℤ c → c ≤ℤ (a +ℤ target) → d ≤ℤ (b +ℤ target)
+    between a b c d low high near = omega (arith, ints)
 
-pub within_not_beyond : {G N : Type 0} (v : BoardView G N) (key : ℕ) (gap : ℤ) → IsWithin v key gap → IsBeyond v key gap → ⊥
-within_not_beyond v key gap near far = absurd (omega (arith, ints))
+pub within_not_beyond : {S G N : Type 0} (m : GameModel S) (v : BoardView G N) (s : S) (gap : ℤ) → IsWithin m v s gap → IsBeyond m v s gap → ⊥
+within_not_beyond m v s gap near far = not_both (known_bound m v One s +ℤ gap) (known_bound m v Two s) near far where
+  not_both : (x y : ℤ) → y ≤ℤ x → x <ℤ y → ⊥
+  not_both x y p q = absurd (omega (arith, ints))
 
 -- ---- pure plans
 module _ {S G N : Type 0} {m : GameModel S} {s : S} {target : ℤ} {u v : WorkView G N} {end : SearchEnd} where
   -- where bounds as tight as pure plans make them are beyond the target
-  pub pure_beyond : (w : BoardView G N) → IsLater w v.board → IsBeyond w (m.key s) target → (HasVisitsBelow m s u.visits → IsPureTight m s w) → BoundsByPure m s target u v end
+  pub pure_beyond : (w : BoardView G N) → IsLater w v.board → IsBeyond m w s target → (HasVisitsBelow m s u.visits → IsPureTight m s w) → BoundsByPure m s target u v end
   pure_beyond w later far tight = record {
     tight = λ visits not goes_on. pure_later m s later (tight visits);
-    at_once = λ visits not near. absurd (within_not_beyond w (m.key s) target (pure_within m s w target (tight visits) near) far);
+    at_once = λ visits not near. absurd (within_not_beyond m w s target (pure_within m s w target (tight visits) near) far);
   }
 
   pub pure_full : v.settled.was_full ≡ true → BoundsByPure m s target u v end
@@ -348,14 +353,21 @@ left_below m total stage s gap is near other there =
 
 -- bounds within a gap at which a state is left are as close as its rank allows
 pub close_below : {S G N : Type 0} (m : GameModel S) (total : ℕ) (v : BoardView G N) (s : S) (gap : ℤ) → v.total ≡ total → IsLeftBelow m total s gap
-    → IsWithin v (m.key s) gap → IsClose m v s
+    → IsWithin m v s gap → IsClose m v s
 close_below m total v s gap same left near stage is =
     let most = left stage (subst (λ (n : ℕ). IsStageGap m n stage) same is) in
     let each = stage + 1 + cond m.chance_free 0 1 in
     let part : div_ceil each 32 ≤ each = let rounded = (div_ceil_times each 32 (omega arith)).1 in omega arith in
     let less : m.rank s * div_ceil each 32 ≤ m.rank s * each = mul-le-mul_left (m.rank s) part in
-    omega (arith, ints)
+    wider (known_bound m v One s) (known_bound m v Two s) (m.rank s * div_ceil each 32) (m.rank s * each) near most less
+  where
+    wider : (low high : ℤ) (part all : ℕ) → high ≤ℤ (low +ℤ gap) → gap ≤ℤ pos part → part ≤ all → high ≤ℤ (low +ℤ pos all)
+    wider low high part all near most less = omega (arith, ints)
 
 pub close_left : {S G N : Type 0} (m : GameModel S) (total stage : ℕ) (v : BoardView G N) (s : S) (gap : ℤ) → v.total ≡ total → IsStageGap m total stage
-    → gap ≡ v.seen Two (m.key s) -ℤ v.seen One (m.key s) → gap ≤ℤ pos (left_gap m stage (m.rank s)) → IsClose m v s
-close_left m total stage v s gap same is is_gap near = close_below m total v s gap same (left_below m total stage s gap is near) (omega (arith, ints))
+    → gap ≡ known_bound m v Two s -ℤ known_bound m v One s → gap ≤ℤ pos (left_gap m stage (m.rank s)) → IsClose m v s
+close_left m total stage v s gap same is is_gap near =
+    close_below m total v s gap same (left_below m total stage s gap is near) (within (known_bound m v One s) (known_bound m v Two s) is_gap)
+  where
+    within : (low high : ℤ) → gap ≡ high -ℤ low → high ≤ℤ (low +ℤ gap)
+    within low high e = omega (arith, ints)

@@ -4,20 +4,20 @@ use Rattle.std.specs.Int.{div_ceil}
 use Rattle.sim_game.specs.declared.Side.TheVariants.{One, Two}
 use Rattle.sim_game.specs.Model.{GameModel, Reachable}
 use Rattle.sim_game.specs.Resolution.{IsStageGap}
-use Rattle.bounds_board.specs.Views.{BoardView}
+use Rattle.bounds_board.specs.Views.{BoardView, known_bound}
 
 -- the keys in order of addition, and whether some claim found the board full
 pub record FinishedView : Type 0 where
   pub keys : List ℕ
   pub was_full : Bool
 
--- the bounds seen at the key are at most so far apart
-abbrev pub IsWithin : {G N : Type 0} → BoardView G N → ℕ → ℤ → Type 0
-IsWithin v key gap = v.seen Two key ≤ℤ (v.seen One key +ℤ gap)
+-- the bounds known of the state are at most so far apart
+abbrev pub IsWithin : {S G N : Type 0} → GameModel S → BoardView G N → S → ℤ → Type 0
+IsWithin m v s gap = known_bound m v Two s ≤ℤ (known_bound m v One s +ℤ gap)
 
 -- they are further apart
-abbrev pub IsBeyond : {G N : Type 0} → BoardView G N → ℕ → ℤ → Type 0
-IsBeyond v key gap = (v.seen One key +ℤ gap) <ℤ v.seen Two key
+abbrev pub IsBeyond : {S G N : Type 0} → GameModel S → BoardView G N → S → ℤ → Type 0
+IsBeyond m v s gap = (known_bound m v One s +ℤ gap) <ℤ known_bound m v Two s
 
 -- the gap of a state of this rank that the stages of its turns reach: a stage's gap and the roundings, for each rank
 abbrev pub rank_gap : {S : Type 0} → GameModel S → ℕ → ℕ → ℕ
@@ -31,9 +31,9 @@ left_gap m stage rank = rank * div_ceil (stage + 1 + cond m.chance_free 0 1) 32
 abbrev pub IsLeftBelow : {S : Type 0} → GameModel S → ℕ → S → ℤ → Type 0
 IsLeftBelow m total s gap = (stage : ℕ) → IsStageGap m total stage → gap ≤ℤ pos (left_gap m stage (m.rank s))
 
--- the bounds seen at the state are as close as its rank allows
+-- the bounds known of the state are as close as its rank allows
 abbrev pub IsClose : {S G N : Type 0} → GameModel S → BoardView G N → S → Type 0
-IsClose m v s = (stage : ℕ) → IsStageGap m v.total stage → IsWithin v (m.key s) (pos (rank_gap m stage (m.rank s)))
+IsClose m v s = (stage : ℕ) → IsStageGap m v.total stage → IsWithin m v s (pos (rank_gap m stage (m.rank s)))
 
 -- the key is that of a reachable state that is no end, of a rank below the limit, which has a row, and whose bounds, where so asked, are as close as its rank allows
 pub record IsFinished {S G N : Type 0} (m : GameModel S) (is_close : Bool) (v : BoardView G N) (limit key : ℕ) : Type 0 where

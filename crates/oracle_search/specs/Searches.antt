@@ -8,7 +8,7 @@ use Rattle.plan_book.specs.Entries.{IsLawfulEntry}
 use Rattle.plan_book.specs.Books.{Grows}
 use Rattle.plan_book.specs.Serial.{serial_bound, tree_size}
 use Rattle.matrix_game.specs.Budget.{Budget, left_of, after_one_turn}
-use Rattle.bounds_board.specs.Views.{BoardView, IsLater, WasFull}
+use Rattle.bounds_board.specs.Views.{BoardView, IsLater, WasFull, known_bound}
 use Rattle.serial_ab.specs.Counts.{VisitsView, HasCounted, left_on}
 use Rattle.serial_ab.specs.Searches.{IsPureEntry}
 use Rattle.serial_ab.specs.Transpositions.{AreRemembered}
@@ -80,11 +80,11 @@ IsWorked m s old new = IsWorkedBelow m s (m.rank s) old new
 
 -- how a search of a state with a target may end; an end of the game has no gap
 abbrev pub Ends : {S G N : Type 0} → GameModel S → S → ℤ → WorkView G N → SearchEnd → Type 0
-Ends m s target v Reached = 1 ≤ m.rank s → IsWithin v.board (m.key s) target
-Ends m s target v Settled = (1 ≤ m.rank s) × IsBeyond v.board (m.key s) target × IsClose m v.board s
-Ends m s target v Spent = (1 ≤ m.rank s) × IsBeyond v.board (m.key s) target × (left_of v.turns ≡ 0)
+Ends m s target v Reached = 1 ≤ m.rank s → IsWithin m v.board s target
+Ends m s target v Settled = (1 ≤ m.rank s) × IsBeyond m v.board s target × IsClose m v.board s
+Ends m s target v Spent = (1 ≤ m.rank s) × IsBeyond m v.board s target × (left_of v.turns ≡ 0)
 Ends m s target v Full = (v.settled.was_full ≡ true) × IsBoardFull m s v.board
-    × ((row : ℕ) → row < v.board.rows → v.board.key_at row ≡ Some (m.key s) → IsBeyond v.board (m.key s) target)
+    × ((row : ℕ) → row < v.board.rows → v.board.key_at row ≡ Some (m.key s) → IsBeyond m v.board s target)
 
 -- at most 63 turns for each of so many states, besides those that were finished
 abbrev pub TakesTurns : ℕ → WorkerView → WorkerView → Type 0
@@ -115,9 +115,9 @@ pub record HasEnded {S G N : Type 0} (m : GameModel S) (s : S) (target : ℤ) (o
 abbrev pub HasVisitsBelow : {S : Type 0} → GameModel S → S → VisitsView → Type 0
 HasVisitsBelow m s visits = (side : Side) → tree_size m s ≤ left_on side visits
 
--- the bounds seen at the state are as tight as pure plans can make them
+-- the bounds known of the state are as tight as pure plans can make them
 abbrev pub IsPureTight : {S G N : Type 0} → GameModel S → S → BoardView G N → Type 0
-IsPureTight m s v = (side : Side) → IsNoTighter side (serial_bound m side s) (v.seen side (m.key s))
+IsPureTight m s v = (side : Side) → IsNoTighter side (serial_bound m side s) (known_bound m v side s)
 
 -- pure plans alone bring the bounds as close as the target
 abbrev pub IsPureWithin : {S : Type 0} → GameModel S → S → ℤ → Type 0
@@ -129,9 +129,9 @@ pub record BoundsByPure {S G N : Type 0} (m : GameModel S) (s : S) (target : ℤ
   pub at_once : HasVisitsBelow m s old.visits → new.settled.was_full ≡ false → IsPureWithin m s target → (end ≡ Reached) × (new.turns ≡ old.turns)
 
 -- ---- states that are left to other workers
--- the bounds seen at the state are tighter than pure plans can make them
+-- the bounds known of the state are tighter than pure plans can make them
 abbrev pub IsAhead : {S G N : Type 0} → GameModel S → S → BoardView G N → Type 0
-IsAhead m s v = (serial_bound m One s <ℤ v.seen One (m.key s)) ⊎ (v.seen Two (m.key s) <ℤ serial_bound m Two s)
+IsAhead m s v = (serial_bound m One s <ℤ known_bound m v One s) ⊎ (known_bound m v Two s <ℤ serial_bound m Two s)
 
 -- what a state is left for: this is allowed, a turn is left, no claim was full, and another worker has made the bounds tighter than pure plans can
 pub record IsLeavable {S G N : Type 0} (m : GameModel S) (s : S) (may_leave : Bool) (old new : WorkView G N) : Type 0 where
@@ -176,18 +176,18 @@ abbrev pub HasSearched : {S G N : Type 0} → GameModel S → S → ℕ → Type
 HasSearched m s rank Known old new None = Known × TakesAtMost 0 rank old new.worker
 HasSearched m s rank Known old new (Some stop) = IsStop m s new stop × TakesAtMost rank rank old new.worker
 
--- how a search ends that stopped: it is reached all the same where the bounds seen are within the target
-abbrev pub IsStoppedAs : {G N : Type 0} → BoardView G N → ℕ → ℤ → Stop → SearchEnd → Type 0
-IsStoppedAs v key target stop Reached = IsWithin v key target
-IsStoppedAs v key target stop Settled = ⊥
-IsStoppedAs v key target stop Spent = IsBeyond v key target × (stop ≡ stops.Spent)
-IsStoppedAs v key target stop Full = IsBeyond v key target × (stop ≡ stops.Full)
+-- how a search ends that stopped: it is reached all the same where the bounds known are within the target
+abbrev pub IsStoppedAs : {S G N : Type 0} → GameModel S → BoardView G N → S → ℤ → Stop → SearchEnd → Type 0
+IsStoppedAs m v s target stop Reached = IsWithin m v s target
+IsStoppedAs m v s target stop Settled = ⊥
+IsStoppedAs m v s target stop Spent = IsBeyond m v s target × (stop ≡ stops.Spent)
+IsStoppedAs m v s target stop Full = IsBeyond m v s target × (stop ≡ stops.Full)
 
--- how the search of a state may end before its first turn: the bounds seen are within the target, or as close as its rank allows
+-- how the search of a state may end before its first turn: the bounds known are within the target, or as close as its rank allows
 abbrev pub IsEarlyEnd : {S G N : Type 0} → GameModel S → BoardView G N → S → ℤ → Option SearchEnd → Type 0
-IsEarlyEnd m v s target None = IsBeyond v (m.key s) target
-IsEarlyEnd m v s target (Some Reached) = IsWithin v (m.key s) target
-IsEarlyEnd m v s target (Some Settled) = IsBeyond v (m.key s) target × IsClose m v s
+IsEarlyEnd m v s target None = IsBeyond m v s target
+IsEarlyEnd m v s target (Some Reached) = IsWithin m v s target
+IsEarlyEnd m v s target (Some Settled) = IsBeyond m v s target × IsClose m v s
 IsEarlyEnd m v s target (Some Spent) = ⊥
 IsEarlyEnd m v s target (Some Full) = ⊥
 

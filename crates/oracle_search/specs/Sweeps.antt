@@ -51,7 +51,7 @@ pub record EndsBySweeps {S G N : Type 0} (m : GameModel S) (s : S) (target : ℤ
 
 -- what a sweep leaves to the next: the gap is above the target, and as close as the rank allows after the last sweep
 pub record LeavesToNext {S G N : Type 0} (m : GameModel S) (s : S) (target : ℤ) (is_last : Bool) (old new : WorkView G N) : Type 0 where
-  pub beyond : IsBeyond new.board (m.key s) target
+  pub beyond : IsBeyond m new.board s target
   pub close : is_last ≡ true → IsClose m new.board s
   pub owed : new.settled.was_full ≡ false → TakesSweeps m 1 new.board (m.rank s) old.turns.spent new.turns.spent
   pub turned : is_last ≡ true → old.turns.spent + 1 ≤ new.turns.spent

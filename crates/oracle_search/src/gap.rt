@@ -4,14 +4,14 @@ ghost use Rattle.std.specs.Prelude.{◌≡◌, ◌≤◌, ◌-ℤ◌, ◌≤ℤ�
 ghost use Rattle.sim_game.specs.declared.Side.TheVariants.{One, Two};
 ghost use Rattle.sim_game.specs.Model.{Reachable};
 ghost use Rattle.sim_game.specs.Resolution.{IsStageGap};
-ghost use Rattle.bounds_board.specs.Views.{IsLater, IsEnclosure};
+ghost use Rattle.bounds_board.specs.Views.{IsLater, IsEnclosure, known_bound};
 ghost use Rattle.oracle_search.specs.Finished.{IsWithin, IsBeyond, IsLeftBelow, left_gap};
 ghost use Rattle.oracle_search.specs.Searches.{IsStoppedAs, IsEarlyEnd};
 
 use crate::ends::{SearchEnd, Stop};
 use crate::gate::Gate;
 use crate::worker::Setup;
-use bounds_board::{Bounds, Enclosure, Row};
+use bounds_board::{Bounds, Enclosure, Row, known_bounds};
 use sim_game::{Game, SCALE, resolution};
 
 /// How far the bounds at the state are apart, read anew.
@@ -22,11 +22,11 @@ pub(crate) fn gap_at<G: Game, B: Bounds<G>>(g: G, s: G::State, row: Row, board: 
     ensures later { IsLater (B.view board.old) (B.view board.new) }
     ensures entries { (B.view board.new).entries ≡ (B.view board.old).entries }
     ensures gap { result ≡
-        (B.view board.new).seen Two ((G.model g).key s) -ℤ (B.view board.new).seen One ((G.model g).key s) }
+        known_bound (G.model g) (B.view board.new) Two s -ℤ known_bound (G.model g) (B.view board.new) One s }
     ensures enclosed { IsEnclosure (G.model g)
-        ((B.view board.new).seen One ((G.model g).key s)) ((B.view board.new).seen Two ((G.model g).key s)) s }
+        (known_bound (G.model g) (B.view board.new) One s) (known_bound (G.model g) (B.view board.new) Two s) s }
 {
-    let enclosure = board.read(row);
+    let enclosure = known_bounds(g, s, row, board);
     enclosure.upper - enclosure.lower
 }
 
@@ -42,10 +42,10 @@ pub(crate) fn told_gap<G: Game, B: Bounds<G>, T: Gate>(
     requires row { (B.view board.old).key_at row ≡ Some ((G.model setup.now.game).key s) }
     ensures later { IsLater (B.view board.old) (B.view board.new) }
     ensures entries { (B.view board.new).entries ≡ (B.view board.old).entries }
-    ensures gap { result ≡ (B.view board.new).seen Two ((G.model setup.now.game).key s)
-        -ℤ (B.view board.new).seen One ((G.model setup.now.game).key s) }
+    ensures gap { result ≡ known_bound (G.model setup.now.game) (B.view board.new) Two s
+        -ℤ known_bound (G.model setup.now.game) (B.view board.new) One s }
 {
-    let enclosure = board.read(row);
+    let enclosure = known_bounds(setup.game, s, row, board);
     tell_bounds(setup, s, enclosure);
     enclosure.upper - enclosure.lower
 }
@@ -76,8 +76,8 @@ pub(crate) fn is_within_told<G: Game, B: Bounds<G>, T: Gate>(
     requires row { (B.view board.old).key_at row ≡ Some ((G.model setup.now.game).key s) }
     ensures later { IsLater (B.view board.old) (B.view board.new) }
     ensures entries { (B.view board.new).entries ≡ (B.view board.old).entries }
-    ensures within { MatchBool result (IsWithin (B.view board.new) ((G.model setup.now.game).key s) target)
-        (IsBeyond (B.view board.new) ((G.model setup.now.game).key s) target) }
+    ensures within { MatchBool result (IsWithin (G.model setup.now.game) (B.view board.new) s target)
+        (IsBeyond (G.model setup.now.game) (B.view board.new) s target) }
 {
     told_gap(setup, s, row, board) <= target
 }
@@ -95,8 +95,8 @@ pub(crate) fn is_within<G: Game, B: Bounds<G>>(
     requires row { (B.view board.old).key_at row ≡ Some ((G.model g).key s) }
     ensures later { IsLater (B.view board.old) (B.view board.new) }
     ensures entries { (B.view board.new).entries ≡ (B.view board.old).entries }
-    ensures within { MatchBool result (IsWithin (B.view board.new) ((G.model g).key s) target)
-        (IsBeyond (B.view board.new) ((G.model g).key s) target) }
+    ensures within { MatchBool result (IsWithin (G.model g) (B.view board.new) s target)
+        (IsBeyond (G.model g) (B.view board.new) s target) }
 {
     gap_at(g, s, row, board) <= target
 }
@@ -178,7 +178,7 @@ pub(crate) fn stopped<G: Game, B: Bounds<G>>(
     requires target { pos 0 ≤ℤ target }
     ensures later { IsLater (B.view board.old) (B.view board.new) }
     ensures entries { (B.view board.new).entries ≡ (B.view board.old).entries }
-    ensures end { IsStoppedAs (B.view board.new) ((G.model g).key s) target stop result }
+    ensures end { IsStoppedAs (G.model g) (B.view board.new) s target stop result }
 {
     if is_within(g, s, row, target, board) {
         return SearchEnd::Reached;

@@ -4,6 +4,7 @@ ghost use Rattle.std.specs.Prelude.{◌≡◌, ◌⊎◌, ◌≤◌, ◌<ℤ◌,
 ghost use Rattle.sim_game.specs.Sides.{other_side, IsNoTighter, opening_bound};
 ghost use Rattle.sim_game.specs.declared.Side.{Side};
 ghost use Rattle.plan_book.specs.Serial.{serial_bound, tree_size};
+ghost use Rattle.bounds_board.specs.Views.{known_bound};
 ghost use Rattle.serial_ab.specs.Counts.{left_on};
 ghost use Rattle.oracle_search.specs.Workers.{at_work};
 ghost use Rattle.oracle_search.specs.Searches.{IsAtRow, HasVisitsBelow, IsPureTight, IsWorked, IsBoardFull};
@@ -11,7 +12,7 @@ ghost use Rattle.oracle_search.specs.Searches.{IsAhead, number_in, IsFoundBelow,
 
 use crate::gate::Gate;
 use crate::worker::{Setup, Worker};
-use bounds_board::{BoardFault, Bounds, Enclosure, Row};
+use bounds_board::{BoardFault, Bounds, Enclosure, Row, known_bounds};
 use serial_ab::{SerialEnd, serial_with};
 use sim_game::{Game, Side, opening_bound};
 
@@ -36,7 +37,7 @@ fn bound_side<G: Game, B: Bounds<G>, T: Gate>(
     ensures found { IfOk result (λ n. IfSome n (λ x. x ≡ serial_bound (G.model setup.now.game) side s)) }
     ensures tight { tree_size (G.model setup.now.game) s ≤ left_on side worker.old.visits
         → IfOk result (λ _. IsNoTighter side (serial_bound (G.model setup.now.game) side s)
-        ((B.view board.new).seen side ((G.model setup.now.game).key s))) }
+        (known_bound (G.model setup.now.game) (B.view board.new) side s)) }
 {
     let g = setup.game;
     let range = (opening_bound(g, Side::One), opening_bound(g, Side::Two));
@@ -91,12 +92,15 @@ pub(crate) fn bound_state<G: Game, B: Bounds<G>, T: Gate>(
 {
     match bound_side(setup, s, row, Side::One, worker, board) {
         Ok(lower) => {
-            let enclosure = board.read(row);
+            let enclosure = known_bounds(setup.game, s, row, board);
             if enclosure.lower == enclosure.upper {
                 return Ok(false);
             }
             match bound_side(setup, s, row, Side::Two, worker, board) {
-                Ok(upper) => Ok(is_ahead(board.read(row), lower, upper)),
+                Ok(upper) => {
+                    let last = known_bounds(setup.game, s, row, board);
+                    Ok(is_ahead(last, lower, upper))
+                }
                 Err(fault) => Err(fault),
             }
         }

@@ -41,7 +41,7 @@ pub(crate) fn sweep_state<G: Game, B: Bounds<G>, T: Gate>(
         worker.old (at_work (B.view board.new) worker.new)) }
     ensures turned { result ≡ Ok None → sweep.now.is_last ≡ true
         → (worker.old.turns.spent + 1 ≤ worker.new.turns.spent)
-        ⊎ IsWithin (B.view board.new) ((G.model setup.now.game).key s) (pos 0) }
+        ⊎ IsWithin (G.model setup.now.game) (B.view board.new) s (pos 0) }
 {
     let mut children = match worker.child_rows(setup.game, s) {
         Ok(children) => children,
@@ -92,7 +92,7 @@ fn close_in<G: Game, B: Bounds<G>, T: Gate>(
         worker.old (at_work (B.view board.new) worker.new)) }
     ensures turned { result ≡ Ok None → sweep.now.is_last ≡ true
         → (worker.old.turns.spent + 1 ≤ worker.new.turns.spent)
-        ⊎ IsWithin (B.view board.new) ((G.model setup.now.game).key node.state) (pos 0) }
+        ⊎ IsWithin (G.model setup.now.game) (B.view board.new) node.state (pos 0) }
 {
     let g = setup.game;
     let s = node.state;

@@ -206,8 +206,12 @@ module _ (g : Setting) (p : IsPosition g) where
     moves_high = λ side s r. few_moves side s (oshi_zumo_sound s r);
     rank_high = λ s r. rank_high s (oshi_zumo_sound s r);
     rank_falls = λ s t r turn. rank_falls s t turn;
+    least_low = λ s r. omega (arith, ints);
+    most_high = λ s r. omega (arith, ints);
     payoff_low = λ s r h. (sign_small s.place).0;
     payoff_high = λ s r h. (sign_small s.place).1;
+    reward_low = λ s t r turn. omega (arith, ints);
+    reward_high = λ s t r turn. omega (arith, ints);
     same_key = λ s t r r' e. let here = coins_in_bits s r in let there = coins_in_bits t r' in same_oshi_zumo_state s t (omega (arith, ints)) (omega (arith, ints)) (omega (arith, ints));
     key_high = λ s r. let here = oshi_zumo_sound s r in omega (arith, ints);
     draws_low = λ s a b r h h'. omega arith;

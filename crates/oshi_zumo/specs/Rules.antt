@@ -60,6 +60,9 @@ oshi_zumo_game g = record {
   chance = λ s one two draw. whole_chance;
   drawn = λ s one two draw. after_push s (slice_index (bids g One s) one) (slice_index (bids g Two s) two);
   payoff = λ s. int_signum s.place;
+  reward = λ s one two draw. pos 0;
+  least = λ s. neg_ℤ (pos 1);
+  most = λ s. pos 1;
   rank = oshi_zumo_rank g;
   key = oshi_zumo_key;
   label = λ side s i. slice_index (bids g side s) i;
@@ -84,6 +87,8 @@ pub record KeepsRules (g : Setting) : Type 0 where
   -- an end is where the wrestler is off, or where neither side has the least bid
   pub ends : (s : State) → IsEnd (oshi_zumo_game g) s ↔ ((g.size < unsigned_abs s.place) ⊎ ((s.one < g.least) × (s.two < g.least)))
   pub payoff : (s : State) → (oshi_zumo_game g).payoff s ≡ int_signum s.place
+  -- all is paid at the end
+  pub reward : (s : State) (one two draw : ℕ) → (oshi_zumo_game g).reward s one two draw ≡ pos 0
   pub rank : (s : State) → (oshi_zumo_game g).rank s ≡ oshi_zumo_rank g s
   pub key : (s : State) → (oshi_zumo_game g).key s ≡ oshi_zumo_key s
   pub low : (oshi_zumo_game g).low ≡ neg_ℤ (pos 1)

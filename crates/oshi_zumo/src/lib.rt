@@ -194,6 +194,21 @@ impl Game for OshiZumo {
     }
 
     #[inline]
+    fn reward(&self, _s: State, _a: u32, _b: u32, _d: u32) -> i32 {
+        0
+    }
+
+    #[inline]
+    fn least(&self, _s: State) -> i32 {
+        -1
+    }
+
+    #[inline]
+    fn most(&self, _s: State) -> i32 {
+        1
+    }
+
+    #[inline]
     fn rank(&self, s: State) -> u32 {
         if self.setting.is_off(s) {
             0

@@ -1,5 +1,5 @@
 -- The best entries of a book are a lawful sheet.
-use Rattle.std.proofs.Common.{◌≡◌, ℕ, ◌<◌, ◌≤◌, Bool, true, false, cond, ◌&&◌, eqb, ℤ, Option, None, Some, option_map, Result, Ok, Err, List, [], ◌∷◌, ◌++◌, fold, get_or, slice_index_or, refl, sym, ap, subst, ◌∙◌, arith}
+use Rattle.std.proofs.Common.{◌≡◌, ℕ, ◌<◌, ◌≤◌, Bool, true, false, cond, ◌&&◌, eqb, ℤ, ◌-ℤ◌, Option, None, Some, option_map, Result, Ok, Err, List, [], ◌∷◌, ◌++◌, fold, get_or, slice_index_or, refl, sym, ap, subst, ◌∙◌, arith}
 use Rattle.std.specs.Prelude.{IsSomeAnd, IfOk}
 use Rattle.std.specs.List.{All, AllByRecursion}
 use Rattle.std.proofs.lemmas.Bool.{eqb-true}
@@ -13,12 +13,12 @@ use Rattle.plan_book.specs.declared.SheetRow.{SheetRow}
 use Rattle.plan_book.specs.Books.{same_side, beats, better_entry, best_entry, row_of, best_row, best_posted, book_bound, IsBooked, IsClosed, IsBestSheet}
 use Rattle.plan_book.specs.Entries.{IsEntry}
 use Rattle.plan_book.specs.Sheets.{row_at, bound_or, IsKeptTurn, IsKeptHistory, IsReached, IsLawfulRow, IsLawful}
-use Rattle.sim_game.specs.Sides.{other_side, IsNoTighter, end_bound, own_move, turn_of, draws_of, child_of}
+use Rattle.sim_game.specs.Sides.{other_side, IsNoTighter, better, state_bound, end_bound, own_move, turn_of, draws_of, child_of, turn_reward, after_reward}
 use Rattle.plan_book.specs.Steps.{IsStep}
 use Rattle.plan_book.proofs.SheetLemmas.{reached_reachable}
-use Rattle.sim_game.proofs.SideLemmas.{looser_right, side_turn}
+use Rattle.sim_game.proofs.SideLemmas.{looser_right, looser_more, better_is, better_other, opening_state, side_turn}
 use Rattle.plan_book.proofs.StepLemmas.{step_mono}
-use Rattle.plan_book.proofs.BookLemmas.{same_side_true, and_left, and_right, IsRanged, bound_kept, best_kept, entry_range}
+use Rattle.plan_book.proofs.BookLemmas.{same_side_true, and_left, and_right, IsRanged, bound_kept, best_kept, entry_in_state, entry_range}
 use Rattle.plan_book.proofs.ExpectedLemmas.{is_other}
 
 -- ---- reached states
@@ -101,7 +101,7 @@ pub book_row : {S : Type 0} (m : GameModel S) → IsGame m → (total : ℕ) (Kn
 book_row {S} m game total Known entries each side s r = go (best_entry side entries (m.key s)) refl
   where
     ranged : AllByRecursion (IsRanged m side) entries
-    ranged = recursion_from_All (IsRanged m side) entries (All-weaker (IsEntry m total Known) (IsRanged m side) (λ e entry is_side. entry_range m total Known side e entry) entries each)
+    ranged = recursion_from_All (IsRanged m side) entries (All-weaker (IsEntry m total Known) (IsRanged m side) (λ e entry is_side. entry_range m game total Known side e entry) entries each)
 
     best : (o : Option Entry) → best_entry side entries (m.key s) ≡ o → best_posted m entries side (m.key s) ≡ bound_kept m side o
     best o e = sym (best_kept m side (m.key s) entries ranged) ∙ ap (bound_kept m side) e
@@ -110,13 +110,18 @@ book_row {S} m game total Known entries each side s r = go (best_entry side entr
     here o e = ap (λ (x : Option Entry). bound_or m side s (option_map row_of x)) e
 
     go : (o : Option Entry) → best_entry side entries (m.key s) ≡ o → book_bound m entries side s ≡ bound_or m side s (best_row side entries (m.key s))
-    go None e = ap (λ (x : ℤ). cond (eqb (m.rank s) 0) (end_bound m s) x) (best None e) ∙ sym (here None e)
+    go None e =
+        ap (λ (x : ℤ). cond (eqb (m.rank s) 0) (end_bound m s) x)
+        (ap (λ (x : ℤ). better side x (state_bound m side s)) (best None e) ∙ better_other side _ (state_bound m side s) (opening_state m side s game r))
+        ∙ sym (here None e)
     go (Some e) is =
         let it = best_found (IsEntry m total Known) side entries (m.key s) e (recursion_from_All (IsEntry m total Known) entries each) is in
         let same : it.holds.state ≡ s = game.same_key it.holds.state s it.holds.reachable r (it.holds.is_key ∙ it.is_key) in
         let goes_on : 1 ≤ m.rank s = subst (λ (x : S). 1 ≤ m.rank x) same it.holds.step.goes_on in
-        ap (λ (b : Bool). cond b (end_bound m s) (best_posted m entries side (m.key s))) (is_other (m.rank s) 0 (λ z. absurd (omega arith)))
-        ∙ best (Some e) is ∙ sym (here (Some e) is)
+        let range : IsNoTighter side (state_bound m side s) e.bound =
+        subst (λ (x : S). IsNoTighter side (state_bound m side x) e.bound) same (entry_in_state m total Known side e it.holds) in
+        ap (λ (b : Bool). cond b (end_bound m s) (better side (best_posted m entries side (m.key s)) (state_bound m side s))) (is_other (m.rank s) 0 (λ z. absurd (omega arith)))
+        ∙ ap (λ (x : ℤ). better side x (state_bound m side s)) (best (Some e) is) ∙ better_is side e.bound (state_bound m side s) range ∙ sym (here (Some e) is)
 
 -- ---- the best sheet
 own_move_is : (side : Side) (own reply draw : ℕ) → own_move side (turn_of side own reply draw) ≡ own
@@ -132,12 +137,14 @@ module _ {S : Type 0} (m : GameModel S) (game : IsGame m) (entries : List Entry)
       let same : entry.state ≡ s = game.same_key entry.state s entry.reachable r (entry.is_key ∙ sym key_is) in
       let step : IsStep m e.side s total e.weights entry.numbers e.bound = subst (λ (x : S). IsStep m e.side x total e.weights entry.numbers e.bound) same entry.step in
       let row : best_row e.side entries (m.key s) ≡ Some (row_of e) = rw key_is row_is in
+      let in_range : (of : Side) → IsNoTighter of (state_bound m of s) e.bound = λ of.
+      subst (λ (x : S). IsNoTighter of (state_bound m of x) e.bound) same (entry_in_state m total (IsBooked m entries) of e entry) in
       record {
         state = s;
         is_key = key_is;
         reached = reached_too m e.side (best_row e.side entries) (row_at rows) best.kept s reached;
-        low = entry.low;
-        high = entry.high;
+        low = in_range One;
+        high = in_range Two;
         step = step_mono m e.side s total e.weights _ _ e.bound step (λ own reply d p q u w.
             let turn : IsKeptTurn m e.side (best_row e.side entries) s (turn_of e.side own reply d) = record {
               turn = side_turn m e.side s own reply d p q u;
@@ -147,11 +154,13 @@ module _ {S : Type 0} (m : GameModel S) (game : IsGame m) (entries : List Entry)
             let next = reached_turn m e.side (best_row e.side entries) s (turn_of e.side own reply d) reached turn in
             let kept : bound_or m e.side child (best_row e.side entries (m.key child)) ≡ bound_or m e.side child (row_at rows (m.key child)) =
             ap (bound_or m e.side child) (sym (best.kept child next)) in
-            let booked : IsNoTighter e.side (entry.numbers own reply d) (book_bound m entries e.side child) =
+            let pay : ℤ = turn_reward m e.side s own reply d in
+            let booked : IsNoTighter e.side (entry.numbers own reply d -ℤ pay) (book_bound m entries e.side child) =
             subst (λ (x : S). own < m.moves e.side x → reply < m.moves (other_side e.side) x → d < draws_of m e.side x own reply
-            → IsBooked m entries e.side (child_of m e.side x own reply d) (entry.numbers own reply d))
+            → after_reward m e.side x own reply d (IsBooked m entries e.side) (entry.numbers own reply d))
             same (λ p' q' u'. entry.known own reply d p' q' u' w) p q u in
-            looser_right e.side _ _ _ (book_row m game total (IsBooked m entries) entries closed e.side child (reached_reachable m e.side (best_row e.side entries) child next) ∙ kept) booked);
+            looser_more e.side pay _ _
+            (looser_right e.side _ _ _ (book_row m game total (IsBooked m entries) entries closed e.side child (reached_reachable m e.side (best_row e.side entries) child next) ∙ kept) booked));
       }
 
 -- the sheet of the best entries of a closed book is lawful

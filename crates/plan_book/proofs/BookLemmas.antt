@@ -8,10 +8,10 @@ use Rattle.std.proofs.lemmas.List.Elements.{All-head, All-tail, All-weaker}
 use Rattle.sim_game.specs.declared.Side.{Side}
 use Rattle.sim_game.specs.declared.Side.TheVariants.{One, Two}
 use Rattle.sim_game.specs.Model.{GameModel, IsGame, Reachable}
-use Rattle.sim_game.specs.Sides.{IsNoTighter, better, opening_bound}
-use Rattle.sim_game.proofs.SideLemmas.{looser_refl, looser_trans, looser_right, better_left, better_right, better_swap, better_cases, better_is, better_other, opening_range}
+use Rattle.sim_game.specs.Sides.{IsNoTighter, better, opening_bound, state_bound}
+use Rattle.sim_game.proofs.SideLemmas.{looser_refl, looser_trans, looser_right, better_left, better_right, better_swap, better_cases, better_is, better_other, opening_range, opening_state}
 use Rattle.plan_book.specs.declared.Entry.{Entry}
-use Rattle.plan_book.specs.Backed.{IsBacked, by_opening, by_step}
+use Rattle.plan_book.specs.Backed.{IsBacked, by_range, by_step}
 use Rattle.plan_book.specs.Entries.{IsEntry}
 use Rattle.plan_book.specs.Books.{same_side, best_posted, is_tighter, beats, better_entry, best_entry}
 
@@ -96,9 +96,19 @@ entry_backed m total Known e s game lawful r k =
 pub best_backed : {S : Type 0} (m : GameModel S) (total : ℕ) (Known : Side → S → ℤ → Type 0) (es : List Entry) (side : Side) (s : S) → IsGame m → Reachable m s → All (IsEntry m total Known) es
     → IsBacked m side s (best_posted m es side (m.key s))
 best_backed m total Known es side s game r each =
-    best_has m es side (m.key s) (IsBacked m side s) (by_opening s (opening_bound m side) (looser_refl side (opening_bound m side)))
+    best_has m es side (m.key s) (IsBacked m side s) (by_range s (opening_bound m side) (opening_state m side s game r))
     (All-weaker (IsEntry m total Known) (λ e. e.side ≡ side → e.key ≡ m.key s → IsBacked m side s e.bound)
     (λ e lawful a k. subst (λ (z : Side). IsBacked m z s e.bound) a (entry_backed m total Known e s game lawful r k)) es each)
+
+-- the bound of an entry lies in the range of its state, and so in that of payoffs
+pub entry_in_state : {S : Type 0} (m : GameModel S) (total : ℕ) (Known : Side → S → ℤ → Type 0) (of : Side) (e : Entry) (entry : IsEntry m total Known e)
+    → IsNoTighter of (state_bound m of entry.state) e.bound
+entry_in_state m total Known One e entry = entry.low
+entry_in_state m total Known Two e entry = entry.high
+
+pub entry_range : {S : Type 0} (m : GameModel S) → IsGame m → (total : ℕ) (Known : Side → S → ℤ → Type 0) (of : Side) (e : Entry)
+    → IsEntry m total Known e → IsNoTighter of (opening_bound m of) e.bound
+entry_range m game total Known of e entry = looser_trans of _ _ _ (opening_state m of entry.state game entry.reachable) (entry_in_state m total Known of e entry)
 
 pub best_range : {S : Type 0} (m : GameModel S) (total : ℕ) (Known : Side → S → ℤ → Type 0) (es : List Entry) (side of : Side) (key : ℕ) → IsGame m → All (IsEntry m total Known) es
     → IsNoTighter of (opening_bound m of) (best_posted m es side key)
@@ -112,8 +122,7 @@ best_range m total Known es side of key game each =
       opening_in Two Two = looser_refl Two (opening_bound m Two)
 
       entry_in : (of : Side) (e : Entry) → IsEntry m total Known e → IsNoTighter of (opening_bound m of) e.bound
-      entry_in One e lawful = lawful.low
-      entry_in Two e lawful = lawful.high
+      entry_in of e lawful = entry_range m game total Known of e lawful
 
 pub eqb_other : (k l : ℕ) → k ≢ l → eqb k l ≡ false
 eqb_other k l n = grind (arith, nat_tests)
@@ -158,10 +167,6 @@ better_regroup Two x y z = omega (arith, ints, clamps)
 step_kept : (side : Side) (here : Bool) (x y z : ℤ) → better side (cond here (better side x y) y) z ≡ better side y (cond here (better side x z) z)
 step_kept side true x y z = better_regroup side x y z
 step_kept side false x y z = refl
-
-pub entry_range : {S : Type 0} (m : GameModel S) (total : ℕ) (Known : Side → S → ℤ → Type 0) (of : Side) (e : Entry) → IsEntry m total Known e → IsNoTighter of (opening_bound m of) e.bound
-entry_range m total Known One e entry = entry.low
-entry_range m total Known Two e entry = entry.high
 
 -- the bounds that entries of the side have
 abbrev pub IsRanged : {S : Type 0} → GameModel S → Side → Entry → Type 0

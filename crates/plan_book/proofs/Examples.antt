@@ -12,7 +12,7 @@ use Rattle.plan_book.specs.PlainGames.{plain_size}
 use Rattle.plan_book.specs.PlainPlans.{OfMoves, plain_sum, without_draws}
 use Rattle.plan_book.specs.Serial.{serial_bound, tree_size}
 use Rattle.plan_book.specs.Sheets.{bound_at}
-use Rattle.sim_game.specs.Sides.{child_of}
+use Rattle.sim_game.specs.Sides.{over_turns}
 use Rattle.plan_book.specs.Steps.{worth}
 
 -- ---- one stage with payoffs -1, 0 / 0, -1
@@ -35,6 +35,9 @@ stage = record {
   chance = λ s a b d. 360360;
   drawn = λ s a b d. 1 + 2 * a + b;
   payoff = stage_payoff;
+  reward = λ s a b d. pos 0;
+  least = λ s. neg_ℤ (pos 1);
+  most = λ s. pos 0;
   rank = at_root 1;
   key = λ s. s;
   label = λ side s i. i;
@@ -77,7 +80,7 @@ serial_two = refl
 stage_size : tree_size stage 0 ≡ 5
 stage_size = refl
 
-even_worth : worth stage One 0 (1 ∷ 1 ∷ []) (λ a b d. bound_at stage One [] (child_of stage One 0 a b d)) 0 ≡ neg_ℤ (pos 1000000)
+even_worth : worth stage One 0 (1 ∷ 1 ∷ []) (over_turns stage One 0 (bound_at stage One [])) 0 ≡ neg_ℤ (pos 1000000)
 even_worth = refl
 
 abbrev wheel_payoff : ℕ → ℤ
@@ -94,6 +97,9 @@ wheel = record {
   chance = λ s a b d. 120120;
   drawn = λ s a b d. 1 + d;
   payoff = wheel_payoff;
+  reward = λ s a b d. pos 0;
+  least = λ s. pos 0;
+  most = λ s. pos 1;
   rank = at_root 1;
   key = λ s. s;
   label = λ side s i. i;
@@ -115,6 +121,44 @@ wheel_expected = refl
 
 wheel_size : tree_size wheel 0 ≡ 4
 wheel_size = refl
+
+-- ---- two turns with one move a side, which pay 2 and -1, and an end that pays 3
+abbrev by_turn : {X : Type 0} → X → X → X → ℕ → X
+by_turn x y z zero = x
+by_turn x y z (suc zero) = y
+by_turn x y z (suc (suc s)) = z
+
+abbrev tolls : GameModel ℕ
+tolls = record {
+  root = 0;
+  moves = λ side s. by_turn 1 1 0 s;
+  draws = λ s a b. 1;
+  chance = λ s a b d. 360360;
+  drawn = λ s a b d. 1 + s;
+  payoff = λ s. pos 3;
+  reward = λ s a b d. by_turn (pos 2) (neg_ℤ (pos 1)) (pos 0) s;
+  least = by_turn (pos 4) (pos 2) (pos 3);
+  most = by_turn (pos 4) (pos 2) (pos 3);
+  rank = by_turn 2 1 0;
+  key = λ s. s;
+  label = λ side s i. i;
+  low = pos 2;
+  high = pos 4;
+  width = 1;
+  chance_free = true;
+}
+
+tolls_expected : expected tolls even first 2 0 [] ≡ pos (4 * (2 * 3 * 360360 * (2 * 3 * 360360)))
+tolls_expected = refl
+
+plain_tolls : plain_sum tolls (without_draws even) (without_draws first) 2 0 [] ≡ pos (4 * (6 * 6))
+plain_tolls = refl
+
+tolls_serial : serial_bound tolls Two 0 ≡ pos 4000000
+tolls_serial = refl
+
+tolls_value : plain_value tolls One 0 ≡ pos 4
+tolls_value = refl
 
 -- ---- the stage without draws
 -- a row for a history in which another draw was made is dropped

@@ -1,5 +1,5 @@
 -- A number for each state that a plan keeps step by step is guaranteed by the plan.
-use Rattle.std.proofs.Common.{◌≡◌, ℕ, zero, suc, ◌*◌, ◌^◌, ◌<◌, ◌≤◌, false, eqb, ℤ, pos, ◌*ℤ◌, List, [], ◌∷◌, ◌++◌, get_or, inl, inr, refl, sym, ap, ◌∙◌, arith}
+use Rattle.std.proofs.Common.{◌≡◌, ℕ, zero, suc, ◌*◌, ◌^◌, ◌<◌, ◌≤◌, false, eqb, ℤ, pos, ◌+ℤ◌, ◌*ℤ◌, List, [], ◌∷◌, ◌++◌, get_or, inl, inr, refl, sym, ap, ◌∙◌, arith}
 use Rattle.std.proofs.lemmas.Bool.{cases_eq}
 use Rattle.std.proofs.lemmas.Int.{ints}
 use Rattle.std.proofs.Math.Nat.{pow-succ', pow-zero}
@@ -7,17 +7,17 @@ use Rattle.sim_game.specs.declared.Side.{Side}
 use Rattle.sim_game.specs.declared.Side.TheVariants.{One, Two}
 use Rattle.sim_game.specs.Model.{GameModel, Turn, IsTurn, IsGame, Reachable, after_turn, bound_scale, whole_chance}
 use Rattle.sums.specs.Sums.{sum_below, count_below}
-use Rattle.sums.proofs.IntegerLemmas.{times_times, times_mono}
+use Rattle.sums.proofs.IntegerLemmas.{times_times, times_add}
 use Rattle.sim_game.proofs.ReachLemmas.{reachable_turn}
 use Rattle.sums.proofs.SumLemmas.{sum_weights}
 use Rattle.plan_book.specs.Expected.{whole, expected, plan_of_one, plan_of_two}
 use Rattle.plan_book.specs.Plans.{Plan, weights_at}
-use Rattle.sim_game.specs.Sides.{other_side, IsNoTighter, opening_bound, end_bound, turn_of, draws_of, chance_of, child_of}
+use Rattle.sim_game.specs.Sides.{other_side, IsNoTighter, state_bound, end_bound, move_of_one, move_of_two, turn_of, draws_of, chance_of, child_of, turn_reward, over_turns}
 use Rattle.plan_book.specs.Steps.{cell, worth}
 use Rattle.plan_book.proofs.ExpectedLemmas.{is_same, is_other, weights_count}
-use Rattle.sim_game.proofs.SideLemmas.{looser_refl, looser_times, looser_sum, looser_left, looser_right, side_turn}
-use Rattle.plan_book.proofs.StepLemmas.{rounded_tightest}
-use Rattle.plan_book.proofs.TreeSums.{spread, replies_first, state_step}
+use Rattle.sim_game.proofs.SideLemmas.{looser_refl, looser_trans, looser_times, looser_sum, looser_left, looser_right, looser_add, side_turn, turn_range, end_range}
+use Rattle.plan_book.proofs.StepLemmas.{rounded_tightest, cell_mono}
+use Rattle.plan_book.proofs.TreeSums.{spread, replies_first, state_step, times_swap}
 
 -- ---- the expected payoff, seen from a side
 abbrev pub value : {S : Type 0} → GameModel S → Side → Plan → Plan → ℕ → S → List Turn → ℤ
@@ -45,30 +45,41 @@ value_at_end m side own reply (suc turns) s history e = rw (is_same (m.rank s) 0
     ∙ ap (λ (k : ℕ). pos k *ℤ m.payoff s) (omega arith)
     ∙ sym (times_times (stakes own reply ^ suc turns) bound_scale (m.payoff s)))
 
+-- the expected sum by a turn and what follows it, seen from a side
+abbrev turn_value : {S : Type 0} → GameModel S → Side → Plan → Plan → ℕ → S → List Turn → ℕ → ℕ → ℕ → ℤ
+turn_value m side own reply turns s history o r d =
+    pos bound_scale *ℤ (pos (whole (plan_of_one side own reply) (plan_of_two side own reply) ^ turns) *ℤ m.reward s (move_of_one side o r) (move_of_two side o r) d
+    +ℤ expected m (plan_of_one side own reply) (plan_of_two side own reply) turns (child_of m side s o r d) (history ++ turn_of side o r d ∷ []))
+
+turn_value_is : {S : Type 0} (m : GameModel S) (side : Side) (own reply : Plan) (turns : ℕ) (s : S) (history : List Turn) (o r d : ℕ)
+    → turn_value m side own reply turns s history o r d
+    ≡ pos (stakes own reply ^ turns) *ℤ turn_reward m side s o r d +ℤ value m side own reply turns (child_of m side s o r d) (history ++ turn_of side o r d ∷ [])
+turn_value_is m side own reply turns s history o r d =
+    let stake : ℕ = whole (plan_of_one side own reply) (plan_of_two side own reply) in
+    let pay : ℤ = m.reward s (move_of_one side o r) (move_of_two side o r) d in
+    let rest : ℤ = expected m (plan_of_one side own reply) (plan_of_two side own reply) turns (child_of m side s o r d) (history ++ turn_of side o r d ∷ []) in
+    times_add bound_scale (pos (stake ^ turns) *ℤ pay) rest
+    ∙ ap (λ (x : ℤ). x +ℤ pos bound_scale *ℤ rest) (times_swap bound_scale (stake ^ turns) pay ∙ ap (λ (k : ℕ). pos (k ^ turns) *ℤ (pos bound_scale *ℤ pay)) (stakes_are side own reply))
+
 value_by_turns : {S : Type 0} (m : GameModel S) (side : Side) (own reply : Plan) (turns : ℕ) (s : S) (history : List Turn) → 1 ≤ m.rank s
     → value m side own reply (suc turns) s history
     ≡ sum_below (m.moves (other_side side) s) (λ r. pos (get_or (weights_at m (other_side side) reply s history) r 0)
     *ℤ sum_below (m.moves side s) (λ o. pos (get_or (weights_at m side own s history) o 0)
-    *ℤ sum_below (draws_of m side s o r) (λ d. pos (chance_of m side s o r d)
-    *ℤ value m side own reply turns (child_of m side s o r d) (history ++ turn_of side o r d ∷ []))))
+    *ℤ sum_below (draws_of m side s o r) (λ d. pos (chance_of m side s o r d) *ℤ turn_value m side own reply turns s history o r d)))
 value_by_turns m One own reply turns s history h = rw (goes_on m s h) (
     spread bound_scale (λ a. get_or (weights_at m One own s history) a 0) (λ b. get_or (weights_at m Two reply s history) b 0) (m.draws s) (m.chance s)
-    (λ a b d. expected m own reply turns (m.drawn s a b d) (history ++ turn_of One a b d ∷ [])) (m.moves One s) (m.moves Two s)
+    (λ a b d. pos (whole own reply ^ turns) *ℤ m.reward s a b d +ℤ expected m own reply turns (m.drawn s a b d) (history ++ turn_of One a b d ∷ [])) (m.moves One s) (m.moves Two s)
     ∙ replies_first (m.moves One s)
-    (m.moves Two s) _ _ (λ a b. sum_below (m.draws s a b) (λ d. pos (m.chance s a b d) *ℤ value m One own reply turns (m.drawn s a b d) (history ++ turn_of One a b d ∷ []))))
+    (m.moves Two s) _ _ (λ a b. sum_below (m.draws s a b) (λ d. pos (m.chance s a b d) *ℤ turn_value m One own reply turns s history a b d)))
 value_by_turns m Two own reply turns s history h = rw (goes_on m s h) (
     spread bound_scale (λ a. get_or (weights_at m One reply s history) a 0) (λ b. get_or (weights_at m Two own s history) b 0) (m.draws s) (m.chance s)
-    (λ a b d. expected m reply own turns (m.drawn s a b d) (history ++ turn_of Two b a d ∷ [])) (m.moves One s) (m.moves Two s))
+    (λ a b d. pos (whole reply own ^ turns) *ℤ m.reward s a b d +ℤ expected m reply own turns (m.drawn s a b d) (history ++ turn_of Two b a d ∷ [])) (m.moves One s) (m.moves Two s))
 
--- ---- the opening bound
+-- ---- means
 pub chances : {S : Type 0} (m : GameModel S) → IsGame m → (side : Side) (s : S) (own reply : ℕ) → Reachable m s → own < m.moves side s → reply < m.moves (other_side side) s
     → count_below (draws_of m side s own reply) (chance_of m side s own reply) ≡ whole_chance
 chances m lawful One s own reply r p q = lawful.chance_sum s own reply r p q
 chances m lawful Two s own reply r p q = lawful.chance_sum s reply own r q p
-
-pub opening_at_end : {S : Type 0} (m : GameModel S) → IsGame m → (side : Side) (s : S) → Reachable m s → m.rank s ≡ 0 → IsNoTighter side (opening_bound m side) (end_bound m s)
-opening_at_end m lawful One s r e = times_mono bound_scale m.low (m.payoff s) (lawful.payoff_low s r e)
-opening_at_end m lawful Two s r e = times_mono bound_scale (m.payoff s) m.high (lawful.payoff_high s r e)
 
 -- a number that is no tighter than each child's is no tighter than the mean
 pub mean_of_same : {S : Type 0} (m : GameModel S) → IsGame m → (side : Side) (s : S) (own reply : ℕ) (number : ℤ) → Reachable m s → own < m.moves side s → reply < m.moves (other_side side) s
@@ -89,13 +100,21 @@ module _ {S : Type 0} (m : GameModel S) (lawful : IsGame m) (side : Side) (own r
   pub data IsKept (number : S → ℤ) : S → List Turn → Type 0 where
     at_end : (s : S) (history : List Turn) → m.rank s ≡ 0 → IsNoTighter side (number s) (end_bound m s) → IsKept number s history
     by_step : (s : S) (history : List Turn) → 1 ≤ m.rank s
-        → ((r : ℕ) → r < m.moves (other_side side) s → IsNoTighter side (pos own.total *ℤ number s) (worth m side s (weights_at m side own s history) (λ o q d. number (child_of m side s o q d)) r))
+        → ((r : ℕ) → r < m.moves (other_side side) s → IsNoTighter side (pos own.total *ℤ number s) (worth m side s (weights_at m side own s history) (over_turns m side s number) r))
         → IsKept number s history
     known : (s : S) (history : List Turn) → ((turns : ℕ) → m.rank s ≤ turns → IsGuaranteed (number s) turns s history) → IsKept number s history
 
   guaranteed_at_end : (number : ℤ) (turns : ℕ) (s : S) (history : List Turn) → m.rank s ≡ 0 → IsNoTighter side number (end_bound m s) → IsGuaranteed number turns s history
   guaranteed_at_end number turns s history e h =
       looser_right side _ _ _ (sym (value_at_end m side own reply turns s history e)) (looser_times side (stakes own reply ^ turns) number (end_bound m s) h)
+
+  -- a guaranteed number, with the reward of the turn to its state
+  turn_guaranteed : (turns : ℕ) (s : S) (history : List Turn) (o r d : ℕ) (number : ℤ) → IsGuaranteed number turns (child_of m side s o r d) (history ++ turn_of side o r d ∷ [])
+      → IsNoTighter side (pos (stakes own reply ^ turns) *ℤ (turn_reward m side s o r d +ℤ number)) (turn_value m side own reply turns s history o r d)
+  turn_guaranteed turns s history o r d number h =
+      looser_left side _ _ _ (sym (times_add (stakes own reply ^ turns) (turn_reward m side s o r d) number))
+      (looser_right side _ _ _ (sym (turn_value_is m side own reply turns s history o r d))
+      (looser_add side (pos (stakes own reply ^ turns) *ℤ turn_reward m side s o r d) _ _ h))
 
   module _ (number : S → ℤ) (kept : (s : S) (history : List Turn) → Reachable m s → IsKept number s history) where
     guaranteed_by : (turns : ℕ) (s : S) (history : List Turn) → Reachable m s → m.rank s ≤ turns → IsKept number s history
@@ -109,8 +128,8 @@ module _ {S : Type 0} (m : GameModel S) (lawful : IsGame m) (side : Side) (own r
         (looser_right side _ _ _ (sym (value_by_turns m side own reply k s history goes))
         (state_step side (m.moves side s) (m.moves (other_side side) s)
         (λ o. get_or (weights_at m side own s history) o 0) (λ q. get_or (weights_at m (other_side side) reply s history) q 0)
-        (draws_of m side s) (chance_of m side s) (λ o q d. number (child_of m side s o q d)) (λ o q d. value m side own reply k (child_of m side s o q d) (history ++ turn_of side o q d ∷ []))
-        (stakes own reply ^ k) (λ o q d p p' p''. below (turn_of side o q d) (side_turn m side s o q d p p' p'') goes k refl)
+        (draws_of m side s) (chance_of m side s) (over_turns m side s number) (turn_value m side own reply k s history)
+        (stakes own reply ^ k) (λ o q d p p' p''. turn_guaranteed k s history o q d (number (child_of m side s o q d)) (below (turn_of side o q d) (side_turn m side s o q d p p' p'') goes k refl))
         own.total reply.total (number s) (weights_count m (other_side side) reply s history (lawful.other_moves (other_side side) s r goes)) h))
 
     pub guaranteed : (turns : ℕ) (s : S) (history : List Turn) → Reachable m s → m.rank s ≤ turns → IsGuaranteed (number s) turns s history
@@ -119,20 +138,23 @@ module _ {S : Type 0} (m : GameModel S) (lawful : IsGame m) (side : Side) (own r
         let same : j ≡ k = omega arith in
         rw same (guaranteed k (after_turn m s t) (history ++ t ∷ []) (reachable_turn m s t r turn) (omega (arith, lawful.rank_falls s t r turn))))
 
-  -- ---- the opening bound
-  opening_step : (s : S) (history : List Turn) → Reachable m s → 1 ≤ m.rank s → (q : ℕ) → q < m.moves (other_side side) s
-      → IsNoTighter side (pos own.total *ℤ opening_bound m side) (worth m side s (weights_at m side own s history) (λ _ _ _. opening_bound m side) q)
-  opening_step s history r goes q p =
+  -- ---- the range of a state
+  range_step : (s : S) (history : List Turn) → Reachable m s → 1 ≤ m.rank s → (q : ℕ) → q < m.moves (other_side side) s
+      → IsNoTighter side (pos own.total *ℤ state_bound m side s) (worth m side s (weights_at m side own s history) (over_turns m side s (state_bound m side)) q)
+  range_step s history r goes q p =
       looser_left side _ _ _
-      (sum_weights (m.moves side s) (λ o. get_or (weights_at m side own s history) o 0) (opening_bound m side)
-      ∙ ap (λ (n : ℕ). pos n *ℤ opening_bound m side) (weights_count m side own s history (lawful.other_moves side s r goes)))
-      (looser_sum side (m.moves side s) _ _ (λ o p'. looser_times side (get_or (weights_at m side own s history) o 0) _ _ (mean_of_same m lawful side s o q (opening_bound m side) r p' p)))
+      (sum_weights (m.moves side s) (λ o. get_or (weights_at m side own s history) o 0) (state_bound m side s)
+      ∙ ap (λ (n : ℕ). pos n *ℤ state_bound m side s) (weights_count m side own s history (lawful.other_moves side s r goes)))
+      (looser_sum side (m.moves side s) _ _ (λ o p'. looser_times side (get_or (weights_at m side own s history) o 0) _ _
+      (looser_trans side _ _ _ (mean_of_same m lawful side s o q (state_bound m side s) r p' p)
+      (cell_mono m side s (λ _ _ _. state_bound m side s) (over_turns m side s (state_bound m side)) o q
+      (λ d u. turn_range m side side s o q d lawful r (side_turn m side s o q d p' p u))))))
 
-  opening_kept : (s : S) (history : List Turn) → Reachable m s → IsKept (λ _. opening_bound m side) s history
-  opening_kept s history r = elim (cases_eq (m.rank s) 0) [
-    | inl e ↦ at_end s history e (opening_at_end m lawful side s r e)
-    | inr n ↦ by_step s history (omega arith) (opening_step s history r (omega arith))
+  range_kept : (s : S) (history : List Turn) → Reachable m s → IsKept (state_bound m side) s history
+  range_kept s history r = elim (cases_eq (m.rank s) 0) [
+    | inl e ↦ at_end s history e (end_range m side s lawful r e)
+    | inr n ↦ by_step s history (omega arith) (range_step s history r (omega arith))
   ]
 
-  pub opening_guaranteed : (turns : ℕ) (s : S) (history : List Turn) → Reachable m s → m.rank s ≤ turns → IsGuaranteed (opening_bound m side) turns s history
-  opening_guaranteed = guaranteed (λ _. opening_bound m side) opening_kept
+  pub range_guaranteed : (turns : ℕ) (s : S) (history : List Turn) → Reachable m s → m.rank s ≤ turns → IsGuaranteed (state_bound m side s) turns s history
+  range_guaranteed = guaranteed (state_bound m side) range_kept

@@ -1,22 +1,23 @@
 -- Cells, steps, values, backed bounds and sheets in games in which each pair of moves has one draw.
-use Rattle.std.proofs.Common.{◌≡◌, ◌↔◌, ℕ, zero, suc, ◌-◌, ◌<◌, ◌≤◌, ℤ, pos, ◌*ℤ◌, Option, Some, List, [], ◌∷◌, get_or, ⊎_elim, inl, inr, refl, sym, ap, subst, ◌∙◌, arith}
+use Rattle.std.proofs.Common.{◌≡◌, ◌↔◌, ℕ, zero, suc, ◌-◌, ◌<◌, ◌≤◌, ℤ, pos, ◌+ℤ◌, ◌-ℤ◌, ◌*ℤ◌, Option, Some, List, [], ◌∷◌, get_or, ⊎_elim, inl, inr, refl, sym, ap, subst, ◌∙◌, arith}
 use Rattle.std.specs.Prelude.{IsTrue, IsSomeAnd}
 use Rattle.std.proofs.lemmas.Bool.{cases_eq}
 use Rattle.std.proofs.lemmas.List.Elements.{All-weaker}
 use Rattle.sums.specs.Sums.{sum_below}
+use Rattle.sums.proofs.IntegerLemmas.{times_add}
 use Rattle.sums.proofs.SumLemmas.{sum_same}
 use Rattle.sim_game.specs.declared.Side.{Side}
 use Rattle.sim_game.specs.Model.{GameModel, Turn, IsGame, Reachable, after_turn, after_history, bound_scale, whole_chance}
-use Rattle.sim_game.specs.Sides.{other_side, IsNoTighter, IsTighter, better, own_move, turn_of, draws_of, chance_of, child_of}
+use Rattle.sim_game.specs.Sides.{other_side, IsNoTighter, IsTighter, better, own_move, turn_of, draws_of, chance_of, child_of, turn_reward, over_turns, after_reward}
 use Rattle.sim_game.proofs.SideLemmas.{looser_refl, looser_times, looser_cancel, looser_right, looser_both, better_is, better_other, tighter_or, tighter_is}
-use Rattle.plan_book.specs.Backed.{IsBacked, by_opening, by_end, by_step}
+use Rattle.plan_book.specs.Backed.{IsBacked, by_range, by_end, by_step}
 use Rattle.plan_book.specs.Books.{best_row, IsBestSheet}
 use Rattle.plan_book.specs.ChanceFree.{HasPlainBounds}
 use Rattle.plan_book.specs.declared.Entry.{Entry}
 use Rattle.plan_book.specs.declared.SheetRow.{SheetRow}
 use Rattle.plan_book.specs.PlainBounds as plain
 use Rattle.plan_book.specs.PlainBounds.{plain_value_within, IsPlainStep, IsPlainBacked, IsPlainReached, IsPlainRow, IsPlainBestSheet}
-use Rattle.plan_book.specs.PlainGames.{next_of}
+use Rattle.plan_book.specs.PlainGames.{next_of, reward_of}
 use Rattle.plan_book.specs.Serial.{best_upto, serial_within}
 use Rattle.plan_book.specs.Sheets.{row_at, IsKeptHistory, IsReached, IsLawfulRow}
 use Rattle.plan_book.specs.Steps.{IsStep, rounded, cell, worth}
@@ -91,27 +92,28 @@ module _ {S : Type 0} (m : GameModel S) (game : IsGame m) (free : IsTrue m.chanc
         best_times side (m.moves side s - 1) bound_scale _ _ (λ own i. best_times (other_side side) (m.moves (other_side side) s - 1) bound_scale _ _ (λ reply j.
         let p : own < m.moves side s = omega (arith, owns) in
         let q : reply < m.moves (other_side side) s = omega (arith, replies) in
-        cell_is s (λ a b d. serial_within m side turns (child_of m side s a b d)) own reply r p q
-        ∙ value_within turns (next_of m side s own reply) (next_reachable m game free side s own reply r p q))))
+        cell_is s (over_turns m side s (λ t. serial_within m side turns t)) own reply r p q
+        ∙ ap (λ (x : ℤ). turn_reward m side s own reply 0 +ℤ x) (value_within turns (next_of m side s own reply) (next_reachable m game free side s own reply r p q))
+        ∙ sym (times_add bound_scale (reward_of m side s own reply) (plain_value_within m side turns (next_of m side s own reply))))))
   ]
 
   -- ---- backed bounds
   to_plain : (s : S) (bound : ℤ) → Reachable m s → IsBacked m side s bound → IsPlainBacked m side s bound
-  to_plain s bound r (by_opening s' bound' h) = plain.by_opening s bound h
+  to_plain s bound r (by_range s' bound' h) = plain.by_range s bound h
   to_plain s bound r (by_end s' bound' e h) = plain.by_end s bound e h
   to_plain s bound r (by_step s' bound' total weights numbers step children) =
       plain.by_step s bound total weights (λ own reply. numbers own reply 0) ((step_is s total weights numbers bound r).0 step) (λ own reply p q w.
-      to_plain (next_of m side s own reply) (numbers own reply 0) (next_reachable m game free side s own reply r p q)
+      to_plain (next_of m side s own reply) (numbers own reply 0 -ℤ turn_reward m side s own reply 0) (next_reachable m game free side s own reply r p q)
       (children own reply 0 p q (omega (arith, one_draw m game free side s own reply r p q)) w))
 
   from_plain : (s : S) (bound : ℤ) → Reachable m s → IsPlainBacked m side s bound → IsBacked m side s bound
-  from_plain s bound r (plain.by_opening s' bound' h) = by_opening s bound h
+  from_plain s bound r (plain.by_range s' bound' h) = by_range s bound h
   from_plain s bound r (plain.by_end s' bound' e h) = by_end s bound e h
   from_plain s bound r (plain.by_step s' bound' total weights numbers step children) =
       by_step s bound total weights (λ own reply draw. numbers own reply) ((step_is s total weights (λ own reply draw. numbers own reply) bound r).1 step) (λ own reply draw p q u w.
       let first : draw ≡ 0 = omega (arith, u, one_draw m game free side s own reply r p q) in
-      subst (λ (d : ℕ). IsBacked m side (child_of m side s own reply d) (numbers own reply)) (sym first)
-      (from_plain (next_of m side s own reply) (numbers own reply) (next_reachable m game free side s own reply r p q) (children own reply p q w)))
+      subst (λ (d : ℕ). after_reward m side s own reply d (IsBacked m side) (numbers own reply)) (sym first)
+      (from_plain (next_of m side s own reply) (numbers own reply -ℤ turn_reward m side s own reply 0) (next_reachable m game free side s own reply r p q) (children own reply p q w)))
 
   -- ---- sheets
   module _ (rows : ℕ → Option SheetRow) where

@@ -1,5 +1,5 @@
 -- Plans, payoff sums and guarantees in games in which each pair of moves has one draw.
-use Rattle.std.proofs.Common.{◌≡◌, ℕ, zero, suc, ◌*◌, ◌^◌, ◌<◌, Bool, true, false, ◌&&◌, cond, eqb, ℤ, pos, ◌*ℤ◌, Option, None, Some, option_map, List, [], ◌∷◌, ◌++◌, length, sum, map, get_or, inl, inr, refl, sym, ap, ◌∙◌, arith}
+use Rattle.std.proofs.Common.{◌≡◌, ℕ, zero, suc, ◌*◌, ◌^◌, ◌<◌, Bool, true, false, ◌&&◌, cond, eqb, ℤ, pos, ◌+ℤ◌, ◌*ℤ◌, Option, None, Some, option_map, List, [], ◌∷◌, ◌++◌, length, sum, map, get_or, inl, inr, refl, sym, ap, ◌∙◌, arith}
 use Rattle.std.specs.Prelude.{IsTrue}
 use Rattle.std.specs.List.{filter_map, cons_option}
 use Rattle.std.proofs.Math.Nat.{pow-succ', pow-zero, one-le-pow}
@@ -8,7 +8,7 @@ use Rattle.std.proofs.lemmas.Int.{ints}
 use Rattle.std.proofs.lemmas.List.{map-append}
 use Rattle.std.proofs.lemmas.Nat.{mul-pow}
 use Rattle.sums.specs.Sums.{sum_below}
-use Rattle.sums.proofs.IntegerLemmas.{times_times}
+use Rattle.sums.proofs.IntegerLemmas.{times_times, times_add}
 use Rattle.sums.proofs.SumLemmas.{sum_same, sum_times}
 use Rattle.sim_game.specs.declared.Side.{Side}
 use Rattle.sim_game.specs.declared.Side.TheVariants.{One, Two}
@@ -18,7 +18,7 @@ use Rattle.sim_game.proofs.ReachLemmas.{reachable_root}
 use Rattle.sim_game.proofs.SideLemmas.{looser_times, looser_cancel, looser_left, looser_right}
 use Rattle.plan_book.specs.ChanceFree.{HasPlainPlans}
 use Rattle.plan_book.specs.Expected.{whole, expected, plan_of_one, plan_of_two}
-use Rattle.plan_book.specs.PlainGames.{next_state}
+use Rattle.plan_book.specs.PlainGames.{next_state, plain_reward}
 use Rattle.plan_book.specs.PlainPlans.{Moves, PlainPlace, OfKey, OfMoves, PlainRow, PlainPlan, same_moves, plain_row_weights, plain_weights, plain_sum, plain_sum_of, first_draws, moves_of, plain_row, without_draws, drawn_place, with_draws}
 use Rattle.plan_book.specs.Plans.{Place, PlanRow, Plan, AtKey, AtHistory, same_history, is_place, row_weights, weights_at}
 use Rattle.plan_book.proofs.ExpectedLemmas.{is_same, is_other}
@@ -121,26 +121,43 @@ module _ {S : Type 0} (m : GameModel S) (game : IsGame m) (free : IsTrue m.chanc
     abbrev plain : ℕ → S → List Moves → ℤ
     plain turns s k = plain_sum m (without_draws one) (without_draws two) turns s k
 
+    -- a turn's reward, with what follows it
+    abbrev plain_turn : ℕ → S → List Moves → ℕ → ℕ → ℤ
+    plain_turn turns s k a b = pos ((one.total * two.total) ^ turns) *ℤ plain_reward m s a b +ℤ plain turns (next_state m s a b) (k ++ record { one = a; two = b } ∷ [])
+
+    paid_is : (c turns : ℕ) (s : S) (k : List Moves) (a b : ℕ) → c ≡ whole_chance
+        → expected m one two turns (next_state m s a b) (first_draws (k ++ record { one = a; two = b } ∷ [])) ≡ pos (c ^ turns)
+        *ℤ plain turns (next_state m s a b) (k ++ record { one = a; two = b } ∷ [])
+        → pos (whole one two ^ turns) *ℤ plain_reward m s a b +ℤ expected m one two turns (next_state m s a b) (first_draws (k ++ record { one = a; two = b } ∷ []))
+        ≡ pos (c ^ turns) *ℤ plain_turn turns s k a b
+    paid_is c turns s k a b is below =
+        let next : List Moves = k ++ record { one = a; two = b } ∷ [] in
+        let pay : ℤ = plain_reward m s a b in
+        ap (λ (x : ℤ). pos (whole one two ^ turns) *ℤ pay +ℤ x) below
+        ∙ ap (λ (x : ℤ). x +ℤ pos (c ^ turns) *ℤ plain turns (next_state m s a b) next)
+        (ap (λ (x : ℕ). pos ((one.total * two.total * x) ^ turns) *ℤ pay) (sym is) ∙ power_apart (one.total * two.total) c turns pay)
+        ∙ sym (times_add (c ^ turns) (pos ((one.total * two.total) ^ turns) *ℤ pay) (plain turns (next_state m s a b) next))
+
     turn_is : (c turns : ℕ) (s : S) (k : List Moves) (a b : ℕ) → Reachable m s → a < m.moves One s → b < m.moves Two s → c ≡ whole_chance
         → expected m one two turns (next_state m s a b) (first_draws (k ++ record { one = a; two = b } ∷ [])) ≡ pos (c ^ turns)
         *ℤ plain turns (next_state m s a b) (k ++ record { one = a; two = b } ∷ [])
         → sum_below (m.draws s a b) (λ d. pos (get_or (weights_at m One one s (first_draws k)) a 0 * get_or (weights_at m Two two s (first_draws k)) b 0 * m.chance s a b d)
-        *ℤ expected m one two turns (m.drawn s a b d) (first_draws k ++ record { one = a; two = b; draw = d } ∷ []))
+        *ℤ (pos (whole one two ^ turns) *ℤ m.reward s a b d +ℤ expected m one two turns (m.drawn s a b d) (first_draws k ++ record { one = a; two = b; draw = d } ∷ [])))
         ≡ pos (c ^ suc turns) *ℤ (pos (get_or (plain_weights m One (without_draws one) s k) a 0 * get_or (plain_weights m Two (without_draws two) s k) b 0)
-        *ℤ plain turns (next_state m s a b) (k ++ record { one = a; two = b } ∷ []))
+        *ℤ plain_turn turns s k a b)
     turn_is c turns s k a b r p q is below =
-        let next : List Moves = k ++ record { one = a; two = b } ∷ [] in
         let w : ℕ = get_or (weights_at m One one s (first_draws k)) a 0 in
         let v : ℕ = get_or (weights_at m Two two s (first_draws k)) b 0 in
+        let paid : List Turn → ℤ = λ h. pos (whole one two ^ turns) *ℤ plain_reward m s a b +ℤ expected m one two turns (next_state m s a b) h in
         sum_one (m.draws s a b) _ (one_draw m game free One s a b r p q)
-        ∙ ap (λ (x : ℕ). pos (w * v * x) *ℤ expected m one two turns (next_state m s a b) (first_draws k ++ record { one = a; two = b; draw = 0 } ∷ []))
+        ∙ ap (λ (x : ℕ). pos (w * v * x) *ℤ paid (first_draws k ++ record { one = a; two = b; draw = 0 } ∷ []))
         (whole_draw m game free One s a b r p q ∙ sym is)
-        ∙ ap (λ (h : List Turn). pos (w * v * c) *ℤ expected m one two turns (next_state m s a b) h) (sym (map-append _ k (record { one = a; two = b } ∷ [])))
-        ∙ ap (λ (x : ℤ). pos (w * v * c) *ℤ x) below
-        ∙ regroup w v c (c ^ turns) (plain turns (next_state m s a b) next)
-        ∙ ap (λ (x : ℕ). pos x *ℤ (pos (w * v) *ℤ plain turns (next_state m s a b) next)) (sym (pow-succ' c turns))
-        ∙ ap (λ (ws : List ℕ). pos (c ^ suc turns) *ℤ (pos (get_or ws a 0 * v) *ℤ plain turns (next_state m s a b) next)) (plays One one s k)
-        ∙ ap (λ (ws : List ℕ). pos (c ^ suc turns) *ℤ (pos (get_or (plain_weights m One (without_draws one) s k) a 0 * get_or ws b 0) *ℤ plain turns (next_state m s a b) next)) (plays Two two s k)
+        ∙ ap (λ (h : List Turn). pos (w * v * c) *ℤ paid h) (sym (map-append _ k (record { one = a; two = b } ∷ [])))
+        ∙ ap (λ (x : ℤ). pos (w * v * c) *ℤ x) (paid_is c turns s k a b is below)
+        ∙ regroup w v c (c ^ turns) (plain_turn turns s k a b)
+        ∙ ap (λ (x : ℕ). pos x *ℤ (pos (w * v) *ℤ plain_turn turns s k a b)) (sym (pow-succ' c turns))
+        ∙ ap (λ (ws : List ℕ). pos (c ^ suc turns) *ℤ (pos (get_or ws a 0 * v) *ℤ plain_turn turns s k a b)) (plays One one s k)
+        ∙ ap (λ (ws : List ℕ). pos (c ^ suc turns) *ℤ (pos (get_or (plain_weights m One (without_draws one) s k) a 0 * get_or ws b 0) *ℤ plain_turn turns s k a b)) (plays Two two s k)
 
     sums : (c turns : ℕ) (s : S) (k : List Moves) → c ≡ whole_chance → Reachable m s → expected m one two turns s (first_draws k) ≡ pos (c ^ turns) *ℤ plain turns s k
     sums c zero s k is r = rw (pow-zero c) (one_times (m.payoff s))

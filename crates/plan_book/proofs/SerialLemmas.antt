@@ -6,12 +6,13 @@ use Rattle.sim_game.specs.Model.{GameModel, IsGame, Reachable}
 use Rattle.sim_game.proofs.ReachLemmas.{reachable_turn}
 use Rattle.plan_book.specs.declared.Sheet.{Sheet}
 use Rattle.plan_book.specs.declared.SheetRow.{SheetRow}
-use Rattle.plan_book.specs.Backed.{IsBacked, by_opening, by_end, by_step}
+use Rattle.plan_book.specs.Backed.{IsBacked, by_range, by_end, by_step}
 use Rattle.plan_book.specs.Plans.{one_move}
 use Rattle.plan_book.specs.Serial.{best_upto, serial_within, serial_bound}
 use Rattle.plan_book.specs.Sheets.{row_at, bound_or, bound_at, IsLawful}
-use Rattle.sim_game.specs.Sides.{other_side, IsNoTighter, opening_bound, end_bound, turn_of, child_of}
+use Rattle.sim_game.specs.Sides.{other_side, IsNoTighter, state_bound, end_bound, turn_of, child_of, over_turns}
 use Rattle.plan_book.specs.Steps.{IsStep, cell}
+use Rattle.plan_book.proofs.BackedLemmas.{backed_turn}
 use Rattle.plan_book.proofs.ExpectedLemmas.{one_move_fits, one_move_sum, is_same, is_other}
 use Rattle.plan_book.proofs.SheetLemmas.{row_step}
 use Rattle.sim_game.proofs.SideLemmas.{looser_refl, looser_trans, looser_times, looser_left, looser_right, flip_side, better_cases, better_left, better_right, side_turn}
@@ -53,9 +54,9 @@ module _ {S : Type 0} (m : GameModel S) (game : IsGame m) (side : Side) where
   serial_step : (turns : ℕ) (s : S) → Reachable m s → 1 ≤ m.rank s
       → ((s' : S) → Reachable m s' → m.rank s' < m.rank s → IsBacked m side s' (serial_within m side turns s'))
       → IsBacked m side s (best_upto side (m.moves side s - 1) (λ own. best_upto (other_side side) (m.moves (other_side side) s - 1) (λ reply.
-      cell m side s (λ a b d. serial_within m side turns (child_of m side s a b d)) own reply)))
+      cell m side s (over_turns m side s (λ t. serial_within m side turns t)) own reply)))
   serial_step turns s r goes below =
-      let numbers : ℕ → ℕ → ℕ → ℤ = λ a b d. serial_within m side turns (child_of m side s a b d) in
+      let numbers : ℕ → ℕ → ℕ → ℤ = over_turns m side s (λ t. serial_within m side turns t) in
       let against : ℕ → ℤ = λ own. best_upto (other_side side) (m.moves (other_side side) s - 1) (cell m side s numbers own) in
       let best = best_reached side (m.moves side s - 1) against in
       let moves = game.other_moves side s r goes in
@@ -64,7 +65,7 @@ module _ {S : Type 0} (m : GameModel S) (game : IsGame m) (side : Side) where
       looser_left side _ _ _ (sym best.2) (flip_side side _ _ (best_bounds (other_side side) (m.moves (other_side side) s - 1) (cell m side s numbers best.0) reply (omega arith)))))
       (λ own reply d p q u w.
       let turn = side_turn m side s own reply d p q u in
-      below (child_of m side s own reply d) (reachable_turn m s (turn_of side own reply d) r turn) (game.rank_falls s (turn_of side own reply d) r turn))
+      backed_turn m side s own reply d _ (below (child_of m side s own reply d) (reachable_turn m s (turn_of side own reply d) r turn) (game.rank_falls s (turn_of side own reply d) r turn)))
 
   serial_backed_within : (turns : ℕ) (s : S) → Reachable m s → m.rank s ≤ turns → IsBacked m side s (serial_within m side turns s)
   serial_backed_within zero s r h = by_end s _ (omega arith) (looser_refl side (end_bound m s))
@@ -82,15 +83,16 @@ module _ {S : Type 0} (m : GameModel S) (game : IsGame m) (sheet : Sheet) (lawfu
       → row_at sheet.rows (m.key s) ≡ found_row → IsBacked m sheet.side s (bound_or m sheet.side s found_row)
   bound_backed_within turns s r h None e = elim (cases_eq (m.rank s) 0) [
     | inl stop ↦ rw (is_same (m.rank s) 0 stop) (by_end s _ stop (looser_refl sheet.side (end_bound m s)))
-    | inr on ↦ rw (is_other (m.rank s) 0 on) (by_opening s _ (looser_refl sheet.side (opening_bound m sheet.side)))
+    | inr on ↦ rw (is_other (m.rank s) 0 on) (by_range s _ (looser_refl sheet.side (state_bound m sheet.side s)))
   ]
   bound_backed_within zero s r h (Some row) e = absurd (omega (arith, (row_step m game sheet lawful s row r e).goes_on))
   bound_backed_within (suc turns) s r h (Some row) e =
       by_step s row.bound sheet.total row.weights _ (row_step m game sheet lawful s row r e) (λ own reply d p q u w.
       let turn = side_turn m sheet.side s own reply d p q u in
       let lower = game.rank_falls s (turn_of sheet.side own reply d) r turn in
-      bound_backed_within turns (child_of m sheet.side s own reply d) (reachable_turn m s (turn_of sheet.side own reply d) r turn) (omega arith)
-      (row_at sheet.rows (m.key (child_of m sheet.side s own reply d))) refl)
+      backed_turn m sheet.side s own reply d _
+      (bound_backed_within turns (child_of m sheet.side s own reply d) (reachable_turn m s (turn_of sheet.side own reply d) r turn) (omega arith)
+      (row_at sheet.rows (m.key (child_of m sheet.side s own reply d))) refl))
 
   pub bound_backed : (s : S) → Reachable m s → IsBacked m sheet.side s (bound_at m sheet.side sheet.rows s)
   bound_backed s r = bound_backed_within (m.rank s) s r (omega arith) (row_at sheet.rows (m.key s)) refl

@@ -11,11 +11,11 @@ use Rattle.plan_book.specs.declared.SheetRow.{SheetRow}
 use Rattle.plan_book.specs.Expected.{Guarantees}
 use Rattle.plan_book.specs.Plans.{Plan, weights_at}
 use Rattle.plan_book.specs.Sheets.{row_at, bound_or, bound_at, IsKeptHistory, IsReached, IsLawfulRow, IsLawful, plan_of, root_bound}
-use Rattle.sim_game.specs.Sides.{opening_bound, end_bound, child_of}
+use Rattle.sim_game.specs.Sides.{state_bound, end_bound, over_turns}
 use Rattle.plan_book.specs.Steps.{IsStep}
 use Rattle.plan_book.proofs.ExpectedLemmas.{is_same, is_other}
 use Rattle.plan_book.proofs.PlayedLemmas.{plays_row}
-use Rattle.plan_book.proofs.GuaranteeLemmas.{IsGuaranteed, IsKept, at_end, by_step, known, guaranteed, opening_guaranteed, stakes_are}
+use Rattle.plan_book.proofs.GuaranteeLemmas.{IsGuaranteed, IsKept, at_end, by_step, known, guaranteed, range_guaranteed, stakes_are}
 use Rattle.sim_game.proofs.SideLemmas.{looser_refl, looser_left}
 
 -- ---- rows
@@ -50,24 +50,24 @@ reached_reachable m side rows s r = record { history = r.history; legal = kept_l
 module _ {S : Type 0} (m : GameModel S) (game : IsGame m) (sheet : Sheet) (lawful : IsLawful m sheet) where
   -- the row of a reachable state proves its bound there
   pub row_step : (s : S) (row : SheetRow) → Reachable m s → row_at sheet.rows (m.key s) ≡ Some row
-      → IsStep m sheet.side s sheet.total row.weights (λ own reply draw. bound_at m sheet.side sheet.rows (child_of m sheet.side s own reply draw)) row.bound
+      → IsStep m sheet.side s sheet.total row.weights (over_turns m sheet.side s (bound_at m sheet.side sheet.rows)) row.bound
   row_step s row r e =
       let here = found (IsLawfulRow m sheet.side sheet.total sheet.rows) sheet.rows (m.key s) row lawful.rows e in
       let same : here.0.state ≡ s = game.same_key here.0.state s (reached_reachable m sheet.side (row_at sheet.rows) here.0.state here.0.reached) r (here.0.is_key ∙ here.1) in
-      subst (λ (x : S). IsStep m sheet.side x sheet.total row.weights (λ own reply draw. bound_at m sheet.side sheet.rows (child_of m sheet.side x own reply draw)) row.bound) same here.0.step
+      subst (λ (x : S). IsStep m sheet.side x sheet.total row.weights (over_turns m sheet.side x (bound_at m sheet.side sheet.rows)) row.bound) same here.0.step
 
   kept_row : (reply : Plan) (s : S) (history : List Turn) → Reachable m s → (found_row : Option SheetRow) → row_at sheet.rows (m.key s) ≡ found_row
       → IsKept m game sheet.side (plan_of sheet) reply (bound_at m sheet.side sheet.rows) s history
   kept_row reply s history r None e = elim (cases_eq (m.rank s) 0) [
     | inl stop ↦
         let here : bound_at m sheet.side sheet.rows s ≡ end_bound m s =
-        ap (bound_or m sheet.side s) e ∙ ap (λ (b : Bool). cond b (end_bound m s) (opening_bound m sheet.side)) (is_same (m.rank s) 0 stop) in
+        ap (bound_or m sheet.side s) e ∙ ap (λ (b : Bool). cond b (end_bound m s) (state_bound m sheet.side s)) (is_same (m.rank s) 0 stop) in
         at_end s history stop (looser_left sheet.side _ _ _ (sym here) (looser_refl sheet.side (end_bound m s)))
     | inr on ↦
-        let here : bound_at m sheet.side sheet.rows s ≡ opening_bound m sheet.side =
-        ap (bound_or m sheet.side s) e ∙ ap (λ (b : Bool). cond b (end_bound m s) (opening_bound m sheet.side)) (is_other (m.rank s) 0 on) in
+        let here : bound_at m sheet.side sheet.rows s ≡ state_bound m sheet.side s =
+        ap (bound_or m sheet.side s) e ∙ ap (λ (b : Bool). cond b (end_bound m s) (state_bound m sheet.side s)) (is_other (m.rank s) 0 on) in
         known s history (λ turns enough. subst (λ (x : ℤ). IsGuaranteed m game sheet.side (plan_of sheet) reply x turns s history) (sym here)
-        (opening_guaranteed m game sheet.side (plan_of sheet) reply turns s history r enough))
+        (range_guaranteed m game sheet.side (plan_of sheet) reply turns s history r enough))
   ]
   kept_row reply s history r (Some row) e =
       let step = row_step s row r e in

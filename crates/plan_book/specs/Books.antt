@@ -4,7 +4,7 @@ use Rattle.std.specs.List.Sorted.{IsStrictlyIncreasing}
 use Rattle.sim_game.specs.declared.Side.{Side}
 use Rattle.sim_game.specs.declared.Side.TheVariants.{One, Two}
 use Rattle.sim_game.specs.Model.{GameModel}
-use Rattle.sim_game.specs.Sides.{IsNoTighter, better, opening_bound, end_bound}
+use Rattle.sim_game.specs.Sides.{IsNoTighter, better, opening_bound, state_bound, end_bound}
 use Rattle.plan_book.specs.declared.Entry.{Entry}
 use Rattle.plan_book.specs.declared.SheetRow.{SheetRow}
 use Rattle.plan_book.specs.Entries.{IsEntry}
@@ -29,9 +29,9 @@ best_posted m [] side key = opening_bound m side
 best_posted m (e ∷ es) side key =
     cond (same_side e.side side && nat_eq e.key key) (better side e.bound (best_posted m es side key)) (best_posted m es side key)
 
--- the payoff of an end, else the best bound of the side
+-- the payoff of an end, else the best bound of the side, or what holds of every value of the state where that is better
 abbrev pub book_bound : {S : Type 0} → GameModel S → List Entry → Side → S → ℤ
-book_bound m entries side s = cond (nat_eq (m.rank s) 0) (end_bound m s) (best_posted m entries side (m.key s))
+book_bound m entries side s = cond (nat_eq (m.rank s) 0) (end_bound m s) (better side (best_posted m entries side (m.key s)) (state_bound m side s))
 
 -- the number says no more for the side than the book has at the state
 abbrev pub IsBooked : {S : Type 0} → GameModel S → List Entry → Side → S → ℤ → Type 0

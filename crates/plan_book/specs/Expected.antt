@@ -1,5 +1,5 @@
 -- The payoff that two plans lead to, multiplied out over the whole game tree.
-use Rattle.std.specs.Prelude.{ℕ, zero, suc, ◌*◌, ◌^◌, ◌≤◌, ℤ, pos, ◌*ℤ◌, nat_eq, cond, List, [], ◌∷◌, ◌++◌, slice_index}
+use Rattle.std.specs.Prelude.{ℕ, zero, suc, ◌*◌, ◌^◌, ◌≤◌, ℤ, pos, ◌+ℤ◌, ◌*ℤ◌, nat_eq, cond, List, [], ◌∷◌, ◌++◌, slice_index}
 use Rattle.sim_game.specs.declared.Side.{Side}
 use Rattle.sim_game.specs.declared.Side.TheVariants.{One, Two}
 use Rattle.sim_game.specs.Model.{GameModel, Turn, bound_scale, whole_chance}
@@ -11,7 +11,7 @@ use Rattle.sim_game.specs.Sides.{IsNoTighter}
 abbrev pub whole : Plan → Plan → ℕ
 whole one two = one.total * two.total * whole_chance
 
--- the expected payoff from a state, times the whole for each of so many turns
+-- the expected sum of what is paid from a state on, times the whole for each of so many turns
 abbrev pub expected : {S : Type 0} → GameModel S → Plan → Plan → ℕ → S → List Turn → ℤ
 expected m one two zero s history = m.payoff s
 expected m one two (suc turns) s history =
@@ -19,7 +19,7 @@ expected m one two (suc turns) s history =
     (pos (whole one two ^ suc turns) *ℤ m.payoff s)
     (sum_below (m.moves One s) (λ a. sum_below (m.moves Two s) (λ b. sum_below (m.draws s a b) (λ d.
     pos (slice_index (weights_at m One one s history) a * slice_index (weights_at m Two two s history) b * m.chance s a b d)
-    *ℤ expected m one two turns (m.drawn s a b d) (history ++ record { one = a; two = b; draw = d } ∷ [])))))
+    *ℤ (pos (whole one two ^ turns) *ℤ m.reward s a b d +ℤ expected m one two turns (m.drawn s a b d) (history ++ record { one = a; two = b; draw = d } ∷ []))))))
 
 -- the plan of One, where a side has the first plan and the other side the second
 abbrev pub plan_of_one : Side → Plan → Plan → Plan

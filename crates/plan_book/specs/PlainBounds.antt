@@ -1,17 +1,17 @@
 -- Bounds in games without draws: values where one side discloses its move, steps, what is backed, and lawful sheets.
-use Rattle.std.specs.Prelude.{◌≡◌, ℕ, zero, suc, ◌+◌, ◌-◌, ◌*◌, ◌<◌, ◌≤◌, ℤ, pos, ◌*ℤ◌, nat_eq, cond, Option, Some, IsSomeAnd, List, length, map, sum, slice_index, All}
+use Rattle.std.specs.Prelude.{◌≡◌, ℕ, zero, suc, ◌+◌, ◌-◌, ◌*◌, ◌<◌, ◌≤◌, ℤ, pos, ◌+ℤ◌, ◌-ℤ◌, ◌*ℤ◌, nat_eq, cond, Option, Some, IsSomeAnd, List, length, map, sum, slice_index, All}
 use Rattle.std.specs.List.Sorted.{IsStrictlyIncreasing}
 use Rattle.sim_game.specs.declared.Side.{Side}
 use Rattle.sim_game.specs.declared.Side.TheVariants.{One, Two}
-use Rattle.sim_game.specs.Model.{GameModel, IsEnd}
+use Rattle.sim_game.specs.Model.{GameModel, IsEnd, bound_scale}
 use Rattle.sim_game.specs.Resolution.{IsStageGap}
-use Rattle.sim_game.specs.Sides.{other_side, IsNoTighter, opening_bound, end_bound}
+use Rattle.sim_game.specs.Sides.{other_side, IsNoTighter, state_bound, end_bound}
 use Rattle.sums.specs.Sums.{sum_below}
 use Rattle.plan_book.specs.Books.{best_row}
 use Rattle.plan_book.specs.declared.Entry.{Entry}
 use Rattle.plan_book.specs.declared.Sheet.{Sheet}
 use Rattle.plan_book.specs.declared.SheetRow.{SheetRow}
-use Rattle.plan_book.specs.PlainGames.{next_of}
+use Rattle.plan_book.specs.PlainGames.{next_of, reward_of}
 use Rattle.plan_book.specs.Serial.{best_upto}
 use Rattle.plan_book.specs.Sheets.{row_at, bound_at}
 
@@ -21,7 +21,8 @@ plain_value_within m side zero s = m.payoff s
 plain_value_within m side (suc turns) s =
     cond (nat_eq (m.rank s) 0)
     (m.payoff s)
-    (best_upto side (m.moves side s - 1) (λ own. best_upto (other_side side) (m.moves (other_side side) s - 1) (λ reply. plain_value_within m side turns (next_of m side s own reply))))
+    (best_upto side (m.moves side s - 1) (λ own. best_upto (other_side side) (m.moves (other_side side) s - 1) (λ reply.
+    reward_of m side s own reply +ℤ plain_value_within m side turns (next_of m side s own reply))))
 
 abbrev pub plain_value : {S : Type 0} → GameModel S → Side → S → ℤ
 plain_value m side s = plain_value_within m side (m.rank s) s
@@ -35,10 +36,11 @@ pub record IsPlainStep {S : Type 0} (m : GameModel S) (side : Side) (s : S) (tot
   pub proves : (reply : ℕ) → reply < m.moves (other_side side) s → IsNoTighter side (pos total *ℤ bound) (sum_below (m.moves side s) (λ own. pos (slice_index weights own) *ℤ numbers own reply))
 
 pub data IsPlainBacked {S : Type 0} (m : GameModel S) (side : Side) : S → ℤ → Type 0 where
-  by_opening : (s : S) (bound : ℤ) → IsNoTighter side bound (opening_bound m side) → IsPlainBacked m side s bound
+  by_range : (s : S) (bound : ℤ) → IsNoTighter side bound (state_bound m side s) → IsPlainBacked m side s bound
   by_end : (s : S) (bound : ℤ) → IsEnd m s → IsNoTighter side bound (end_bound m s) → IsPlainBacked m side s bound
   by_step : (s : S) (bound : ℤ) (total : ℕ) (weights : List ℕ) (numbers : ℕ → ℕ → ℤ) → IsPlainStep m side s total weights numbers bound
-      → ((own reply : ℕ) → own < m.moves side s → reply < m.moves (other_side side) s → 1 ≤ slice_index weights own → IsPlainBacked m side (next_of m side s own reply) (numbers own reply))
+      → ((own reply : ℕ) → own < m.moves side s → reply < m.moves (other_side side) s → 1 ≤ slice_index weights own
+      → IsPlainBacked m side (next_of m side s own reply) (numbers own reply -ℤ pos bound_scale *ℤ reward_of m side s own reply))
       → IsPlainBacked m side s bound
 
 -- the state is the root, or follows such a state that has a row, by an own move of positive weight and a reply
@@ -51,9 +53,9 @@ pub record IsPlainRow {S : Type 0} (m : GameModel S) (side : Side) (total : ℕ)
   pub state : S
   pub is_key : m.key state ≡ r.key
   pub reached : IsPlainReached m side (row_at rows) state
-  pub low : IsNoTighter One (opening_bound m One) r.bound
-  pub high : IsNoTighter Two (opening_bound m Two) r.bound
-  pub step : IsPlainStep m side state total r.weights (λ own reply. bound_at m side rows (next_of m side state own reply)) r.bound
+  pub low : IsNoTighter One (state_bound m One state) r.bound
+  pub high : IsNoTighter Two (state_bound m Two state) r.bound
+  pub step : IsPlainStep m side state total r.weights (λ own reply. pos bound_scale *ℤ reward_of m side state own reply +ℤ bound_at m side rows (next_of m side state own reply)) r.bound
 
 pub record IsPlainLawful {S : Type 0} (m : GameModel S) (sheet : Sheet) : Type 0 where
   pub rising : IsStrictlyIncreasing (map (λ r. r.key) sheet.rows)

@@ -1,5 +1,5 @@
 -- Games without draws: one state follows a move of each side.
-use Rattle.std.specs.Prelude.{◌≢◌, ℕ, zero, suc, ◌+◌, ◌<◌, ◌≤◌}
+use Rattle.std.specs.Prelude.{◌≢◌, ℕ, zero, suc, ◌+◌, ◌<◌, ◌≤◌, ℤ}
 use Rattle.sim_game.specs.declared.Side.{Side}
 use Rattle.sim_game.specs.declared.Side.TheVariants.{One, Two}
 use Rattle.sim_game.specs.Model.{GameModel}
@@ -12,6 +12,14 @@ next_state m s a b = m.drawn s a b 0
 -- the state after an own move of a side and a reply
 abbrev pub next_of : {S : Type 0} → GameModel S → Side → S → ℕ → ℕ → S
 next_of m side s own reply = next_state m s (move_of_one side own reply) (move_of_two side own reply)
+
+-- what both moves pay One, besides what follows them
+abbrev pub plain_reward : {S : Type 0} → GameModel S → S → ℕ → ℕ → ℤ
+plain_reward m s a b = m.reward s a b 0
+
+-- the same of an own move of a side and a reply
+abbrev pub reward_of : {S : Type 0} → GameModel S → Side → S → ℕ → ℕ → ℤ
+reward_of m side s own reply = plain_reward m s (move_of_one side own reply) (move_of_two side own reply)
 
 -- the state is the root, or follows such a state
 pub data IsLedTo {S : Type 0} (m : GameModel S) : S → Type 0 where

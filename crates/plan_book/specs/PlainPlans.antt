@@ -1,12 +1,12 @@
 -- Plans for games without draws, whose histories are lists of both sides' moves, and what they guarantee.
-use Rattle.std.specs.Prelude.{ℕ, zero, suc, ◌*◌, ◌^◌, ◌≤◌, ℤ, pos, ◌*ℤ◌, Bool, true, false, ◌&&◌, cond, nat_eq, Option, None, Some, option_map, List, [], ◌∷◌, ◌++◌, length, map, sum, slice_index}
+use Rattle.std.specs.Prelude.{ℕ, zero, suc, ◌*◌, ◌^◌, ◌≤◌, ℤ, pos, ◌+ℤ◌, ◌*ℤ◌, Bool, true, false, ◌&&◌, cond, nat_eq, Option, None, Some, option_map, List, [], ◌∷◌, ◌++◌, length, map, sum, slice_index}
 use Rattle.std.specs.List.{filter_map}
 use Rattle.sim_game.specs.declared.Side.{Side}
 use Rattle.sim_game.specs.declared.Side.TheVariants.{One, Two}
 use Rattle.sim_game.specs.Model.{GameModel, Turn, bound_scale}
 use Rattle.sim_game.specs.Sides.{IsNoTighter}
 use Rattle.sums.specs.Sums.{sum_below}
-use Rattle.plan_book.specs.PlainGames.{next_state}
+use Rattle.plan_book.specs.PlainGames.{next_state, plain_reward}
 use Rattle.plan_book.specs.Plans.{Place, PlanRow, Plan, AtKey, AtHistory, one_move}
 
 -- a move of each side
@@ -45,7 +45,7 @@ plain_row_weights (r ∷ rows) key history count total =
 abbrev pub plain_weights : {S : Type 0} → GameModel S → Side → PlainPlan → S → List Moves → List ℕ
 plain_weights m side plan s history = plain_row_weights plan.rows (m.key s) history (m.moves side s) plan.total
 
--- the expected payoff from a state, times the product of both totals for each of so many turns
+-- the expected sum of what is paid from a state on, times the product of both totals for each of so many turns
 abbrev pub plain_sum : {S : Type 0} → GameModel S → PlainPlan → PlainPlan → ℕ → S → List Moves → ℤ
 plain_sum m one two zero s history = m.payoff s
 plain_sum m one two (suc turns) s history =
@@ -53,7 +53,7 @@ plain_sum m one two (suc turns) s history =
     (pos ((one.total * two.total) ^ suc turns) *ℤ m.payoff s)
     (sum_below (m.moves One s) (λ a. sum_below (m.moves Two s) (λ b.
     pos (slice_index (plain_weights m One one s history) a * slice_index (plain_weights m Two two s history) b)
-    *ℤ plain_sum m one two turns (next_state m s a b) (history ++ record { one = a; two = b } ∷ []))))
+    *ℤ (pos ((one.total * two.total) ^ turns) *ℤ plain_reward m s a b +ℤ plain_sum m one two turns (next_state m s a b) (history ++ record { one = a; two = b } ∷ [])))))
 
 -- the same of a plan of a side and one of the other side
 abbrev pub plain_sum_of : {S : Type 0} → GameModel S → Side → PlainPlan → PlainPlan → ℕ → S → List Moves → ℤ

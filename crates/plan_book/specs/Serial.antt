@@ -4,7 +4,7 @@ use Rattle.sim_game.specs.declared.Side.{Side}
 use Rattle.sim_game.specs.declared.Side.TheVariants.{One, Two}
 use Rattle.sim_game.specs.Model.{GameModel}
 use Rattle.sums.specs.Sums.{count_below}
-use Rattle.sim_game.specs.Sides.{other_side, better, end_bound, child_of}
+use Rattle.sim_game.specs.Sides.{other_side, better, end_bound, over_turns}
 use Rattle.plan_book.specs.Steps.{cell}
 
 -- the best for a side of f 0 to f last
@@ -19,7 +19,7 @@ serial_within m side (suc turns) s =
     cond (nat_eq (m.rank s) 0)
     (end_bound m s)
     (best_upto side (m.moves side s - 1) (λ own. best_upto (other_side side) (m.moves (other_side side) s - 1) (λ reply.
-    cell m side s (λ a b d. serial_within m side turns (child_of m side s a b d)) own reply)))
+    cell m side s (over_turns m side s (λ t. serial_within m side turns t)) own reply)))
 
 abbrev pub serial_bound : {S : Type 0} → GameModel S → Side → S → ℤ
 serial_bound m side s = serial_within m side (m.rank s) s

@@ -1,12 +1,13 @@
 -- Sheets: a plan of a side with a bound in each of its states.
-use Rattle.std.specs.Prelude.{◌≡◌, ℕ, ◌≤◌, ℤ, pos, ◌*ℤ◌, ◌≤ℤ◌, nat_eq, cond, Option, None, Some, IsSomeAnd, List, [], ◌∷◌, slice_index, map, All}
+use Rattle.std.specs.Prelude.{◌≡◌, ℕ, ◌≤◌, ℤ, ◌≤ℤ◌, nat_eq, cond, Option, None, Some, IsSomeAnd, List, [], ◌∷◌, slice_index, map, All}
 use Rattle.std.specs.List.Sorted.{IsStrictlyIncreasing}
 use Rattle.sim_game.specs.declared.Side.{Side}
-use Rattle.sim_game.specs.Model.{GameModel, Turn, IsTurn, after_turn, after_history, bound_scale}
+use Rattle.sim_game.specs.declared.Side.TheVariants.{One, Two}
+use Rattle.sim_game.specs.Model.{GameModel, Turn, IsTurn, after_turn, after_history}
 use Rattle.plan_book.specs.declared.Sheet.{Sheet}
 use Rattle.plan_book.specs.declared.SheetRow.{SheetRow}
 use Rattle.plan_book.specs.Plans.{Plan, AtKey}
-use Rattle.sim_game.specs.Sides.{opening_bound, end_bound, own_move, child_of}
+use Rattle.sim_game.specs.Sides.{state_bound, end_bound, own_move, over_turns}
 use Rattle.plan_book.specs.Steps.{IsStep}
 
 -- the first row of the key
@@ -15,10 +16,10 @@ row_at [] key = None
 row_at (r ∷ rows) key = cond (nat_eq r.key key) (Some r) (row_at rows key)
 
 abbrev pub bound_or : {S : Type 0} → GameModel S → Side → S → Option SheetRow → ℤ
-bound_or m side s None = cond (nat_eq (m.rank s) 0) (end_bound m s) (opening_bound m side)
+bound_or m side s None = cond (nat_eq (m.rank s) 0) (end_bound m s) (state_bound m side s)
 bound_or m side s (Some r) = r.bound
 
--- the bound of the state's row, else the payoff of an end, else the opening bound
+-- the bound of the state's row, else the payoff of an end, else what holds of every value of the state
 abbrev pub bound_at : {S : Type 0} → GameModel S → Side → List SheetRow → S → ℤ
 bound_at m side rows s = bound_or m side s (row_at rows (m.key s))
 
@@ -37,14 +38,14 @@ pub record IsReached {S : Type 0} (m : GameModel S) (side : Side) (rows : ℕ �
   pub kept : IsKeptHistory m side rows m.root history
   pub leads : after_history m m.root history ≡ s
 
--- the row proves its bound over the bounds of the sheet
+-- the row proves its bound, which lies in the range of its state, over the bounds of the sheet
 pub record IsLawfulRow {S : Type 0} (m : GameModel S) (side : Side) (total : ℕ) (rows : List SheetRow) (r : SheetRow) : Type 0 where
   pub state : S
   pub is_key : m.key state ≡ r.key
   pub reached : IsReached m side (row_at rows) state
-  pub low : (pos bound_scale *ℤ m.low) ≤ℤ r.bound
-  pub high : r.bound ≤ℤ (pos bound_scale *ℤ m.high)
-  pub step : IsStep m side state total r.weights (λ own reply draw. bound_at m side rows (child_of m side state own reply draw)) r.bound
+  pub low : state_bound m One state ≤ℤ r.bound
+  pub high : r.bound ≤ℤ state_bound m Two state
+  pub step : IsStep m side state total r.weights (over_turns m side state (bound_at m side rows)) r.bound
 
 pub record IsLawful {S : Type 0} (m : GameModel S) (sheet : Sheet) : Type 0 where
   pub rising : IsStrictlyIncreasing (map (λ r. r.key) sheet.rows)

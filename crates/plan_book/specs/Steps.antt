@@ -1,4 +1,4 @@
--- How weights and numbers at the children of a state prove a bound there.
+-- How weights and numbers of the turns from a state prove a bound there.
 use Rattle.std.specs.Prelude.{◌≡◌, ℕ, ◌<◌, ◌≤◌, ℤ, pos, ◌*ℤ◌, List, length, sum, slice_index}
 use Rattle.sim_game.specs.declared.Side.{Side}
 use Rattle.sim_game.specs.Model.{GameModel, whole_chance}
@@ -17,7 +17,7 @@ cell m side s numbers own reply = rounded side (sum_below (draws_of m side s own
 abbrev pub worth : {S : Type 0} → GameModel S → Side → S → List ℕ → (ℕ → ℕ → ℕ → ℤ) → ℕ → ℤ
 worth m side s weights numbers reply = sum_below (m.moves side s) (λ own. pos (slice_index weights own) *ℤ cell m side s numbers own reply)
 
--- the weights and the numbers at the children prove the bound at the state
+-- the weights and the numbers of the turns prove the bound at the state
 pub record IsStep {S : Type 0} (m : GameModel S) (side : Side) (s : S) (total : ℕ) (weights : List ℕ) (numbers : ℕ → ℕ → ℕ → ℤ) (bound : ℤ) : Type 0 where
   pub goes_on : 1 ≤ m.rank s
   pub one_each : length weights ≡ m.moves side s

@@ -6,9 +6,10 @@ ghost use Rattle.sim_game.specs.Model.{Reachable};
 ghost use Rattle.plan_book.specs.Sheets.{row_at, bound_at};
 
 use crate::{Sheet, SheetRow};
-use sim_game::{Game, end_bound, opening_bound};
+use sim_game::{Game, end_bound, state_bound};
 
-/// The bound of the state's row, else the payoff of an end, else what holds of every state; in millionths.
+/// The bound of the state's row, else the payoff of an end, else what holds of every value of the state; in
+/// millionths.
 pub fn bound_of<G: Game>(g: G, sheet: &Sheet, s: G::State) -> i64
     requires rising { IsStrictlyIncreasing (map (λ r. r.key) sheet.now.rows) }
     requires reachable { Reachable (G.model g) s }
@@ -21,7 +22,7 @@ pub fn bound_of<G: Game>(g: G, sheet: &Sheet, s: G::State) -> i64
             if g.rank(s) == 0 {
                 end_bound(g, s)
             } else {
-                opening_bound(g, sheet.side)
+                state_bound(g, sheet.side, s)
             }
         }
     }

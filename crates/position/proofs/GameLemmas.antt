@@ -35,8 +35,8 @@ one_game (texts.GoofspielDrawn one two prizes score pay) (GoofspielDrawn g) (Goo
 one_game (texts.GoofspielDrawn one two prizes score pay) (GoofspielDrawn g) h p q = absurd q
 one_game (texts.Pursuit nodes edges one two rounds) (Pursuit g) (Pursuit h) p q = (h, refl, pursuit_position.one_setting nodes edges one two rounds g.setting h.setting p q)
 one_game (texts.Pursuit nodes edges one two rounds) (Pursuit g) h p q = absurd q
-one_game (texts.Table ranks moves values cells draws) (Table g) (Table h) p q = (h, refl, p ∙ sym q)
-one_game (texts.Table ranks moves values cells draws) (Table g) h p q = absurd q
+one_game (texts.Table ranks moves values cells draws rewards) (Table g) (Table h) p q = (h, refl, p ∙ sym q)
+one_game (texts.Table ranks moves values cells draws rewards) (Table g) h p q = absurd q
 one_game text g h p q = absurd p
 
 -- a property of the model of one is one of that of the other
@@ -58,7 +58,7 @@ is_game (OshiZumo g) = oshi_zumo_is_game g.setting g.valid
 is_game (Tron g) = tron_is_game g.setting g.valid
 is_game (GoofspielDrawn g) = drawn_is_game g.setting g.valid
 is_game (Pursuit g) = pursuit_is_game g.setting g.valid
-is_game (Table g) = table_is_game (lists_of g.setting) g.valid
+is_game (Table g) = table_is_game (lists_of g.setting) g.valid g.small
 
 -- what follows from a property of the game
 pub of_game_weaker : (text : PositionText) (P Q : (S : Type 0) → GameModel S → Type 0) → ((S : Type 0) (m : GameModel S) → P S m → Q S m) → OfGame text P → OfGame text Q

@@ -1,3 +1,4 @@
 pub mod ValueLemmas
 pub mod JsonLemmas
 pub mod GameLemmas
+pub mod FieldLemmas

@@ -1,6 +1,6 @@
 -- The games, one by one: the position that an object gives, the first rule that it breaks, what is told of it, and the
 -- model of its game.
-use Rattle.std.specs.Prelude.{◌≡◌, ℕ, Bool, true, false, if◌then◌else◌, List, [], ◌++◌, codes, Option, option_map, Result, Ok}
+use Rattle.std.specs.Prelude.{◌≡◌, ⊤, ℕ, ℤ, Bool, true, false, if◌then◌else◌, List, [], ◌++◌, codes, Option, option_map, Result, Ok}
 use Rattle.serde_json.specs.Data.{Data}
 use Rattle.sim_game.specs.Model.{GameModel}
 use Rattle.goofspiel.specs.declared.Goofspiel.{Goofspiel as GoofspielGame}
@@ -33,6 +33,7 @@ use Rattle.table.specs.Lists.{lists_from}
 use Rattle.table.specs.Refusals as table_refusals
 use Rattle.table.specs.Rules.{table_game}
 use Rattle.table.specs.Setting.{lists_of, IsSettingOf}
+use Rattle.fields.specs.declared.positions.Limits.TheVariants.{Wide}
 use Rattle.fields.specs.declared.positions.GameKind.{GameKind}
 use Rattle.fields.specs.declared.positions.GameKind.TheVariants as kinds
 use Rattle.fields.specs.declared.positions.PositionText.{PositionText}
@@ -53,7 +54,7 @@ is_table game = false
 
 unfoldable pub position_text_in : GameKind → Data → Result PositionText InputError
 position_text_in game d = if is_table game then states_at d else do
-  vs ← values_at (fields_of game) d
+  vs ← values_at (fields_of Wide game) d
   Ok (position_with game vs)
 
 -- ---- what is told of a refusal
@@ -98,7 +99,12 @@ fault_of (texts.OshiZumo size one two least place) = option_map errors.OshiZumo 
 fault_of (texts.Tron height width walls one two) = option_map errors.Tron (tron.first_fault height width walls one two)
 fault_of (texts.GoofspielDrawn one two prizes score pay) = option_map errors.Goofspiel (goofspiel.first_fault one two prizes score)
 fault_of (texts.Pursuit nodes edges one two rounds) = option_map errors.Pursuit (pursuit.first_fault nodes edges one two rounds)
-fault_of (texts.Table ranks moves values cells draws) = option_map errors.Table (table.first_fault (lists_from ranks moves values cells draws))
+fault_of (texts.Table ranks moves values cells draws rewards) = option_map errors.Table (table.first_fault (lists_from ranks moves values cells draws rewards))
+
+-- these are the totals of the position's states, where the game keeps some beside the text
+abbrev pub HasTotalsOf : PositionText → List ℤ → Type 0
+HasTotalsOf (texts.Table ranks moves values cells draws rewards) totals = table.HasTotals (lists_from ranks moves values cells draws rewards) totals
+HasTotalsOf text totals = ⊤
 
 -- the game is of the same kind, and its setting is that of the position
 abbrev pub IsGameOf : PositionText → AnyGame → Type 0
@@ -107,7 +113,7 @@ IsGameOf (texts.OshiZumo size one two least place) (OshiZumo g) = oshi_zumo.IsSe
 IsGameOf (texts.Tron height width walls one two) (Tron g) = tron.IsSettingOf height width walls one two g.setting
 IsGameOf (texts.GoofspielDrawn one two prizes score pay) (GoofspielDrawn g) = goofspiel.IsSettingOf one two prizes score pay g.setting
 IsGameOf (texts.Pursuit nodes edges one two rounds) (Pursuit g) = pursuit.IsSettingOf nodes edges one two rounds g.setting
-IsGameOf (texts.Table ranks moves values cells draws) (Table g) = IsSettingOf ranks moves values cells draws g.setting
+IsGameOf (texts.Table ranks moves values cells draws rewards) (Table g) = IsSettingOf ranks moves values cells draws rewards g.setting
 IsGameOf text game = ⊥
 
 -- ---- its model

@@ -1,15 +1,17 @@
 -- The positions that have a game.
-use Rattle.std.specs.Prelude.{◌≡◌, List, [], ◌∷◌, false, is_some}
+use Rattle.std.specs.Prelude.{◌≡◌, ℤ, List, [], ◌∷◌, false, is_some}
 use Rattle.std.proofs.Props.{props}
 use Rattle.fields.specs.declared.field.FieldKind.{FieldKind}
 use Rattle.fields.specs.declared.field.FieldKind.TheVariants as holds
 use Rattle.fields.specs.declared.field.Value.{Value}
 use Rattle.fields.specs.declared.field.Value.TheVariants as values
+use Rattle.fields.specs.declared.positions.Limits.TheVariants.{Wide}
 use Rattle.fields.specs.declared.positions.PositionText.{PositionText}
+use Rattle.fields.specs.declared.positions.PositionText.TheVariants as texts
 use Rattle.fields.specs.Fields.{Fits, AllFit}
 use Rattle.fields.specs.Positions.{kind_of, kinds_of, values_of}
 use Rattle.fields.specs.Ranges.{IsPositionInRange}
-use Rattle.position.specs.Games.{fault_of}
+use Rattle.position.specs.Games.{fault_of, HasTotalsOf}
 
 -- the position has a line and breaks no rule, so that a game is built of it
 pub record HasGame (text : PositionText) : Type 0 where
@@ -21,6 +23,7 @@ Fits-prop : (kind : FieldKind) (v : Value) → IsProp (Fits kind v)
 Fits-prop (holds.Number low high) (values.Number z) = hlevel props
 Fits-prop (holds.List most) (values.List ns) = hlevel props
 Fits-prop (holds.Numbers low high most) (values.Numbers zs) = hlevel props
+Fits-prop (holds.Optional low high most) (values.Optional zs) = hlevel props
 Fits-prop (holds.Word choices) (values.Word w) = hlevel props
 Fits-prop kind v = hlevel props
 
@@ -31,4 +34,8 @@ AllFit-prop (k ∷ ks) [] = hlevel props
 AllFit-prop (k ∷ ks) (v ∷ vs) = hlevel (Fits-prop k v, AllFit-prop ks vs)
 
 pub HasGame-prop : (text : PositionText) → IsProp (HasGame text)
-HasGame-prop text = hlevel (props, AllFit-prop (kinds_of (kind_of text)) (values_of text))
+HasGame-prop text = hlevel (props, AllFit-prop (kinds_of Wide (kind_of text)) (values_of text))
+
+pub HasTotalsOf-prop : (text : PositionText) (totals : List ℤ) → IsProp (HasTotalsOf text totals)
+HasTotalsOf-prop (texts.Table ranks moves values cells draws rewards) totals = hlevel props
+HasTotalsOf-prop text totals = hlevel props

@@ -13,6 +13,7 @@ use Rattle.fields.specs.declared.field.Absent.{Absent}
 use Rattle.fields.specs.declared.field.Absent.TheVariants.{Refused, Number, Word}
 use Rattle.fields.specs.declared.field.Value.{Value}
 use Rattle.fields.specs.declared.field.Value.TheVariants as values
+use Rattle.fields.specs.declared.positions.Limits.TheVariants.{Wide}
 use Rattle.fields.specs.declared.positions.GameKind.{GameKind}
 use Rattle.fields.specs.declared.ask.TheConstants.{ASK}
 use Rattle.fields.specs.Fields.{name_of, word_in, FieldRow, AskRow, Fits}
@@ -105,7 +106,7 @@ names_of (member name d ms) = name ∷ names_of ms
 abbrev pub is_known : GameKind → List ℕ → Bool
 is_known game name =
     bytes_eq (name_of fields.Game) name
-    || (list_any (λ (row : FieldRow). bytes_eq (name_of row.0) name) (fields_of game) || list_any (λ (row : AskRow). bytes_eq (name_of row.0) name) ASK)
+    || (list_any (λ (row : FieldRow). bytes_eq (name_of row.0) name) (fields_of Wide game) || list_any (λ (row : AskRow). bytes_eq (name_of row.0) name) ASK)
 
 unfoldable pub members_at : Data → Result Members InputError
 members_at d = or_refuse (as_object d) errors.NotObject
@@ -127,6 +128,7 @@ value_at field (holds.List most) d = do
   Ok (values.List ns)
 -- reports alone have such lists
 value_at field (holds.Numbers low high most) d = Err (errors.Kind field)
+value_at field (holds.Optional low high most) d = Err (errors.Kind field)
 value_at field (holds.Word choices) d = do
   text ← text_at field d
   w ← or_refuse (word_in choices text) (errors.Range field)

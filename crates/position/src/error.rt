@@ -21,3 +21,11 @@ impl<T: Drop> From<AllocFailed<T>> for InputError {
         InputError::NoMemory
     }
 }
+
+impl From<sim_game::NoMemory> for InputError {
+    ghost from_gives = { λ _ e. e ≡ NoMemory };
+
+    fn from(_: sim_game::NoMemory) -> Self {
+        InputError::NoMemory
+    }
+}

@@ -9,15 +9,16 @@ ghost use Rattle.fields.specs.declared.positions.PositionText.{PositionText};
 ghost use Rattle.fields.specs.Ranges.{IsPositionInRange};
 ghost use Rattle.position.specs.declared.games.AnyGame.{AnyGame};
 ghost use Rattle.position.specs.Objects.{Gives};
-ghost use Rattle.position.specs.Games.{code_of, words_of, is_table, position_text_in, fault_of, IsGameOf, model_of, OfSame, IsSameGame};
+ghost use Rattle.position.specs.Games.{code_of, words_of, is_table, position_text_in, fault_of, HasTotalsOf, IsGameOf, model_of, OfSame, IsSameGame};
 ghost use Rattle.position.specs.HasGame.{HasGame};
 
 use crate::object::values;
 use crate::states::states_in;
-use fields::{Field, GameKind, PositionText};
+use fields::{Field, GameKind, Limits, PositionText};
 use goofspiel::{Goofspiel, GoofspielDrawn, GoofspielError};
 use oshi_zumo::{OshiError, OshiZumo};
 use pursuit::{Pursuit, PursuitError};
+use seq::Seq;
 use serde_json::Value;
 use sim_game::{Game, NoMemory};
 use std::alloc::Global;
@@ -182,9 +183,40 @@ impl<'a> AnyGame<'a> {
     }
 }
 
-/// The game of the position, or the first of its rules that the position breaks. Takes no memory.
-pub fn build(text: &PositionText) -> Result<AnyGame, InputError>
+/// What the game of a table keeps beside the text: where turns pay, two numbers for each state. Empty for other games.
+pub fn totals(alloc: Global, text: &PositionText) -> Result<Seq<i32>, NoMemory>
     requires { IsPositionInRange text.now }
+    ensures { IfOk result (HasTotalsOf text.now) }
+{
+    match text {
+        PositionText::Table {
+            ranks,
+            moves,
+            values,
+            cells,
+            draws,
+            rewards,
+        } => {
+            let totals = table::totals(
+                alloc,
+                ranks.as_slice(),
+                moves.as_slice(),
+                values.as_slice(),
+                cells.as_slice(),
+                draws.as_slice(),
+                rewards.as_slice(),
+            )?;
+            Ok(Seq::from_vec(totals))
+        }
+        _ => Ok(Seq::from_vec(Vec::new(alloc))),
+    }
+}
+
+/// The game of the position, or the first of its rules that the position breaks. Takes no memory: the game borrows the
+/// text and its totals.
+pub fn build<'a>(text: &'a PositionText, totals: &'a Seq<i32>) -> Result<AnyGame<'a>, InputError>
+    requires text { IsPositionInRange text.now }
+    requires totals { HasTotalsOf text.now totals.now }
     ensures { MatchResult result
         (λ game. (fault_of text.now ≡ None) × IsGameOf text.now game)
         (λ fault. fault_of text.now ≡ Some fault) }
@@ -258,12 +290,15 @@ pub fn build(text: &PositionText) -> Result<AnyGame, InputError>
             values,
             cells,
             draws,
+            rewards,
         } => match Table::new(
             ranks.as_slice(),
             moves.as_slice(),
             values.as_slice(),
             cells.as_slice(),
             draws.as_slice(),
+            rewards.as_slice(),
+            totals.as_slice(),
         ) {
             Ok(game) => Ok(AnyGame::Table(game)),
             Err(fault) => Err(InputError::Table(fault)),
@@ -272,11 +307,12 @@ pub fn build(text: &PositionText) -> Result<AnyGame, InputError>
 }
 
 /// The game of a position that breaks no rule of it.
-pub fn game_of(text: &PositionText) -> AnyGame
-    requires { HasGame text.now }
+pub fn game_of<'a>(text: &'a PositionText, totals: &'a Seq<i32>) -> AnyGame<'a>
+    requires text { HasGame text.now }
+    requires totals { HasTotalsOf text.now totals.now }
     ensures { IsGameOf text.now result }
 {
-    match build(text) {
+    match build(text, totals) {
         Ok(game) => game,
         Err(_) => unreachable!(),
     }
@@ -308,6 +344,6 @@ pub(crate) fn position_text(
     if is_table(game) {
         return states_in(alloc, object);
     }
-    let values = values(alloc, game.fields(), object)?;
+    let values = values(alloc, game.fields(Limits::Wide), object)?;
     Ok(PositionText::with_values(game, values))
 }

@@ -13,6 +13,6 @@ pub use devices::{
     StdSource, read_all, write_all,
 };
 pub use fields::Field;
-pub use games::{AnyGame, GameVisitor, InputError, build, game_of, position_has_one_game};
+pub use games::{AnyGame, GameVisitor, InputError, build, game_of, position_has_one_game, totals};
 pub use reading::position;
 pub use task::Task;

@@ -7,13 +7,14 @@ ghost use Rattle.serde_json.specs.View.{view, items_view, members_view};
 ghost use Rattle.fields.specs.declared.ask.TheConstants.{ASK};
 ghost use Rattle.fields.specs.Asks.{asked_kinds};
 ghost use Rattle.fields.specs.Fields.{name_of, Fits, AllFit};
+ghost use Rattle.fields.specs.Positions.{kinds_in};
 ghost use Rattle.fields.specs.Ranges.{IsByteList};
 ghost use Rattle.position.specs.Objects.{Gives, member_at, whole_at, between, text_at, json_of, byte_in, is_byte, bytes_in, bytes_at, is_known, known_at, items_at, members_at, value_at, values_at, IsDefaultOf, asked_at, all_asked_at};
 ghost use Rattle.table_text.specs.Elements.{is_whole};
 
 use crate::{Field, InputError};
 use fields::{
-    ASK, ASKED, Absent, AskRow, FIELDS, FieldKind, FieldRow, GameKind, Value as FieldValue,
+    ASK, ASKED, Absent, AskRow, FieldKind, FieldRow, GameKind, Limits, Value as FieldValue,
     each_asked,
 };
 use seq::Seq;
@@ -162,7 +163,7 @@ fn is_known(game: GameKind, name: &str) -> bool
     if Field::Game.name() == name {
         return true;
     }
-    if is_of_game(game.fields(), name) {
+    if is_of_game(game.fields(Limits::Wide), name) {
         return true;
     }
     is_asked(&ASK, name)
@@ -213,7 +214,7 @@ fn value(
             Ok(FieldValue::List(ns))
         }
         // Reports alone have such lists: an object tells those of a table by its states.
-        FieldKind::Numbers(..) => Err(InputError::Kind { field }),
+        FieldKind::Numbers(..) | FieldKind::Optional(..) => Err(InputError::Kind { field }),
         FieldKind::Word(choices) => {
             let text = text(field, object)?;
             let word = choices
@@ -225,22 +226,23 @@ fn value(
 }
 
 /// The values of the fields of a game.
-#[tactic(auto, unfolding(crate::specs::Objects::values_at))]
 pub(crate) fn values(
     alloc: Global,
-    rows: &[FieldRow; FIELDS],
+    rows: &[FieldRow],
     object: &Value,
-) -> Result<[FieldValue; FIELDS], InputError>
-    ensures exact { Gives (λ vs. vs) result (values_at rows.now (view object.now)) }
-    ensures fits { IfOk result (AllFit (map (λ row. row.1) rows.now)) }
+) -> Result<Vec<FieldValue>, InputError>
+    ensures exact { Gives (λ vs. vs.items) result (values_at rows.now (view object.now)) }
+    ensures fits { IfOk result (λ vs. AllFit (kinds_in rows.now) vs.items) }
 {
-    let [a, b, c, d, e] = *rows;
-    let a = value(alloc, a.0, a.1, object)?;
-    let b = value(alloc, b.0, b.1, object)?;
-    let c = value(alloc, c.0, c.1, object)?;
-    let d = value(alloc, d.0, d.1, object)?;
-    let e = value(alloc, e.0, e.1, object)?;
-    Ok([a, b, c, d, e])
+    let mut values = Vec::new(alloc);
+    for row in rows {
+        let value = match value(alloc, row.0, row.1, object) {
+            Ok(value) => value,
+            Err(e) => return Err(e),
+        };
+        values.push(value)?;
+    }
+    Ok(values)
 }
 
 /// A field of what is asked, or its default where it is absent and has one.

@@ -7,7 +7,7 @@ ghost use Rattle.position.specs.Position.{Gives, game_at, ask_at, object_at, tas
 
 use crate::games::position_text;
 use crate::object::{all_asked, json, only_known, text};
-use crate::{Field, InputError, Task, build};
+use crate::{Field, InputError, Task, build, totals};
 use fields::{Ask, GameKind};
 use serde_json::Value;
 use std::alloc::Global;
@@ -55,8 +55,9 @@ fn task_in(alloc: Global, object: &Value) -> Result<Task, InputError>
     only_known(kind, object)?;
     let text = position_text(alloc, kind, object)?;
     let ask = ask(alloc, object)?;
-    build(&text)?;
-    Ok(Task { text, ask })
+    let totals = totals(alloc, &text)?;
+    build(&text, &totals)?;
+    Ok(Task { text, totals, ask })
 }
 
 /// The position and what is asked, or the first refusal: of the bytes, of the object, of the game's name,

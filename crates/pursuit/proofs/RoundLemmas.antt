@@ -1,11 +1,11 @@
 -- More rounds never make One's serial bound worse.
-use Rattle.std.proofs.Common.{◌≡◌, ℕ, zero, suc, ◌-◌, ◌≤◌, ℤ, pos, neg_ℤ, ◌*ℤ◌, ◌≤ℤ◌, Bool, true, false, cond, List, length, get_or, refl, sym, ap, subst, ◌∙◌, inl, inr, arith}
+use Rattle.std.proofs.Common.{◌≡◌, ℕ, zero, suc, ◌-◌, ◌≤◌, ℤ, pos, neg_ℤ, ◌+ℤ◌, ◌*ℤ◌, ◌≤ℤ◌, Bool, true, false, cond, List, length, get_or, refl, sym, ap, subst, ◌∙◌, inl, inr, arith}
 use Rattle.std.proofs.lemmas.Bool.{cases_Bool, cases_eq, eq-eqb, ne_eqb}
 use Rattle.std.proofs.lemmas.Int.{ints, clamps}
 use Rattle.sums.proofs.IntegerLemmas.{int_le_refl}
 use Rattle.sim_game.specs.declared.Side.{Side}
 use Rattle.sim_game.specs.declared.Side.TheVariants.{One, Two}
-use Rattle.sim_game.specs.Sides.{better, end_bound, child_of}
+use Rattle.sim_game.specs.Sides.{better, end_bound, child_of, over_turns}
 use Rattle.plan_book.specs.Serial.{best_upto, serial_within, serial_bound}
 use Rattle.plan_book.specs.Steps.{cell}
 use Rattle.plan_book.proofs.StepLemmas.{cell_mono, rounded_tightest}
@@ -58,6 +58,9 @@ more_after s t one two more = record {
   rounds = let rounds = more.rounds in omega arith;
 }
 
+no_reward : (x y : ℤ) → x ≤ℤ y → (pos 1000000 *ℤ pos 0 +ℤ x) ≤ℤ (pos 1000000 *ℤ pos 0 +ℤ y)
+no_reward x y h = omega (arith, ints)
+
 -- ---- serial bounds on one graph
 module _ (r : Graph) where
   abbrev within : State → ℕ → State → ℤ
@@ -66,7 +69,7 @@ module _ (r : Graph) where
   -- the best against the best reply, of so many moves
   abbrev stepped : State → ℕ → State → ℕ → ℕ → ℤ
   stepped first turns s one two =
-      best_upto One one (λ own. best_upto Two two (λ reply. cell (game_from r first) One s (λ a b d. within first turns (child_of (game_from r first) One s a b d)) own reply))
+      best_upto One one (λ own. best_upto Two two (λ reply. cell (game_from r first) One s (over_turns (game_from r first) One s (within first turns)) own reply))
 
   within_end : (first : State) (turns : ℕ) (s : State) → pursuit_rank s ≡ 0 → within first turns s ≡ end_bound (game_from r first) s
   within_end first zero s h = refl
@@ -84,7 +87,8 @@ module _ (r : Graph) where
     | inl stop ↦ rw (within_end first (suc turns) s stop) (end_least s.caught)
     | inr on ↦ rw (within_step first turns s (omega arith))
         (upto_least One (length (ways r One s) - 1) _ least (λ own. upto_least Two (length (ways r Two s) - 1) _ least (λ reply.
-        cell_least first s (λ a b d. within first turns (child_of (game_from r first) One s a b d)) own reply (within_least first turns _))))
+        cell_least first s (over_turns (game_from r first) One s (within first turns)) own reply
+        (omega (arith, ints, within_least first turns (child_of (game_from r first) One s own reply 0))))))
   ]
 
   same_ways : (side : Side) (s t : State) → HasMoreRounds s t → 1 ≤ pursuit_rank s → ways r side s ≡ ways r side t
@@ -131,8 +135,8 @@ module _ (r : Graph) where
         let later : within last (suc k) t ≡ stepped last k t one two = within_step last k t also ∙ counts in
         rw (within_step first n s some, later)
         (upto_mono One one _ _ (λ own. upto_mono Two two _ _ (λ reply.
-        cell_mono (game_from r first) One s (λ a b d. within first n (child_of (game_from r first) One s a b d)) (λ a b d. within last k (child_of (game_from r last) One t a b d)) own reply
-        (λ d u. more_within first last n k _ _ (more_child first last s t own reply d more some) (child_rank first s own reply d n some p) (child_rank last t own reply d k also q)))))
+        cell_mono (game_from r first) One s (over_turns (game_from r first) One s (within first n)) (over_turns (game_from r last) One t (within last k)) own reply
+        (λ d u. no_reward _ _ (more_within first last n k _ _ (more_child first last s t own reply d more some) (child_rank first s own reply d n some p) (child_rank last t own reply d k also q))))))
   ]
 
   pub more_bound : (first last s t : State) → HasMoreRounds s t → serial_bound (game_from r first) One s ≤ℤ serial_bound (game_from r last) One t

@@ -199,8 +199,12 @@ module _ (g : Setting) (p : IsPosition g) where
     moves_high = λ side s r. ways_few (is_chase_over s) (reach (graph_of g) (node_of side s)) (width_of (graph_of g)) (few_ways side s (pursuit_sound s r));
     rank_high = λ s r. omega (arith, rank_below s.caught s.rounds 31 (omega (arith, (pursuit_sound s r).rounds_high, p.rounds_high)));
     rank_falls = λ s t r turn. rank_falls s t turn;
+    least_low = λ s r. omega (arith, ints);
+    most_high = λ s r. omega (arith, ints);
     payoff_low = λ s r h. (payoff_small s.caught).0;
     payoff_high = λ s r h. (payoff_small s.caught).1;
+    reward_low = λ s t r turn. omega (arith, ints);
+    reward_high = λ s t r turn. omega (arith, ints);
     same_key = λ s t r r' e. equal_keys s t (pursuit_sound s r) (pursuit_sound t r') e;
     key_high = λ s r. let here = pursuit_sound s r in omega (arith, bit_small s.caught, here.one_below, here.two_below, here.rounds_high, p.nodes_high, p.rounds_high);
     draws_low = λ s a b r h h'. omega arith;

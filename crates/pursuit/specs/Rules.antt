@@ -72,6 +72,9 @@ game_from r first = record {
   chance = λ s one two draw. whole_chance;
   drawn = λ s one two draw. after_round s (slice_index (ways r One s) one) (slice_index (ways r Two s) two);
   payoff = pursuit_payoff;
+  reward = λ s one two draw. pos 0;
+  least = λ s. neg_ℤ (pos 1);
+  most = λ s. pos 1;
   rank = pursuit_rank;
   key = pursuit_key;
   label = λ side s i. slice_index (ways r side s) i;
@@ -118,6 +121,8 @@ pub record KeepsRules (g : Setting) : Type 0 where
   -- an end is where Two is caught, or where no round is left
   pub ends : (s : State) → IsEnd (pursuit_game g) s ↔ ((s.caught ≡ true) ⊎ (s.rounds ≡ 0))
   pub payoff : (s : State) → (pursuit_game g).payoff s ≡ pursuit_payoff s
+  -- all is paid at the end
+  pub reward : (s : State) (one two draw : ℕ) → (pursuit_game g).reward s one two draw ≡ pos 0
   pub rank : (s : State) → (pursuit_game g).rank s ≡ pursuit_rank s
   pub key : (s : State) → (pursuit_game g).key s ≡ pursuit_key s
   pub low : (pursuit_game g).low ≡ neg_ℤ (pos 1)

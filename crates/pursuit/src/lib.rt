@@ -202,6 +202,21 @@ impl Game for Pursuit {
     }
 
     #[inline]
+    fn reward(&self, _s: State, _a: u32, _b: u32, _d: u32) -> i32 {
+        0
+    }
+
+    #[inline]
+    fn least(&self, _s: State) -> i32 {
+        -1
+    }
+
+    #[inline]
+    fn most(&self, _s: State) -> i32 {
+        1
+    }
+
+    #[inline]
     fn rank(&self, s: State) -> u32 {
         if s.caught { 0 } else { s.rounds as u32 }
     }

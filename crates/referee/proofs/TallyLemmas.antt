@@ -5,7 +5,7 @@ use Rattle.std.specs.Int.{int_max, int_min}
 use Rattle.std.proofs.lemmas.Bool.{cases_lt}
 use Rattle.std.proofs.lemmas.Int.{ints, clamps, by_lt_z}
 use Rattle.std.proofs.Math.IntN.{+ℤ_idl}
-use Rattle.sim_game.specs.Model.{GameModel, IsGame, IsEnd, Reachable, after_turn, after_history}
+use Rattle.sim_game.specs.Model.{GameModel, IsGame, Reachable, after_turn}
 use Rattle.sim_game.proofs.ReachLemmas.{reachable_root, reachable_turn}
 use Rattle.sums.specs.Sums.{sum_below}
 use Rattle.sums.proofs.IntegerLemmas.{int_le_trans}
@@ -16,27 +16,35 @@ use Rattle.referee.specs.declared.Record.{Record}
 use Rattle.referee.specs.declared.Totals.{Totals}
 use Rattle.referee.specs.Streams.{state_after, words_of_game}
 use Rattle.referee.specs.Tallies.{IsLeast, IsMost, AreTotals, game_payoff}
-use Rattle.referee.specs.Transcripts.{as_turn, history_of, IsPlayed, IsRecord, words_needed}
+use Rattle.referee.specs.Transcripts.{as_turn, payoff_after, IsPlayed, IsRecord, words_needed}
 
 -- ---- payoffs are small
-played_to_end : {S : Type 0} (m : GameModel S) (s : S) (turns : List PlayedTurn) → Reachable m s → IsPlayed m s turns
-    → Reachable m (after_history m s (history_of turns)) × IsEnd m (after_history m s (history_of turns))
-played_to_end m s [] r p = (r, p)
-played_to_end m s (t ∷ turns) r p = played_to_end m (after_turn m s (as_turn t)) turns (reachable_turn m s (as_turn t) r p.1) p.2
+above : (pay next here rest : ℤ) → here ≤ℤ (pay +ℤ next) → next ≤ℤ rest → here ≤ℤ (pay +ℤ rest)
+above pay next here rest p q = omega (arith, ints)
+
+below : (pay next here rest : ℤ) → (pay +ℤ next) ≤ℤ here → rest ≤ℤ next → (pay +ℤ rest) ≤ℤ here
+below pay next here rest p q = omega (arith, ints)
+
+-- what turns to an end pay lies in the range of the state
+played_range : {S : Type 0} (m : GameModel S) → IsGame m → (s : S) (turns : List PlayedTurn) → Reachable m s → IsPlayed m s turns
+    → (m.least s ≤ℤ payoff_after m s turns) × (payoff_after m s turns ≤ℤ m.most s)
+played_range m lawful s [] r p = (lawful.payoff_low s r p, lawful.payoff_high s r p)
+played_range m lawful s (t ∷ turns) r p =
+    let rest = played_range m lawful (after_turn m s (as_turn t)) turns (reachable_turn m s (as_turn t) r p.1) p.2 in (
+      above (m.reward s t.one t.two t.draw) (m.least (after_turn m s (as_turn t))) (m.least s) _ (lawful.reward_low s (as_turn t) r p.1) rest.0,
+      below (m.reward s t.one t.two t.draw) (m.most (after_turn m s (as_turn t))) (m.most s) _ (lawful.reward_high s (as_turn t) r p.1) rest.1,
+    )
 
 between : (x : ℤ) → neg_ℤ (pos 4000) ≤ℤ x → x ≤ℤ pos 4000 → unsigned_abs x ≤ 4000
 between x low high = omega (arith, ints)
 
 pub record_small : {S : Type 0} (m : GameModel S) → IsGame m → (one two : Sheet) (words : List ℕ) (r : Record) → IsRecord m one two words r → unsigned_abs r.payoff ≤ 4000
 record_small m lawful one two words r is =
-    let last = after_history m m.root (history_of r.turns) in
-    let ends = played_to_end m m.root r.turns (reachable_root m) is.played in
-    let payoff : r.payoff ≡ m.payoff last = is.payoff ∙ ap (λ (ts : List PlayedTurn). m.payoff (after_history m m.root (history_of ts))) (sym is.turns) in
-    let low : m.low ≤ℤ m.payoff last = lawful.payoff_low last ends.0 ends.1 in
-    let high : m.payoff last ≤ℤ m.high = lawful.payoff_high last ends.0 ends.1 in
-    let least : neg_ℤ (pos 4000) ≤ℤ m.low = lawful.low_least in
-    let most : m.high ≤ℤ pos 4000 = lawful.high_most in
-    rw payoff (between (m.payoff last) (omega (arith, ints, least, low)) (omega (arith, ints, most, high)))
+    let range = played_range m lawful m.root r.turns (reachable_root m) is.played in
+    let payoff : r.payoff ≡ payoff_after m m.root r.turns = is.payoff ∙ ap (payoff_after m m.root) (sym is.turns) in
+    let low = lawful.least_low m.root (reachable_root m) in
+    let high = lawful.most_high m.root (reachable_root m) in
+    rw payoff (between (payoff_after m m.root r.turns) (omega (arith, ints, lawful.low_least, low, range.0)) (omega (arith, ints, lawful.high_most, high, range.1)))
 
 pub ok_mono : {A E : Type 0} (r : Result A E) (P Q : A → Type 0) → ((x : A) → P x → Q x) → IfOk r P → IfOk r Q
 ok_mono (Ok x) P Q h p = h x p

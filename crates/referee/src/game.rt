@@ -59,15 +59,18 @@ pub(crate) fn play_turns<G: Game>(
 {
     let mut turns = Vec::new(alloc);
     let mut s = g.root();
+    let mut paid: i32 = 0;
     let mut rest = words;
     while g.rank(s) > 0 {
         let turn = turn_by(g, one, two, s, rest);
         turns.push(turn)?;
+        paid += g.reward(s, turn.one, turn.two, turn.draw);
         s = g.drawn(s, turn.one, turn.two, turn.draw);
         rest = &rest[3..];
     }
+    let payoff = paid + g.payoff(s);
     Ok(Record {
         turns: Seq::from_vec(turns),
-        payoff: g.payoff(s),
+        payoff,
     })
 }

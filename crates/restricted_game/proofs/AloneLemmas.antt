@@ -7,7 +7,7 @@ use Rattle.std.proofs.lemmas.List.Elements.{All-nil, All-cons, All-contains}
 use Rattle.sim_game.specs.declared.Side.{Side}
 use Rattle.sim_game.specs.declared.Side.TheVariants.{One, Two}
 use Rattle.sim_game.specs.Model.{GameModel, IsGame, Reachable}
-use Rattle.sim_game.specs.Sides.{other_side, move_of_one, draws_of, child_of}
+use Rattle.sim_game.specs.Sides.{other_side, move_of_one, draws_of, after_reward}
 use Rattle.plan_book.specs.declared.Entry.{Entry}
 use Rattle.plan_book.specs.Books.{Grows}
 use Rattle.plan_book.specs.Entries.{IsLawfulEntry}
@@ -71,7 +71,7 @@ module _ {S G N : Type 0} (m : GameModel S) (game : IsGame m) (s : S) (reach : R
       (cases_lt 0 (slice_index plan.weights.items i))))
 
   module _ (read : (move other draw : ℕ) → move < m.moves side s → other < m.moves (other_side side) s → IsWanted own others move other → draw < draws_of m side s move other
-      → IsReadNumber m u v side (child_of m side s move other draw) (numbers_in side table move other draw)) where
+      → after_reward m side s move other draw (IsReadNumber m u v side) (numbers_in side table move other draw)) where
     -- what it proves may be posted
     pub alone_postable : IsPostable m v (side_entry m side s table plan)
     alone_postable = plan_postable m game s reach goes_on u v side u.total (omega (arith, is_total, low)) (alone.place ∷ []) others (u.total ∷ []) (omega arith)

@@ -17,7 +17,7 @@ use Rattle.restricted_game.specs.Runs.{IsStepRun}
 use Rattle.restricted_game.specs.Stages.{AreStageNumbers, WereStageNumbers}
 use Rattle.restricted_game.specs.Tables.{ArePlans, ArePosted, side_entry}
 use Rattle.restricted_game.proofs.EndLemmas.{end_gap}
-use Rattle.restricted_game.proofs.ReadLemmas.{read_between}
+use Rattle.restricted_game.proofs.ReadLemmas.{turn_between}
 use Rattle.restricted_game.proofs.StepLemmas.{one_postable, two_postable, step_run}
 
 -- ---- the same numbers, as if nothing had been posted since
@@ -49,7 +49,7 @@ pub numbers_later : {S G N : Type 0} (m : GameModel S) (u v w : BoardView G N) (
     → AreStageNumbers m u v s h numbers → AreStageNumbers m u w s h numbers
 numbers_later m u v w s h numbers after are = record {
   later = later_trans u v w are.later after;
-  filled = record { read = λ one two draw p q k t. read_between m u u v w _ _ (later_refl u) after (are.filled.read one two draw p q k t) };
+  filled = record { read = λ one two draw p q k t. turn_between m u u v w _ _ _ _ _ (later_refl u) after (are.filled.read one two draw p q k t) };
   cells = are.cells;
 }
 

@@ -12,18 +12,19 @@ use Rattle.sums.proofs.SumLemmas.{sum_same}
 use Rattle.sim_game.specs.declared.Side.TheVariants.{One, Two}
 use Rattle.sim_game.specs.Model.{GameModel, IsGame, Reachable, bound_scale}
 use Rattle.sim_game.specs.Resolution.{IsStageGap, payoff_range}
-use Rattle.sim_game.specs.Sides.{opening_bound}
+use Rattle.sim_game.specs.Sides.{opening_bound, turn_reward}
+use Rattle.sim_game.proofs.SideLemmas.{looser_trans, opening_state, side_turn}
 use Rattle.plan_book.specs.Steps.{cell, worth}
 use Rattle.matrix_game.specs.Grid.{IsSpread as IsCellSpread, column_sum, row_sum, row_floor, col_ceiling}
 use Rattle.matrix_game.proofs.FirstLemmas.{first_least-le, first_greatest-le}
-use Rattle.bounds_board.specs.Views.{BoardView}
+use Rattle.bounds_board.specs.Views.{BoardView, known_bound}
 use Rattle.matrix_game.specs.declared.solver.StageSolver.{StageSolver}
 use Rattle.restricted_game.specs.Held.{HeldMoves, AreMoves}
 use Rattle.restricted_game.specs.Gaps.{AreClose, IsStepClose, step_gap}
 use Rattle.restricted_game.specs.Runs.{IsStepRun}
 use Rattle.restricted_game.proofs.CellLemmas.{mean_from, mean_to}
 use Rattle.restricted_game.proofs.GapLemmas.{quotients_close, sums_close, cells_close, one_cell_close}
-use Rattle.restricted_game.proofs.ReadLemmas.{cases_rank}
+use Rattle.restricted_game.proofs.ReadLemmas.{cases_rank, turn_low, turn_high}
 
 place_in : (xs : List ℕ) (x : ℕ) → Contains xs x → (k : ℕ) × (k < length xs) × (slice_index xs k ≡ x)
 place_in xs x h = let w = at_from_Contains xs x h in (w.0, w.1, w.2 0)
@@ -59,11 +60,13 @@ module _ {S G N : Type 0} (m : GameModel S) (game : IsGame m) (u v : BoardView G
   -- ---- the range of the cells
   cell_low : (i j : ℕ) → i < length h.rows → j < length h.cols → opening_bound m One ≤ℤ low_cell i j
   cell_low i j p q = mean_from One (m.draws s (row i) (col j)) (m.chance s (row i) (col j)) (game.chance_sum s (row i) (col j) reach (row_in i p) (col_in j q)) _ (opening_bound m One)
-      (λ d r. (run.one.read (row i) (col j) d (row_in i p) (col_in j q) (inl (Contains-get_or h.rows i 0 p)) r).low)
+      (λ d r. looser_trans One _ _ _ (opening_state m One s game reach) (turn_low m u v One One s (row i) (col j) d _ game reach (side_turn m One s (row i) (col j) d (row_in i p) (col_in j q) r)
+      (run.one.read (row i) (col j) d (row_in i p) (col_in j q) (inl (Contains-get_or h.rows i 0 p)) r)))
 
   cell_high : (i j : ℕ) → i < length h.rows → j < length h.cols → low_cell i j ≤ℤ opening_bound m Two
   cell_high i j p q = mean_to One (m.draws s (row i) (col j)) (m.chance s (row i) (col j)) (game.chance_sum s (row i) (col j) reach (row_in i p) (col_in j q)) _ (opening_bound m Two)
-      (λ d r. (run.one.read (row i) (col j) d (row_in i p) (col_in j q) (inl (Contains-get_or h.rows i 0 p)) r).high)
+      (λ d r. looser_trans Two _ _ _ (opening_state m Two s game reach) (turn_high m u v One One s (row i) (col j) d _ game reach (side_turn m One s (row i) (col j) d (row_in i p) (col_in j q) r)
+      (run.one.read (row i) (col j) d (row_in i p) (col_in j q) (inl (Contains-get_or h.rows i 0 p)) r)))
 
   -- a cell of the grid by its place
   grid_cell : (k : ℕ) → k < length run.grid.cells → (i : ℕ) × (j : ℕ) × (i < length h.rows) × (j < length h.cols) × (slice_index_or run.grid.cells k (pos 0) ≡ low_cell i j)
@@ -102,24 +105,25 @@ module _ {S G N : Type 0} (m : GameModel S) (game : IsGame m) (u v : BoardView G
     abbrev cell_gap : ℕ
     cell_gap = gap + cond m.chance_free 0 1
 
-    -- the numbers of a state after held moves are as close as its bounds were
+    -- the numbers of a turn by held moves are as close as the bounds of the state that follows were
     numbers_close : (i j draw : ℕ) → i < length h.rows → j < length h.cols → draw < m.draws s (row i) (col j)
         → run.two.numbers (col j) (row i) draw ≤ℤ (run.one.numbers (row i) (col j) draw +ℤ pos gap)
     numbers_close i j draw p q r =
+        let pay : ℤ = turn_reward m One s (row i) (col j) draw in
         let held_row = Contains-get_or h.rows i 0 p in
         let held_col = Contains-get_or h.cols j 0 q in
         let low = run.one.read (row i) (col j) draw (row_in i p) (col_in j q) (inl held_row) r in
         let high = run.two.read (col j) (row i) draw (col_in j q) (row_in i p) (inl held_col) r in
         ⊎_elim
-        (λ (e : m.rank (m.drawn s (row i) (col j) draw) ≡ 0). at_end _ _ _ (high.at_end e) (low.at_end e))
-        (λ (g : 1 ≤ m.rank (m.drawn s (row i) (col j) draw)). inside _ _ _ _ (high.no_looser g) (low.no_looser g) (close.close (row i) (col j) draw held_row held_col r g))
+        (λ (e : m.rank (m.drawn s (row i) (col j) draw) ≡ 0). at_end pay _ _ _ (high.at_end e) (low.at_end e))
+        (λ (g : 1 ≤ m.rank (m.drawn s (row i) (col j) draw)). inside pay _ _ _ _ (high.no_looser g) (low.no_looser g) (close.close (row i) (col j) draw held_row held_col r g))
         (cases_rank (m.rank (m.drawn s (row i) (col j) draw)))
       where
-        at_end : (x y z : ℤ) → x ≡ z → y ≡ z → x ≤ℤ (y +ℤ pos gap)
-        at_end x y z e f = omega (arith, ints)
+        at_end : (c x y z : ℤ) → x -ℤ c ≡ z → y -ℤ c ≡ z → x ≤ℤ (y +ℤ pos gap)
+        at_end c x y z e f = omega (arith, ints)
 
-        inside : (x y z w : ℤ) → x ≤ℤ y → z ≤ℤ w → y ≤ℤ (z +ℤ pos gap) → x ≤ℤ (w +ℤ pos gap)
-        inside x y z w e f k = omega (arith, ints)
+        inside : (c x y z w : ℤ) → (x -ℤ c) ≤ℤ y → z ≤ℤ (w -ℤ c) → y ≤ℤ (z +ℤ pos gap) → x ≤ℤ (w +ℤ pos gap)
+        inside c x y z w e f k = omega (arith, ints)
 
     -- and so are the cells, but for the rounding of chance
     held_cells_close : (i j : ℕ) → i < length h.rows → j < length h.cols → high_cell i j ≤ℤ (low_cell i j +ℤ pos cell_gap)
@@ -178,7 +182,7 @@ module _ {S G N : Type 0} (m : GameModel S) (game : IsGame m) (u v : BoardView G
         let two = run.two.planned in
         let near = quotients_close total (cell_gap + stage) one.sum two.sum (omega arith) (sums one.sum two.sum _ _ low_secured high_conceded (stage_fine stage is_gap)) in
         let bounds : upper ≤ℤ (lower +ℤ pos (step_gap m gap stage)) = last _ _ _ _ one.bound_is two.bound_is near in
-        record { bounds = bounds; seen = seen (v.seen One (m.key s)) (v.seen Two (m.key s)) run.one.seen run.two.seen bounds }
+        record { bounds = bounds; known = known (known_bound m v One s) (known_bound m v Two s) run.one.known run.two.known bounds }
       where
         sums : (l h f c : ℤ) → f ≤ℤ l → h ≤ℤ (c +ℤ pos total *ℤ pos cell_gap) → c ≤ℤ (f +ℤ pos (total * stage)) → h ≤ℤ (l +ℤ pos total *ℤ pos (cell_gap + stage))
         sums l h f c p q r = omega (arith, ints)
@@ -186,5 +190,5 @@ module _ {S G N : Type 0} (m : GameModel S) (game : IsGame m) (u v : BoardView G
         last : (x y a b : ℤ) → x ≡ a → y ≡ b → b ≤ℤ (a +ℤ pos (cell_gap + stage + 1)) → y ≤ℤ (x +ℤ pos (step_gap m gap stage))
         last x y a b p q r = omega (arith, ints)
 
-        seen : (l h : ℤ) → lower ≤ℤ l → h ≤ℤ upper → upper ≤ℤ (lower +ℤ pos (step_gap m gap stage)) → h ≤ℤ (l +ℤ pos (step_gap m gap stage))
-        seen l h p q r = omega (arith, ints)
+        known : (l h : ℤ) → lower ≤ℤ l → h ≤ℤ upper → upper ≤ℤ (lower +ℤ pos (step_gap m gap stage)) → h ≤ℤ (l +ℤ pos (step_gap m gap stage))
+        known l h p q r = omega (arith, ints)

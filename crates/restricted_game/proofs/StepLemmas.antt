@@ -6,15 +6,15 @@ use Rattle.sums.proofs.SumLemmas.{sum_weights}
 use Rattle.sim_game.specs.declared.Side.{Side}
 use Rattle.sim_game.specs.declared.Side.TheVariants.{One, Two}
 use Rattle.sim_game.specs.Model.{GameModel, IsGame, Reachable}
-use Rattle.sim_game.specs.Sides.{other_side, IsNoTighter, opening_bound, draws_of, chance_of, child_of}
-use Rattle.sim_game.proofs.SideLemmas.{looser_left, looser_right, looser_trans, looser_weighted, looser_sum, looser_quotient, quotient_tightest}
+use Rattle.sim_game.specs.Sides.{other_side, IsNoTighter, state_bound, draws_of, chance_of, after_reward}
+use Rattle.sim_game.proofs.SideLemmas.{looser_left, looser_right, looser_trans, looser_weighted, looser_sum, looser_quotient, quotient_tightest, side_turn}
 use Rattle.plan_book.specs.declared.Entry.{Entry}
 use Rattle.plan_book.specs.Backed.{by_step}
 use Rattle.plan_book.specs.Entries.{reads_of}
 use Rattle.plan_book.specs.Steps.{IsStep}
 use Rattle.plan_book.proofs.BackedLemmas.{backed_within}
 use Rattle.plan_book.proofs.GuaranteeLemmas.{chances}
-use Rattle.bounds_board.specs.Views.{BoardView, IsLater, IsPostable}
+use Rattle.bounds_board.specs.Views.{BoardView, IsLater, IsPostable, known_bound}
 use Rattle.bounds_board.proofs.ViewLemmas.{later_refl}
 use Rattle.matrix_game.specs.declared.solver.StageSolver.{StageSolver}
 use Rattle.restricted_game.specs.declared.plans.Plans.{Plans}
@@ -25,25 +25,25 @@ use Rattle.restricted_game.specs.Tables.{IsFilled, ArePlans, ArePosted, numbers_
 use Rattle.restricted_game.proofs.CellLemmas.{mean_from}
 use Rattle.restricted_game.proofs.PlanLemmas.{spread_total}
 use Rattle.restricted_game.proofs.PostLemmas.{posted_earlier}
-use Rattle.restricted_game.proofs.ReadLemmas.{number_between, number_seen}
+use Rattle.restricted_game.proofs.ReadLemmas.{number_between, number_seen, turn_low}
 use Rattle.restricted_game.proofs.TableLemmas.{one_read, two_read}
 
-in_range : {S : Type 0} (m : GameModel S) (side : Side) (x : ℤ) → IsNoTighter side (opening_bound m side) x
-    → IsNoTighter side x (opening_bound m (other_side side)) → IsNoTighter One (opening_bound m One) x × IsNoTighter Two (opening_bound m Two) x
-in_range m One x p q = (p, q)
-in_range m Two x p q = (q, p)
+in_range : {S : Type 0} (m : GameModel S) (s : S) (side : Side) (x : ℤ) → IsNoTighter side (state_bound m side s) x
+    → IsNoTighter side x (state_bound m (other_side side) s) → IsNoTighter One (state_bound m One s) x × IsNoTighter Two (state_bound m Two s) x
+in_range m s One x p q = (p, q)
+in_range m s Two x p q = (q, p)
 
 module _ {S G N : Type 0} (m : GameModel S) (game : IsGame m) (s : S) (reach : Reachable m s) (goes_on : 1 ≤ m.rank s) (u v : BoardView G N)
     (side : Side) (total : ℕ) (some : 1 ≤ total) (own others weights : List ℕ) (all : sum weights ≡ total)
     (numbers : ℕ → ℕ → ℕ → ℤ) (plan : List ℕ) (bound : ℤ) (fresh : Option ℕ) (planned : IsPlan m side s total own others weights numbers plan bound fresh)
     (read : (move other draw : ℕ) → move < m.moves side s → other < m.moves (other_side side) s → IsWanted own others move other → draw < draws_of m side s move other
-    → IsReadNumber m u v side (child_of m side s move other draw) (numbers move other draw)) where
+    → after_reward m side s move other draw (IsReadNumber m u v side) (numbers move other draw)) where
   plan_sums : sum plan ≡ total
   plan_sums = spread_total (m.moves side s) total own weights plan planned.spread all
 
   -- a move of positive weight is held
   weighted_read : (move other draw : ℕ) → move < m.moves side s → other < m.moves (other_side side) s → draw < draws_of m side s move other
-      → 1 ≤ slice_index plan move → IsReadNumber m u v side (child_of m side s move other draw) (numbers move other draw)
+      → 1 ≤ slice_index plan move → after_reward m side s move other draw (IsReadNumber m u v side) (numbers move other draw)
   weighted_read move other draw p q t w = read move other draw p q (inl (planned.spread.elsewhere move w)) t
 
   -- the bound is what the plan proves against each reply
@@ -58,23 +58,24 @@ module _ {S G N : Type 0} (m : GameModel S) (game : IsGame m) (s : S) (reach : R
         (planned.is_best.least reply q);
   }
 
-  -- it is no looser than what holds of every state
-  bound_low : IsNoTighter side (opening_bound m side) bound
+  -- it is no looser than what holds of every value of the state
+  bound_low : IsNoTighter side (state_bound m side s) bound
   bound_low =
       let weights_are : count_below (m.moves side s) (slice_index plan) ≡ total = ap (λ (n : ℕ). count_below n (λ i. get_or plan i 0)) (sym planned.spread.each) ∙ count_list plan ∙ plan_sums in
-      looser_right side _ _ _ (sym planned.bound_is) (quotient_tightest side total planned.sum (opening_bound m side) some
-      (looser_left side _ _ _ (sum_weights (m.moves side s) (slice_index plan) (opening_bound m side) ∙ ap (λ (n : ℕ). pos n *ℤ opening_bound m side) weights_are)
+      looser_right side _ _ _ (sym planned.bound_is) (quotient_tightest side total planned.sum (state_bound m side s) some
+      (looser_left side _ _ _ (sum_weights (m.moves side s) (slice_index plan) (state_bound m side s) ∙ ap (λ (n : ℕ). pos n *ℤ state_bound m side s) weights_are)
       (looser_right side _ _ _ (sym planned.is_best.worth)
       (looser_sum side (m.moves side s) _ _ (λ move p. looser_weighted side (slice_index plan move) _ _ (λ w.
       mean_from side (draws_of m side s move planned.reply) (chance_of m side s move planned.reply)
-      (chances m game side s move planned.reply reach p planned.is_best.place_in) (numbers move planned.reply) (opening_bound m side)
-      (λ d t. (weighted_read move planned.reply d p planned.is_best.place_in t w).low)))))))
+      (chances m game side s move planned.reply reach p planned.is_best.place_in) (numbers move planned.reply) (state_bound m side s)
+      (λ d t. turn_low m u v side side s move planned.reply d (numbers move planned.reply d) game reach (side_turn m side s move planned.reply d p planned.is_best.place_in t)
+      (weighted_read move planned.reply d p planned.is_best.place_in t w))))))))
 
-  bound_high : IsNoTighter side bound (opening_bound m (other_side side))
+  bound_high : IsNoTighter side bound (state_bound m (other_side side) s)
   bound_high = backed_within m game side s bound reach (by_step s bound total plan numbers plan_step (λ move other draw p q t w. (weighted_read move other draw p q t w).backed))
 
   pub plan_postable : v.total ≡ total → IsPostable m v (entry_at m side s bound plan (reads_of m side s plan numbers))
-  plan_postable is_total = let range = in_range m side bound bound_low bound_high in record {
+  plan_postable is_total = let range = in_range m s side bound bound_low bound_high in record {
     state = s;
     reachable = reach;
     is_key = refl;
@@ -87,13 +88,13 @@ module _ {S G N : Type 0} (m : GameModel S) (game : IsGame m) (s : S) (reach : R
     known = λ move other draw p q t w. number_seen m u v side _ _ (weighted_read move other draw p q t w);
   }
 
-  abbrev side_run : (w : BoardView G N) → IsLater v w → IsNoTighter side bound (w.seen side (m.key s)) → IsSideRun m u w side s total own others weights bound fresh
-  side_run w later seen = record {
+  abbrev side_run : (w : BoardView G N) → IsLater v w → IsNoTighter side bound (known_bound m w side s) → IsSideRun m u w side s total own others weights bound fresh
+  side_run w later known = record {
     numbers = numbers;
     read = λ move other draw p q k l. number_between m u u v w side _ _ (later_refl u) later (read move other draw p q k l);
     plan = plan;
     planned = planned;
-    seen = seen;
+    known = known;
   }
 
 -- ---- both sides
@@ -128,10 +129,10 @@ module _ {S G N : Type 0} (m : GameModel S) (game : IsGame m) (s : S) (reach : R
     stage = planned.stage;
     one = side_run m game s reach goes_on u v One u.total some rows cols planned.row_weights planned.stage.rows.all
         (numbers_in One table) plans.one.weights.items plans.one.bound plans.one.fresh planned.one
-        (one_read m u v s rows cols table filled) w after posted.one_seen;
+        (one_read m u v s rows cols table filled) w after posted.one_known;
     two = side_run m game s reach goes_on u v Two u.total some cols rows planned.col_weights planned.stage.cols.all
         (numbers_in Two table) plans.two.weights.items plans.two.bound plans.two.fresh planned.two
-        (two_read m u v s rows cols table filled) w after posted.two_seen;
+        (two_read m u v s rows cols table filled) w after posted.two_known;
     is_grid = planned.is_grid;
     between = posted.between;
     one_posted = subst (λ (l : List Entry). IsPosted u (side_entry m One s table plans.one) l posted.between) quiet (posted_earlier u v _ _ _ read posted.one_posted);

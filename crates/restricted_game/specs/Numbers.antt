@@ -1,32 +1,36 @@
--- The numbers that a step reads at the states after held moves.
+-- The numbers that a step reads at the states after held moves, and those of the turns that lead there.
 use Rattle.std.specs.Prelude.{◌≡◌, ◌⊎◌, ℕ, ◌<◌, ◌≤◌, ℤ, Some, List}
 use Rattle.std.specs.List.{Contains}
 use Rattle.sim_game.specs.declared.Side.{Side}
 use Rattle.sim_game.specs.declared.Side.TheVariants.{One, Two}
 use Rattle.sim_game.specs.Model.{GameModel, IsEnd}
-use Rattle.sim_game.specs.Sides.{other_side, IsNoTighter, opening_bound, end_bound}
+use Rattle.sim_game.specs.Sides.{other_side, IsNoTighter, state_bound, end_bound, after_reward}
 use Rattle.plan_book.specs.Backed.{IsBacked}
 use Rattle.bounds_board.specs.declared.bounds.Enclosure.{Enclosure}
-use Rattle.bounds_board.specs.Views.{BoardView, bound_in}
+use Rattle.bounds_board.specs.Views.{BoardView, bound_in, known_bound}
 
 -- some row is known to have the key
 pub record IsClaimed {G N : Type 0} (v : BoardView G N) (key : ℕ) : Type 0 where
   pub row : ℕ
   pub holds : v.key_at row ≡ Some key
 
--- a number of a side that was read at a state between two views: an end's payoff, else a bound at the state's row
+-- a number of a side that was read at a state between two views: an end's payoff, else a bound at the state's row, or that of all values of the state where it is better
 pub record IsReadNumber {S G N : Type 0} (m : GameModel S) (u v : BoardView G N) (side : Side) (s : S) (x : ℤ) : Type 0 where
   pub backed : IsBacked m side s x
-  pub low : IsNoTighter side (opening_bound m side) x
-  pub high : IsNoTighter side x (opening_bound m (other_side side))
+  pub low : IsNoTighter side (state_bound m side s) x
+  pub high : IsNoTighter side x (state_bound m (other_side side) s)
   pub at_end : IsEnd m s → x ≡ end_bound m s
   pub claimed : 1 ≤ m.rank s → IsClaimed v (m.key s)
-  pub no_looser : 1 ≤ m.rank s → IsNoTighter side (u.seen side (m.key s)) x
-  pub no_tighter : 1 ≤ m.rank s → IsNoTighter side x (v.seen side (m.key s))
+  pub no_looser : 1 ≤ m.rank s → IsNoTighter side (known_bound m u side s) x
+  pub no_tighter : 1 ≤ m.rank s → IsNoTighter side x (known_bound m v side s)
 
 -- both numbers were read at the state
 pub record AreRead {S G N : Type 0} (m : GameModel S) (u v : BoardView G N) (s : S) (e : Enclosure) : Type 0 where
   pub number : (side : Side) → IsReadNumber m u v side s (bound_in side e)
+
+-- both numbers are a turn's reward, each with a number that was read at the state that follows
+pub record AreTurnRead {S G N : Type 0} (m : GameModel S) (u v : BoardView G N) (s : S) (one two draw : ℕ) (e : Enclosure) : Type 0 where
+  pub number : (side : Side) → after_reward m One s one two draw (IsReadNumber m u v side) (bound_in side e)
 
 -- a step reads what follows a pair of moves of which at least one is held
 abbrev pub IsWanted : List ℕ → List ℕ → ℕ → ℕ → Type 0

@@ -6,7 +6,7 @@ use Rattle.sums.specs.Sums.{sum_below}
 use Rattle.sim_game.specs.declared.Side.{Side}
 use Rattle.sim_game.specs.declared.Side.TheVariants.{One, Two}
 use Rattle.sim_game.specs.Model.{GameModel}
-use Rattle.sim_game.specs.Sides.{other_side, IsNoTighter, IsTighter, quotient, draws_of, child_of}
+use Rattle.sim_game.specs.Sides.{other_side, IsNoTighter, IsTighter, quotient, draws_of, after_reward}
 use Rattle.plan_book.specs.declared.Entry.{Entry}
 use Rattle.plan_book.specs.Entries.{IsLawfulEntry, reads_of}
 use Rattle.plan_book.specs.Plans.{one_move}
@@ -16,7 +16,7 @@ use Rattle.matrix_game.specs.Grid.{Grid, cell_at, row_floor, col_ceiling}
 use Rattle.matrix_game.specs.Rounds.{IsStage, IsWeighted, HasResolution}
 use Rattle.matrix_game.specs.Solvers.{UsesRegret}
 use Rattle.best_reply.specs.Replies.{IsBestReply}
-use Rattle.bounds_board.specs.Views.{BoardView}
+use Rattle.bounds_board.specs.Views.{BoardView, known_bound}
 use Rattle.restricted_game.specs.declared.held.StepEnd.{StepEnd}
 use Rattle.restricted_game.specs.declared.held.StepEnd.TheVariants.{Grown, Done}
 use Rattle.restricted_game.specs.Held.{HeldMoves}
@@ -54,14 +54,14 @@ pub record IsPlan {S : Type 0} (m : GameModel S) (side : Side) (s : S) (total : 
   pub bound_is : bound ≡ quotient side total sum
   pub fresh_is : fresh ≡ then_some is_fresh reply
 
--- a side's part of a step between two views: what was read, the plan over it, and its bound, which was seen afterwards
+-- a side's part of a step between two views: what was read, the plan over it, and its bound, which is known afterwards
 pub record IsSideRun {S G N : Type 0} (m : GameModel S) (u v : BoardView G N) (side : Side) (s : S) (total : ℕ) (own others weights : List ℕ) (bound : ℤ) (fresh : Option ℕ) : Type 0 where
   pub numbers : ℕ → ℕ → ℕ → ℤ
   pub read : (move other draw : ℕ) → move < m.moves side s → other < m.moves (other_side side) s → IsWanted own others move other → draw < draws_of m side s move other
-      → IsReadNumber m u v side (child_of m side s move other draw) (numbers move other draw)
+      → after_reward m side s move other draw (IsReadNumber m u v side) (numbers move other draw)
   pub plan : List ℕ
   pub planned : IsPlan m side s total own others weights numbers plan bound fresh
-  pub seen : IsNoTighter side bound (v.seen side (m.key s))
+  pub known : IsNoTighter side bound (known_bound m v side s)
 
 -- ---- posts
 abbrev pub entry_at : {S : Type 0} → GameModel S → Side → S → ℤ → List ℕ → List ℤ → Entry

@@ -14,12 +14,12 @@ use Rattle.matrix_game.specs.declared.solver.StageSolver.{StageSolver}
 use Rattle.matrix_game.specs.Grid.{Grid}
 use Rattle.best_reply.specs.Replies.{IsBestReply, worth_in}
 use Rattle.bounds_board.specs.declared.bounds.Enclosure.{Enclosure}
-use Rattle.bounds_board.specs.Views.{BoardView, bound_in}
+use Rattle.bounds_board.specs.Views.{BoardView, bound_in, known_bound}
 use Rattle.restricted_game.specs.declared.table.Cells.{Cells}
 use Rattle.restricted_game.specs.declared.plans.Plans.{Plans}
 use Rattle.restricted_game.specs.declared.plans.SidePlan.{SidePlan}
 use Rattle.restricted_game.specs.declared.table.Table.{Table}
-use Rattle.restricted_game.specs.Numbers.{AreRead, IsWanted}
+use Rattle.restricted_game.specs.Numbers.{AreTurnRead, IsWanted}
 use Rattle.restricted_game.specs.Runs.{IsHeldGrid, IsHeldStage, IsSpreadOver, IsPlan, IsPosted, entry_at}
 
 -- ---- places
@@ -39,7 +39,7 @@ pub record IsStride {S : Type 0} (m : GameModel S) (s : S) (stride : ℕ) : Type
 -- the wanted draws at the first places were read between two views
 pub record AreFilled {S G N : Type 0} (m : GameModel S) (u v : BoardView G N) (s : S) (rows cols : List ℕ) (width stride places : ℕ) (enclosures : List Enclosure) : Type 0 where
   pub read : (one two draw : ℕ) → one < m.moves One s → two < m.moves Two s → draw_index width stride one two draw < places → IsWanted rows cols one two → draw < m.draws s one two
-      → AreRead m u v (m.drawn s one two draw) (enclosure_at enclosures (draw_index width stride one two draw))
+      → AreTurnRead m u v s one two draw (enclosure_at enclosures (draw_index width stride one two draw))
 
 -- ---- a whole table
 abbrev pub enclosure_in : Table → ℕ → ℕ → ℕ → Enclosure
@@ -58,7 +58,7 @@ pub record HasShape {S : Type 0} (m : GameModel S) (s : S) (table : Table) : Typ
 -- each wanted draw was read between two views
 pub record IsFilled {S G N : Type 0} (m : GameModel S) (u v : BoardView G N) (s : S) (rows cols : List ℕ) (table : Table) : Type 0 where
   pub read : (one two draw : ℕ) → one < m.moves One s → two < m.moves Two s → IsWanted rows cols one two → draw < m.draws s one two
-      → AreRead m u v (m.drawn s one two draw) (enclosure_in table one two draw)
+      → AreTurnRead m u v s one two draw (enclosure_in table one two draw)
 
 -- ---- cells
 -- the cell of a side at a pair of moves
@@ -114,8 +114,8 @@ pub record ArePosted {S G N : Type 0} (m : GameModel S) (u v : BoardView G N) (s
   pub between : List Entry
   pub one_posted : IsPosted u (side_entry m One s table plans.one) u.entries between
   pub two_posted : IsPosted u (side_entry m Two s table plans.two) between v.entries
-  pub one_seen : IsNoTighter One plans.one.bound (v.seen One (m.key s))
-  pub two_seen : IsNoTighter Two plans.two.bound (v.seen Two (m.key s))
+  pub one_known : IsNoTighter One plans.one.bound (known_bound m v One s)
+  pub two_known : IsNoTighter Two plans.two.bound (known_bound m v Two s)
 
 -- a side's plan over the numbers of a table that puts all weight on one of its held moves
 pub record IsAlone {S : Type 0} (m : GameModel S) (side : Side) (s : S) (total : ℕ) (own others : List ℕ) (table : Table) (plan : SidePlan) : Type 0 where

@@ -4,7 +4,7 @@ ghost use Rattle.sim_game.specs.Model.{Reachable};
 ghost use Rattle.sim_game.specs.Sides.{IsNoTighter};
 ghost use Rattle.plan_book.specs.Books.{Grows};
 ghost use Rattle.plan_book.specs.Entries.{IsLawfulEntry};
-ghost use Rattle.bounds_board.specs.Views.{IsLater, IsPostable};
+ghost use Rattle.bounds_board.specs.Views.{IsLater, IsPostable, known_bound};
 ghost use Rattle.restricted_game.specs.Runs.{IsPosted};
 ghost use Rattle.restricted_game.specs.Tables.{HasShape, side_entry, ArePosted};
 
@@ -12,7 +12,7 @@ use crate::node::Node;
 use crate::plans::{Plans, SidePlan};
 use crate::reads::reads_of;
 use crate::table::Table;
-use bounds_board::Bounds;
+use bounds_board::{Bounds, known_bounds};
 use plan_book::Entry;
 use seq::Seq;
 use sim_game::{Game, NoMemory, Side};
@@ -42,7 +42,7 @@ fn entry_of<G: Game>(
     })
 }
 
-/// Posts the bound of a side's plan, where it is tighter than the one read at the state.
+/// Posts the bound of a side's plan, where it is tighter than what is known of the state.
 fn post_plan<G: Game, B: Bounds<G>>(
     alloc: Global,
     g: G,
@@ -65,10 +65,10 @@ fn post_plan<G: Game, B: Bounds<G>>(
         (B.view board.old).entries (B.view board.new).entries) }
     ensures only { Grows (λ e. e ≡ side_entry (G.model g) side node.state table.now plan)
         (B.view board.old).entries (B.view board.new).entries }
-    ensures seen { OnOk result (IsNoTighter side plan.bound
-        ((B.view board.new).seen side ((G.model g).key node.state))) }
+    ensures known { OnOk result (IsNoTighter side plan.bound
+        (known_bound (G.model g) (B.view board.new) side node.state)) }
 {
-    let known = board.read(node.row).of(side);
+    let known = known_bounds(g, node.state, node.row, board).of(side);
     if !side.is_tighter(plan.bound, known) {
         return Ok(());
     }

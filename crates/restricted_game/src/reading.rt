@@ -1,17 +1,18 @@
 //! Reads of the states after held moves.
-ghost use Rattle.std.specs.Prelude.{◌≡◌, ◌≤◌, ◌<◌, IfOk, OnErr, MatchBool, Err};
-ghost use Rattle.bounds_board.specs.Views.{IsLater, WasFull};
+ghost use Rattle.std.specs.Prelude.{◌≡◌, ◌≤◌, ◌<◌, ◌+ℤ◌, IfOk, OnErr, MatchBool, Err, unsigned_abs};
+ghost use Rattle.bounds_board.specs.Views.{IsLater, WasFull, bound_in};
+ghost use Rattle.sim_game.specs.declared.Side.{Side};
 ghost use Rattle.sim_game.specs.Model.{Reachable};
-ghost use Rattle.restricted_game.specs.Children.{AreChildRows};
-ghost use Rattle.restricted_game.specs.Numbers.{AreRead, IsWanted, IsReadChild};
+ghost use Rattle.restricted_game.specs.Children.{AreChildRows, HasRow};
+ghost use Rattle.restricted_game.specs.Numbers.{AreRead, AreTurnRead, IsWanted, IsReadChild};
 ghost use Rattle.restricted_game.specs.Sizes.{IsSmallEnclosure};
 ghost use Rattle.restricted_game.specs.Tables.{HasShape, IsFilled};
 
 use crate::buffers::{StageBuffers, filled};
 use crate::children::ChildRows;
 use crate::table::Table;
-use bounds_board::{BoardFault, Bounds, Enclosure, Full};
-use sim_game::{Game, Side, end_bound};
+use bounds_board::{BoardFault, Bounds, Enclosure, Full, Row, known_bounds};
+use sim_game::{Game, Side, end_bound, turn_reward};
 
 /// Whether a step reads what follows a pair of moves.
 fn is_wanted(rows: &[u32], cols: &[u32], one: u32, two: u32) -> bool
@@ -31,8 +32,47 @@ struct Draw {
     draw: u32,
 }
 
-/// The bounds after a draw, read anew where one of the moves is held and there is such a draw: the
-/// payoff of an end, else those of the state's row. Elsewhere zeros.
+/// The bounds known of a state: the payoff of an end, which has no row, else those of its row or of its range.
+fn read_state<G: Game, B: Bounds<G>>(
+    g: G,
+    t: G::State,
+    row: Option<Row>,
+    board: &mut B,
+) -> Enclosure
+    requires game { (B.view board.old).game ≡ g }
+    requires reachable { Reachable (G.model g) t }
+    requires row { HasRow (G.model g) (B.view board.old) t row }
+    ensures later { IsLater (B.view board.old) (B.view board.new) }
+    ensures entries { (B.view board.new).entries ≡ (B.view board.old).entries }
+    ensures read { AreRead (G.model g) (B.view board.old) (B.view board.new) t result }
+    ensures small { IsSmallEnclosure result }
+{
+    match row {
+        Some(row) => known_bounds(g, t, row, board),
+        None => {
+            let payoff = end_bound(g, t);
+            Enclosure {
+                lower: payoff,
+                upper: payoff,
+            }
+        }
+    }
+}
+
+/// Both bounds, with the reward of the turn that leads to them.
+fn with_reward(read: Enclosure, reward: i64) -> Enclosure
+    requires small { IsSmallEnclosure read }
+    requires reward { unsigned_abs reward ≤ 8000000000 }
+    ensures { (side : Side) → bound_in side result ≡ reward +ℤ bound_in side read }
+{
+    Enclosure {
+        lower: reward + read.lower,
+        upper: reward + read.upper,
+    }
+}
+
+/// The numbers of a turn, read anew where one of the moves is held and there is such a draw: its reward, with the bounds
+/// at the state that follows. Elsewhere zeros.
 fn read_child<G: Game, B: Bounds<G>>(
     g: G,
     s: G::State,
@@ -52,7 +92,7 @@ fn read_child<G: Game, B: Bounds<G>>(
     ensures children { AreChildRows (G.model g) (B.view board.new) s children.new }
     ensures read { IfOk result (λ e. IsWanted rows.now cols.now at.one at.two
         → at.draw < (G.model g).draws s at.one at.two
-        → AreRead (G.model g) (B.view board.old) (B.view board.new) ((G.model g).drawn s at.one at.two at.draw) e) }
+        → AreTurnRead (G.model g) (B.view board.old) (B.view board.new) s at.one at.two at.draw e) }
     ensures small { IfOk result IsSmallEnclosure }
     ensures full { OnErr result (WasFull (G.model g) (B.view board.new) (IsReadChild (G.model g) s rows.now cols.now)) }
 {
@@ -65,13 +105,9 @@ fn read_child<G: Game, B: Bounds<G>>(
         return Ok(zeros);
     }
     match children.claim(g, s, one, two, draw, board) {
-        Ok(Some(row)) => Ok(board.read(row)),
-        Ok(None) => {
-            let payoff = end_bound(g, g.drawn(s, one, two, draw));
-            Ok(Enclosure {
-                lower: payoff,
-                upper: payoff,
-            })
+        Ok(row) => {
+            let read = read_state(g, g.drawn(s, one, two, draw), row, board);
+            Ok(with_reward(read, turn_reward(g, s, one, two, draw)))
         }
         Err(full) => Err(full),
     }

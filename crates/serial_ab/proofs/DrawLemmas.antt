@@ -6,17 +6,18 @@ use Rattle.sim_game.specs.declared.Side.{Side}
 use Rattle.sim_game.specs.declared.Side.TheVariants.{One, Two}
 use Rattle.sim_game.specs.Model.{GameModel, IsGame, Reachable}
 use Rattle.sums.specs.Sums.{sum_below, count_below}
-use Rattle.sums.proofs.IntegerLemmas.{times_mono}
+use Rattle.sums.proofs.IntegerLemmas.{int_le_trans, times_mono}
+use Rattle.sim_game.proofs.SideLemmas.{opening_state}
 use Rattle.sums.proofs.SumLemmas.{sum_mono, sum_weights}
-use Rattle.sim_game.specs.Sides.{other_side, opening_bound, draws_of, chance_of, child_of}
-use Rattle.plan_book.specs.Serial.{serial_bound}
+use Rattle.sim_game.specs.Sides.{other_side, opening_bound, draws_of, chance_of, after_reward}
+use Rattle.serial_ab.specs.Values.{turn_value}
 use Rattle.plan_book.specs.Entries.{concat_below}
 use Rattle.plan_book.proofs.GuaranteeLemmas.{chances}
 use Rattle.bounds_board.specs.Views.{BoardView, IsLater}
 use Rattle.serial_ab.specs.Searches.{IsGoodNumber}
 use Rattle.serial_ab.proofs.EntryLemmas.{in_range}
 use Rattle.serial_ab.proofs.KeptLemmas.{good_later, count_front, count_part}
-use Rattle.serial_ab.proofs.ValueLemmas.{serial_low, serial_high, child_is}
+use Rattle.serial_ab.proofs.ValueLemmas.{turn_value_low, turn_value_high}
 
 -- no bound is further from 0
 record IsSmall (x : ℤ) : Type 0 where
@@ -31,14 +32,12 @@ product_high k x h l = omega (arith, ints, times_mono k x (pos 4000000000) l)
 
 module _ {S : Type 0} (m : GameModel S) (game : IsGame m) (side : Side) (s : S) (own reply : ℕ) (r : Reachable m s) (at : own < m.moves side s)
     (against : reply < m.moves (other_side side) s) where
-  small : (d : ℕ) → d < draws_of m side s own reply → IsSmall (serial_bound m side (child_of m side s own reply d))
+  small : (d : ℕ) → d < draws_of m side s own reply → IsSmall (turn_value m side s own reply d)
   small d h =
-      let is : Reachable m (child_of m side s own reply d) = child_is m game side s own reply d r at against h in
-      let range = in_range m side (serial_bound m side (child_of m side s own reply d)) (serial_low m game side (child_of m side s own reply d) is)
-      (serial_high m game side (child_of m side s own reply d) is) in
-      let a = game.low_least in let b = game.high_most in let c = game.low_high in
-      let low : opening_bound m One ≤ℤ serial_bound m side (child_of m side s own reply d) = range.0 in
-      let high : serial_bound m side (child_of m side s own reply d) ≤ℤ opening_bound m Two = range.1 in
+      let range = in_range m s side (turn_value m side s own reply d) (turn_value_low m game side s own reply d r at against h) (turn_value_high m game side s own reply d r at against h) in
+      let a = game.low_least in let b = game.high_most in
+      let low : opening_bound m One ≤ℤ turn_value m side s own reply d = int_le_trans _ _ _ (opening_state m One s game r) range.0 in
+      let high : turn_value m side s own reply d ≤ℤ opening_bound m Two = int_le_trans _ _ _ range.1 (opening_state m Two s game r) in
       record { low = omega (arith, ints); high = omega (arith, ints) }
 
   chance_small : (d : ℕ) → d < draws_of m side s own reply → chance_of m side s own reply d ≤ 360360
@@ -48,23 +47,23 @@ module _ {S : Type 0} (m : GameModel S) (game : IsGame m) (side : Side) (s : S) 
   chances_small n h = omega (arith, count_front (chance_of m side s own reply) n (draws_of m side s own reply) h, chances m game side s own reply r at against)
 
   pub sum_low : (n : ℕ) → n ≤ draws_of m side s own reply → negsuc 1441439999999999 ≤ℤ sum_below n
-      (λ d. pos (chance_of m side s own reply d) *ℤ serial_bound m side (child_of m side s own reply d))
+      (λ d. pos (chance_of m side s own reply d) *ℤ turn_value m side s own reply d)
   sum_low n h =
       let each : sum_below n (λ d. pos (chance_of m side s own reply d) *ℤ negsuc 3999999999) ≤ℤ sum_below n
-      (λ d. pos (chance_of m side s own reply d) *ℤ serial_bound m side (child_of m side s own reply d)) =
+      (λ d. pos (chance_of m side s own reply d) *ℤ turn_value m side s own reply d) =
       sum_mono n _ _ (λ d l. times_mono (chance_of m side s own reply d) (negsuc 3999999999) _ (small d (omega arith)).low) in
       omega (arith, ints, each, sum_weights n (chance_of m side s own reply) (negsuc 3999999999), chances_small n h)
 
-  pub sum_high : (n : ℕ) → n ≤ draws_of m side s own reply → sum_below n (λ d. pos (chance_of m side s own reply d) *ℤ serial_bound m side (child_of m side s own reply d)) ≤ℤ pos
+  pub sum_high : (n : ℕ) → n ≤ draws_of m side s own reply → sum_below n (λ d. pos (chance_of m side s own reply d) *ℤ turn_value m side s own reply d) ≤ℤ pos
       1441440000000000
   sum_high n h =
-      let each : sum_below n (λ d. pos (chance_of m side s own reply d) *ℤ serial_bound m side (child_of m side s own reply d)) ≤ℤ sum_below n
+      let each : sum_below n (λ d. pos (chance_of m side s own reply d) *ℤ turn_value m side s own reply d) ≤ℤ sum_below n
       (λ d. pos (chance_of m side s own reply d) *ℤ pos 4000000000) =
       sum_mono n _ _ (λ d l. times_mono (chance_of m side s own reply d) _ (pos 4000000000) (small d (omega arith)).high) in
       omega (arith, ints, each, sum_weights n (chance_of m side s own reply) (pos 4000000000), chances_small n h)
 
   module _ (d : ℕ) (h : d < draws_of m side s own reply) (k : ℕ) (is_chance : k ≡ chance_of m side s own reply d) (x : ℤ)
-      (is_value : x ≡ serial_bound m side (child_of m side s own reply d)) where
+      (is_value : x ≡ turn_value m side s own reply d) where
     few : k ≤ 360360
     few = omega (arith, chance_small d h)
 
@@ -80,7 +79,7 @@ module _ {S : Type 0} (m : GameModel S) (game : IsGame m) (side : Side) (s : S) 
     pub product_fits : SFits w64 (to_z w64 k *ℤ to_z w64 (of_z w64 x))
     product_fits = rw (chance_is, found_is) (let a = product_low k x few small_x.low in let b = product_high k x few small_x.high in omega (arith, ints))
 
-    module _ (sum : ℤ) (summed : sum ≡ sum_below d (λ i. pos (chance_of m side s own reply i) *ℤ serial_bound m side (child_of m side s own reply i))) where
+    module _ (sum : ℤ) (summed : sum ≡ sum_below d (λ i. pos (chance_of m side s own reply i) *ℤ turn_value m side s own reply i)) where
       sum_is_low : negsuc 1441439999999999 ≤ℤ sum
       sum_is_low = rw summed (sum_low d (omega arith))
 
@@ -93,26 +92,26 @@ module _ {S : Type 0} (m : GameModel S) (game : IsGame m) (side : Side) (s : S) 
 
       -- the sum with one draw more
       pub added_is : to_z w64 (of_z w64 (sum +ℤ to_z w64 (of_z w64 (to_z w64 k *ℤ to_z w64 (of_z w64 x))))) ≡ sum_below (d + 1)
-          (λ i. pos (chance_of m side s own reply i) *ℤ serial_bound m side (child_of m side s own reply i))
+          (λ i. pos (chance_of m side s own reply i) *ℤ turn_value m side s own reply i)
       added_is = to_z-of_z w64 _ added_fits
           ∙ rw (to_z-of_z w64 (to_z w64 k *ℤ to_z w64 (of_z w64 x)) product_fits, chance_is, found_is, is_value, is_chance, summed, add-one d) refl
 
     -- the list with one draw more
-    pub listed_more : (before now mid after : List ℤ) → now ≡ before ++ concat_below d (λ i. serial_bound m side (child_of m side s own reply i) ∷ []) → mid ≡ now
+    pub listed_more : (before now mid after : List ℤ) → now ≡ before ++ concat_below d (λ i. turn_value m side s own reply i ∷ []) → mid ≡ now
         → after ≡ mid ++ to_z w64 (of_z w64 x) ∷ []
-        → after ≡ before ++ concat_below (d + 1) (λ i. serial_bound m side (child_of m side s own reply i) ∷ [])
+        → after ≡ before ++ concat_below (d + 1) (λ i. turn_value m side s own reply i ∷ [])
     listed_more before now mid after p same q =
-        q ∙ ap (λ (l : List ℤ). l ++ to_z w64 (of_z w64 x) ∷ []) (same ∙ p) ∙ append_assoc before (concat_below d (λ i. serial_bound m side (child_of m side s own reply i) ∷ [])) _
-        ∙ ap (λ (y : ℤ). before ++ (concat_below d (λ i. serial_bound m side (child_of m side s own reply i) ∷ []) ++ y ∷ [])) (found_is ∙ is_value)
-        ∙ sym (ap (λ (n : ℕ). before ++ concat_below n (λ i. serial_bound m side (child_of m side s own reply i) ∷ [])) (add-one d))
+        q ∙ ap (λ (l : List ℤ). l ++ to_z w64 (of_z w64 x) ∷ []) (same ∙ p) ∙ append_assoc before (concat_below d (λ i. turn_value m side s own reply i ∷ [])) _
+        ∙ ap (λ (y : ℤ). before ++ (concat_below d (λ i. turn_value m side s own reply i ∷ []) ++ y ∷ [])) (found_is ∙ is_value)
+        ∙ sym (ap (λ (n : ℕ). before ++ concat_below n (λ i. turn_value m side s own reply i ∷ [])) (add-one d))
 
     pub good_more : {G N : Type 0} (u v : BoardView G N) → IsLater u v
-        → ((i : ℕ) → i < d → IsGoodNumber m side u (child_of m side s own reply i) (serial_bound m side (child_of m side s own reply i)))
-        → IsGoodNumber m side v (child_of m side s own reply d) x
-        → (i : ℕ) → i < d + 1 → IsGoodNumber m side v (child_of m side s own reply i) (serial_bound m side (child_of m side s own reply i))
+        → ((i : ℕ) → i < d → after_reward m side s own reply i (IsGoodNumber m side u) (turn_value m side s own reply i))
+        → after_reward m side s own reply d (IsGoodNumber m side v) x
+        → (i : ℕ) → i < d + 1 → after_reward m side s own reply i (IsGoodNumber m side v) (turn_value m side s own reply i)
     good_more u v later before here i w = ⊎_elim
         (λ (lt : i < d). good_later later (before i lt))
-        (λ (ge : d ≤ i). let same : d ≡ i = omega arith in subst (λ (k : ℕ). IsGoodNumber m side v (child_of m side s own reply k)
-        (serial_bound m side (child_of m side s own reply k))) same
-        (subst (IsGoodNumber m side v (child_of m side s own reply d)) is_value here))
+        (λ (ge : d ≤ i). let same : d ≡ i = omega arith in subst (λ (k : ℕ). after_reward m side s own reply k (IsGoodNumber m side v)
+        (turn_value m side s own reply k)) same
+        (subst (after_reward m side s own reply d (IsGoodNumber m side v)) is_value here))
         (cases_lt i d)

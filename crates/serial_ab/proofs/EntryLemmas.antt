@@ -5,22 +5,22 @@ use Rattle.sim_game.specs.declared.Side.{Side}
 use Rattle.sim_game.specs.declared.Side.TheVariants.{One, Two}
 use Rattle.sim_game.specs.Model.{GameModel, IsGame, Reachable}
 use Rattle.plan_book.specs.declared.Entry.{Entry}
-use Rattle.sim_game.specs.Sides.{other_side, IsNoTighter, opening_bound, draws_of, child_of}
-use Rattle.plan_book.specs.Backed.{IsBacked, by_opening, by_end, by_step}
+use Rattle.sim_game.specs.Sides.{other_side, IsNoTighter, state_bound, draws_of, child_of, turn_reward, after_reward}
+use Rattle.plan_book.specs.Backed.{IsBacked, by_range, by_end, by_step}
 use Rattle.plan_book.specs.Plans.{one_move}
 use Rattle.plan_book.specs.Entries.{IsEntry, reads_of_move, concat_below}
 use Rattle.plan_book.proofs.BackedLemmas.{mean_within}
 use Rattle.plan_book.proofs.ExpectedLemmas.{is_other, one_move_fits}
 use Rattle.plan_book.proofs.SerialLemmas.{pure_step, serial_backed}
-use Rattle.sim_game.proofs.SideLemmas.{looser_trans, looser_times}
+use Rattle.sim_game.proofs.SideLemmas.{looser_trans, looser_times, looser_more}
 use Rattle.bounds_board.specs.Views.{BoardView, IsLater, IsSeenNumber}
 use Rattle.bounds_board.proofs.ViewLemmas.{seen_later}
 use Rattle.serial_ab.specs.Searches.{IsReplied, IsPureEntry}
-use Rattle.serial_ab.proofs.ValueLemmas.{serial_high, child_is}
+use Rattle.serial_ab.proofs.ValueLemmas.{turn_value_high, child_is}
 
 -- a backed bound stays backed where it says less
 pub backed_looser : {S : Type 0} (m : GameModel S) (side : Side) (s : S) (x y : ℤ) → IsBacked m side s x → IsNoTighter side y x → IsBacked m side s y
-backed_looser m side s x y (by_opening s' x' h) l = by_opening s y (looser_trans side _ _ _ l h)
+backed_looser m side s x y (by_range s' x' h) l = by_range s y (looser_trans side _ _ _ l h)
 backed_looser m side s x y (by_end s' x' e h) l = by_end s y e (looser_trans side _ _ _ l h)
 backed_looser m side s x y (by_step s' x' total weights numbers step children) l =
     by_step s y total weights numbers (record {
@@ -63,27 +63,27 @@ joined_only (suc n) place f p h = ⊎_elim
     (λ (ge : n ≤ place). let same : place ≡ n = omega arith in let front = joined_none n f (λ i q. h i (omega arith) (λ e. omega arith)) in rw (front, same) refl)
     (cases_lt place n)
 
-pub in_range : {S : Type 0} (m : GameModel S) (of : Side) (x : ℤ) → IsNoTighter of (opening_bound m of) x → IsNoTighter of x (opening_bound m (other_side of))
-    → IsNoTighter One (opening_bound m One) x × IsNoTighter Two (opening_bound m Two) x
-in_range m One x p q = (p, q)
-in_range m Two x p q = (q, p)
+pub in_range : {S : Type 0} (m : GameModel S) (s : S) (of : Side) (x : ℤ) → IsNoTighter of (state_bound m of s) x → IsNoTighter of x (state_bound m (other_side of) s)
+    → IsNoTighter One (state_bound m One s) x × IsNoTighter Two (state_bound m Two s) x
+in_range m s One x p q = (p, q)
+in_range m s Two x p q = (q, p)
 
 module _ {S G N : Type 0} (m : GameModel S) (game : IsGame m) (side : Side) (s : S) (r : Reachable m s) (goes : 1 ≤ m.rank s) (own : ℕ) (at : own < m.moves side s)
-    (u v : BoardView G N) (later : IsLater u v) (reads : List ℤ) (bound : ℤ) (low : IsNoTighter side (opening_bound m side) bound)
+    (u v : BoardView G N) (later : IsLater u v) (reads : List ℤ) (bound : ℤ) (low : IsNoTighter side (state_bound m side s) bound)
     (replied : IsReplied m side s own (m.moves (other_side side) s) u reads bound)
     (total : ℕ) (some : 1 ≤ total) where
   positive : (o : ℕ) → 1 ≤ get_or (one_move total (m.moves side s) own) o 0 → own ≡ o
   positive o w = ⊎_elim (λ (e : o ≡ own). sym e) (λ (n : o ≢ own). let none = one_move_other total (m.moves side s) own o n in absurd (omega arith)) (cases_eq o own)
 
-  bound_high : IsNoTighter side bound (opening_bound m (other_side side))
+  bound_high : IsNoTighter side bound (state_bound m (other_side side) s)
   bound_high = let others = game.other_moves (other_side side) s r goes in
       looser_trans side _ _ _ (replied.proven 0 (omega arith))
-      (mean_within m game side s (λ _ a b. replied.numbers a b) own 0 (opening_bound m (other_side side)) r at (omega arith) (λ d w.
-      looser_trans side _ _ _ (replied.good 0 d (omega arith) w).proven
-      (serial_high m game side (child_of m side s own 0 d) (child_is m game side s own 0 d r at (omega arith) w))))
+      (mean_within m game side s (λ _ a b. replied.numbers a b) own 0 (state_bound m (other_side side) s) r at (omega arith) (λ d w.
+      looser_trans side _ _ _ (looser_more side (turn_reward m side s own 0 d) _ _ (replied.good 0 d (omega arith) w).proven)
+      (turn_value_high m game side s own 0 d r at (omega arith) w)))
 
   pub pure_entry : IsEntry m total (IsSeenNumber m v) (record { key = m.key s; side = side; bound = bound; weights = one_move total (m.moves side s) own; reads = reads })
-  pure_entry = let range = in_range m side bound low bound_high in record {
+  pure_entry = let range = in_range m s side bound low bound_high in record {
     state = s;
     reachable = r;
     is_key = refl;
@@ -95,9 +95,9 @@ module _ {S G N : Type 0} (m : GameModel S) (game : IsGame m) (side : Side) (s :
         (λ o p n. rw (one_move_other total (m.moves side s) own o n) refl)
         ∙ rw (one_move_at total (m.moves side s) own at, is_other total 0 (λ e. omega arith)) refl);
     step = pure_step m side s total own (λ _ a b. replied.numbers a b) bound goes some at replied.proven;
-    backed = λ o a d p q t w. subst (λ (k : ℕ). (c : ℕ) → c < draws_of m side s k a → IsBacked m side (child_of m side s k a c) (replied.numbers a c)) (positive o w)
+    backed = λ o a d p q t w. subst (λ (k : ℕ). (c : ℕ) → c < draws_of m side s k a → after_reward m side s k a c (IsBacked m side) (replied.numbers a c)) (positive o w)
         (λ c t'. backed_looser m side _ _ _ (serial_backed m game side (child_of m side s own a c) (child_is m game side s own a c r at q t')) (replied.good a c q t').proven) d t;
-    known = λ o a d p q t w. subst (λ (k : ℕ). (c : ℕ) → c < draws_of m side s k a → IsSeenNumber m v side (child_of m side s k a c) (replied.numbers a c)) (positive o w)
+    known = λ o a d p q t w. subst (λ (k : ℕ). (c : ℕ) → c < draws_of m side s k a → after_reward m side s k a c (IsSeenNumber m v side) (replied.numbers a c)) (positive o w)
         (λ c t'. seen_later m u v side _ _ later (replied.good a c q t').seen) d t;
   }
 

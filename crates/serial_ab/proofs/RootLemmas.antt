@@ -1,11 +1,11 @@
 -- The serial bounds of a root, by what two searches over the whole range found.
-use Rattle.std.proofs.Common.{◌≡◌, ◌≢◌, Result, Ok, Err, OnOk, ℕ, ◌+◌, ◌≤◌, ℤ, ◌≤ℤ◌, w64, SFits, to_z, of_z, sym, ap, ◌∙◌, arith}
+use Rattle.std.proofs.Common.{◌≡◌, ◌≢◌, ⊎_elim, Result, Ok, Err, OnOk, ℕ, ◌+◌, ◌≤◌, ℤ, ◌≤ℤ◌, ◌<ℤ◌, w64, SFits, to_z, of_z, sym, ap, ◌∙◌, arith}
 use Rattle.std.proofs.lemmas.Int.{ints, to_z-of_z}
 use Rattle.sim_game.specs.declared.Side.{Side}
 use Rattle.sim_game.specs.declared.Side.TheVariants.{One, Two}
 use Rattle.sim_game.specs.Model.{GameModel, IsGame, Reachable, LeadsTo, HasAtMost}
-use Rattle.sim_game.specs.Sides.{other_side, opening_bound, IsTighter}
-use Rattle.sim_game.proofs.SideLemmas.{looser_both}
+use Rattle.sim_game.specs.Sides.{other_side, opening_bound, state_bound, IsTighter}
+use Rattle.sim_game.proofs.SideLemmas.{looser_both, tighter_or, opening_state, state_range}
 use Rattle.sim_game.proofs.ReachLemmas.{reachable_root}
 use Rattle.plan_book.specs.Serial.{serial_bound, tree_size}
 use Rattle.bounds_board.specs.Views.{BoardView, WasFull}
@@ -15,25 +15,41 @@ use Rattle.serial_ab.specs.Roots.{IsSearchable, IsRootValue}
 use Rattle.serial_ab.specs.Searches.{EndsWith, IsFound}
 use Rattle.serial_ab.specs.declared.stop.Stop.{Stop}
 use Rattle.serial_ab.specs.declared.stop.Stop.TheVariants.{Cut, Full, NoMemory}
+use Rattle.serial_ab.proofs.EndLemmas.{apart}
 use Rattle.serial_ab.proofs.SearchLemmas.{whole_range}
 use Rattle.serial_ab.proofs.ValueLemmas.{serial_low, serial_high}
 
 module _ {S : Type 0} (m : GameModel S) (game : IsGame m) (s : S) (r : Reachable m s) where
-  most : (side : Side) → serial_bound m side s ≤ℤ opening_bound m Two
+  most : (side : Side) → serial_bound m side s ≤ℤ state_bound m Two s
   most One = serial_high m game One s r
   most Two = serial_low m game Two s r
 
-  least : (side : Side) → opening_bound m One ≤ℤ serial_bound m side s
+  least : (side : Side) → state_bound m One s ≤ℤ serial_bound m side s
   least One = serial_low m game One s r
   least Two = serial_high m game Two s r
 
-  -- where all payoffs are equal
-  pub value_alone : (side : Side) → opening_bound m One ≡ opening_bound m Two → opening_bound m One ≡ serial_bound m side s
+  -- where all that can be got is one number
+  pub value_alone : (side : Side) → state_bound m One s ≡ state_bound m Two s → state_bound m One s ≡ serial_bound m side s
   value_alone side e = looser_both One _ _ (least side) (rw e (most side))
 
-pub whole_wide : {S : Type 0} (m : GameModel S) (side : Side) → IsSearchable m → IsTighter side (opening_bound m (other_side side)) (opening_bound m side)
-whole_wide m One searched = searched.wide
-whole_wide m Two searched = searched.wide
+pub whole_wide : {S : Type 0} (m : GameModel S) (game : IsGame m) (side : Side) → IsSearchable m → IsTighter side (opening_bound m (other_side side)) (opening_bound m side)
+whole_wide m game side searched = of side where
+  wide : opening_bound m One <ℤ opening_bound m Two
+  wide = apart _ _ _ _ (opening_state m One m.root game (reachable_root m)) searched.wide (opening_state m Two m.root game (reachable_root m))
+
+  of : (side : Side) → IsTighter side (opening_bound m (other_side side)) (opening_bound m side)
+  of One = wide
+  of Two = wide
+
+-- a root whose bounds differ is searched
+pub root_searched : {S : Type 0} (m : GameModel S) (game : IsGame m) → 1 ≤ m.rank m.root → (state_bound m One m.root ≡ state_bound m Two m.root → ⊥) → IsSearchable m
+root_searched m game goes_on differ = record {
+  goes_on = goes_on;
+  wide = ⊎_elim
+      (λ (h : state_bound m One m.root <ℤ state_bound m Two m.root). h)
+      (λ (h : state_bound m Two m.root ≤ℤ state_bound m One m.root). absurd (differ (looser_both One _ _ (state_range m One m.root game (reachable_root m)) h)))
+      (tighter_or One (state_bound m Two m.root) (state_bound m One m.root));
+}
 
 -- a search that was not cut had a visit left
 had_left : (side : Side) (v : VisitsView) (r : Result ℤ Stop) → r ≢ Err Cut → (left_on side v ≡ 0 → r ≡ Err Cut) → 1 ≤ left_on side v
@@ -45,7 +61,7 @@ pub root_ends : {S G N : Type 0} (m : GameModel S) (game : IsGame m) (side : Sid
     → EndsWith (IsFound m side m.root (opening_bound m side) (opening_bound m (other_side side)) v) (IsCut side (tree_size m m.root) old new) (WasFull m v (LeadsTo m m.root)) r
     → EndsWith (IsRootValue m side old new) (IsCut side (tree_size m m.root) old new) (1 ≤ left_on side old × WasFull m v (LeadsTo m m.root)) r
 root_ends m game side v old new (Ok x) searched none entered found = record {
-  value = (whole_range m game side m.root v x (reachable_root m) found (whole_wide m side searched)).0;
+  value = (whole_range m game side m.root v x (reachable_root m) found (whole_wide m game side searched)).0;
   had_left = λ _. had_left side old (Ok x) (λ e. cc) none;
   entered = λ _. entered;
 }
@@ -57,9 +73,9 @@ root_ends m game side v old new (Err NoMemory) searched none entered h = h
 pub one_word : (x y : ℤ) → SFits w64 x → SFits w64 y → of_z w64 x ≡ of_z w64 y → x ≡ y
 one_word x y f g e = sym (to_z-of_z w64 x f) ∙ ap (to_z w64) e ∙ to_z-of_z w64 y g
 
-pub equal_payoffs : {S : Type 0} (m : GameModel S) (game : IsGame m) (side : Side) (v : VisitsView) → opening_bound m One ≡ opening_bound m Two
-    → IsRootValue m side v v (opening_bound m One)
-equal_payoffs m game side v e = record {
+pub equal_bounds : {S : Type 0} (m : GameModel S) (game : IsGame m) (side : Side) (v : VisitsView) → state_bound m One m.root ≡ state_bound m Two m.root
+    → IsRootValue m side v v (state_bound m One m.root)
+equal_bounds m game side v e = record {
   value = value_alone m game m.root (reachable_root m) side e;
   had_left = λ open_game. let wide = open_game.wide in absurd (omega (arith, ints));
   entered = λ open_game. let wide = open_game.wide in absurd (omega (arith, ints));

@@ -11,7 +11,7 @@ use Rattle.sim_game.specs.declared.Side.{Side}
 use Rattle.sim_game.specs.Model.{GameModel, IsGame, Reachable}
 use Rattle.sim_game.proofs.SideLemmas.{looser_trans}
 use Rattle.bounds_board.specs.Views.{BoardView, IsLater}
-use Rattle.bounds_board.proofs.ViewLemmas.{seen_later}
+use Rattle.bounds_board.proofs.KnownLemmas.{known_later}
 use Rattle.serial_ab.specs.declared.transpositions.Memo.{Memo}
 use Rattle.serial_ab.specs.declared.transpositions.Query.{Query}
 use Rattle.serial_ab.specs.declared.stop.Stop.{Stop}
@@ -51,7 +51,9 @@ module _ {S G N : Type 0} {m : GameModel S} where
     each = λ q e told. let was = old.each q e told in record {
       found = λ s r k. let found = was.found s r k in record {
         proven = found.proven;
-        seen = λ t. seen_later m u v q.side s e.number later (found.seen t);
+        at_end = found.at_end;
+        seen = λ goes t. looser_trans q.side _ _ _ (found.seen goes t) (known_later m u v q.side s later);
+        range = found.range;
         reached = found.reached;
         opened = λ goes. looser_trans q.side _ _ _ (found.opened goes) (later.seen q.side (m.key s));
       };

@@ -1,24 +1,25 @@
 -- The serial bound and the size of the tree, by the children of a state.
-use Rattle.std.proofs.Common.{◌≡◌, ℕ, zero, suc, ◌+◌, ◌-◌, ◌<◌, ◌≤◌, ℤ, pos, ◌*ℤ◌, inl, inr, refl, sym, ap, ◌∙◌, arith}
+use Rattle.std.proofs.Common.{◌≡◌, ℕ, zero, suc, ◌+◌, ◌-◌, ◌<◌, ◌≤◌, ℤ, pos, ◌+ℤ◌, ◌*ℤ◌, inl, inr, refl, sym, ap, ◌∙◌, arith}
 use Rattle.std.proofs.lemmas.Bool.{cases_eq}
 use Rattle.sim_game.specs.declared.Side.{Side}
 use Rattle.sim_game.specs.declared.Side.TheVariants.{One, Two}
-use Rattle.sim_game.specs.Model.{GameModel, IsGame, IsEnd, Reachable, LeadsTo}
+use Rattle.sim_game.specs.Model.{GameModel, IsGame, IsTurn, IsEnd, Reachable, LeadsTo}
 use Rattle.sums.specs.Sums.{count_below}
 use Rattle.sim_game.proofs.ReachLemmas.{reachable_turn, leads_turn}
 use Rattle.sums.proofs.SumLemmas.{sum_same, sum_weights}
-use Rattle.sim_game.specs.Sides.{other_side, IsNoTighter, opening_bound, end_bound, turn_of, draws_of, chance_of, child_of}
+use Rattle.sim_game.specs.Sides.{other_side, IsNoTighter, opening_bound, state_bound, end_bound, turn_of, draws_of, chance_of, child_of, turn_reward, over_turns}
 use Rattle.plan_book.specs.Steps.{cell, rounded}
 use Rattle.plan_book.specs.Serial.{best_upto, serial_within, serial_bound, nodes_within, tree_size}
 use Rattle.plan_book.proofs.ExpectedLemmas.{is_same, is_other}
-use Rattle.plan_book.proofs.GuaranteeLemmas.{chances, opening_at_end}
+use Rattle.plan_book.proofs.GuaranteeLemmas.{chances}
 use Rattle.plan_book.proofs.BackedLemmas.{backed_within, mean_within}
 use Rattle.plan_book.proofs.SerialLemmas.{best_reached, best_bounds, serial_backed}
-use Rattle.sim_game.proofs.SideLemmas.{flip_side, looser_refl, looser_trans, looser_times, looser_sum, looser_left, looser_right, side_turn, looser_both}
+use Rattle.sim_game.proofs.SideLemmas.{flip_side, looser_refl, looser_trans, looser_times, looser_sum, looser_left, looser_right, looser_add, side_turn, looser_both, opening_state, end_range, turn_range}
 use Rattle.plan_book.proofs.StepLemmas.{looser_rounded, rounded_tightest}
 use Rattle.bounds_board.specs.Views.{BoardView, WasFull}
 use Rattle.bounds_board.proofs.FullLemmas.{full_weaker}
-use Rattle.serial_ab.specs.Values.{pair_value, move_value, pair_nodes, inner_nodes}
+use Rattle.serial_ab.specs.Searches.{IsInStateRange}
+use Rattle.serial_ab.specs.Values.{turn_value, pair_value, move_value, pair_nodes, inner_nodes}
 
 -- ---- equal numbers
 pub best_same : (side : Side) (last : ℕ) (f g : ℕ → ℤ) → ((i : ℕ) → i ≤ last → f i ≡ g i) → best_upto side last f ≡ best_upto side last g
@@ -79,9 +80,10 @@ module _ {S : Type 0} (m : GameModel S) (game : IsGame m) where
     | inl stop ↦ rw (is_same (m.rank s) 0 stop) refl
     | inr on ↦ let some = game.other_moves side s r (omega arith) in let others = game.other_moves (other_side side) s r (omega arith) in
         rw (is_other (m.rank s) 0 on) (best_same side (m.moves side s - 1) _ _ (λ own a. best_same (other_side side) (m.moves (other_side side) s - 1) _ _ (λ reply b.
-        cell_same m side s (λ a b d. serial_within m side n (child_of m side s a b d)) (λ a b d. serial_within m side k (child_of m side s a b d)) own reply (λ d u.
+        cell_same m side s (over_turns m side s (λ t. serial_within m side n t)) (over_turns m side s (λ t. serial_within m side k t)) own reply (λ d u.
         let lower = child_lower side s own reply d r (omega arith) (omega arith) u in
-        serial_enough side n k (child_of m side s own reply d) (child_is side s own reply d r (omega arith) (omega arith) u) (omega arith) (omega arith)))))
+        ap (λ (x : ℤ). turn_reward m side s own reply d +ℤ x)
+        (serial_enough side n k (child_of m side s own reply d) (child_is side s own reply d r (omega arith) (omega arith) u) (omega arith) (omega arith))))))
   ]
 
   pub serial_end : (side : Side) (s : S) → IsEnd m s → serial_bound m side s ≡ end_bound m s
@@ -94,10 +96,11 @@ module _ {S : Type 0} (m : GameModel S) (game : IsGame m) where
       let on : ¬ (m.rank s ≡ 0) = λ e. omega arith in
       let more : serial_bound m side s ≡ serial_within m side (suc (m.rank s)) s = serial_enough side (m.rank s) (suc (m.rank s)) s r (omega arith) (omega arith) in
       more ∙ rw (is_other (m.rank s) 0 on) (best_same side (m.moves side s - 1) _ _ (λ own a. best_same (other_side side) (m.moves (other_side side) s - 1) _ _ (λ reply b.
-      cell_same m side s (λ a b d. serial_within m side (m.rank s) (child_of m side s a b d)) (λ a b d. serial_bound m side (child_of m side s a b d)) own reply (λ d u.
+      cell_same m side s (over_turns m side s (λ t. serial_within m side (m.rank s) t)) (turn_value m side s) own reply (λ d u.
       let lower = child_lower side s own reply d r (omega arith) (omega arith) u in
-      serial_enough side (m.rank s) (m.rank (child_of m side s own reply d)) (child_of m side s own reply d) (child_is side s own reply d r (omega arith) (omega arith) u)
-      (omega arith) (omega arith)))))
+      ap (λ (x : ℤ). turn_reward m side s own reply d +ℤ x)
+      (serial_enough side (m.rank s) (m.rank (child_of m side s own reply d)) (child_of m side s own reply d) (child_is side s own reply d r (omega arith) (omega arith) u)
+      (omega arith) (omega arith))))))
 
   nodes_enough : (n k : ℕ) (s : S) → Reachable m s → m.rank s ≤ n → m.rank s ≤ k → nodes_within m n s ≡ nodes_within m k s
   nodes_enough zero zero s r p q = refl
@@ -126,28 +129,61 @@ module _ {S : Type 0} (m : GameModel S) (game : IsGame m) where
       (sum_weights (draws_of m side s own reply) (chance_of m side s own reply) limit ∙ ap (λ (n : ℕ). pos n *ℤ limit) (chances m game side s own reply r p q))
       (looser_sum side (draws_of m side s own reply) _ _ (λ d u. looser_times side (chance_of m side s own reply d) _ _ (h d u))))
 
-  low_within : (side : Side) (turns : ℕ) (s : S) → Reachable m s → m.rank s ≤ turns → IsNoTighter side (opening_bound m side) (serial_within m side turns s)
-  low_within side zero s r h = opening_at_end m game side s r (omega arith)
+  -- a reward, with a number in the range of the state that follows, is in that of the state
+  module _ (side : Side) (s : S) (own reply d : ℕ) (r : Reachable m s) (p : own < m.moves side s) (q : reply < m.moves (other_side side) s) (u : d < draws_of m side s own reply) (x : ℤ) where
+    turn : IsTurn m s (turn_of side own reply d)
+    turn = side_turn m side s own reply d p q u
+
+    pub turn_from : IsNoTighter side (state_bound m side (child_of m side s own reply d)) x → IsNoTighter side (state_bound m side s) (turn_reward m side s own reply d +ℤ x)
+    turn_from h = looser_trans side _ _ _ (turn_range m side side s own reply d game r turn) (looser_add side (turn_reward m side s own reply d) _ x h)
+
+    pub turn_to : IsNoTighter side x (state_bound m (other_side side) (child_of m side s own reply d)) → IsNoTighter side (turn_reward m side s own reply d +ℤ x) (state_bound m (other_side side) s)
+    turn_to h = looser_trans side _ _ _ (looser_add side (turn_reward m side s own reply d) x _ h) (flip_side side _ _ (turn_range m (other_side side) side s own reply d game r turn))
+
+  low_within : (side : Side) (turns : ℕ) (s : S) → Reachable m s → m.rank s ≤ turns → IsNoTighter side (state_bound m side s) (serial_within m side turns s)
+  low_within side zero s r h = end_range m side s game r (omega arith)
   low_within side (suc turns) s r h = elim (cases_eq (m.rank s) 0) [
-    | inl stop ↦ rw (is_same (m.rank s) 0 stop) (opening_at_end m game side s r stop)
+    | inl stop ↦ rw (is_same (m.rank s) 0 stop) (end_range m side s game r stop)
     | inr on ↦ let some = game.other_moves side s r (omega arith) in let others = game.other_moves (other_side side) s r (omega arith) in
-        let value : ℕ → ℤ = λ own. best_upto (other_side side) (m.moves (other_side side) s - 1)
-        (λ reply. cell m side s (λ a b d. serial_within m side turns (child_of m side s a b d)) own reply) in
-        let worst = best_reached (other_side side) (m.moves (other_side side) s - 1)
-        (λ reply. cell m side s (λ a b d. serial_within m side turns (child_of m side s a b d)) 0 reply) in
+        let numbers : ℕ → ℕ → ℕ → ℤ = over_turns m side s (λ t. serial_within m side turns t) in
+        let value : ℕ → ℤ = λ own. best_upto (other_side side) (m.moves (other_side side) s - 1) (λ reply. cell m side s numbers own reply) in
+        let worst = best_reached (other_side side) (m.moves (other_side side) s - 1) (λ reply. cell m side s numbers 0 reply) in
+        let first : 0 < m.moves side s = omega arith in
+        let against : worst.0 < m.moves (other_side side) s = omega (arith, worst.1) in
         rw (is_other (m.rank s) 0 on) (looser_trans side _ (value 0) _
-        (looser_right side _ _ _ (sym worst.2) (mean_above side s (λ a b d. serial_within m side turns (child_of m side s a b d)) 0 worst.0 (opening_bound m side) r (omega arith)
-        (omega (arith, worst.1)) (λ d u.
-        let lower = child_lower side s 0 worst.0 d r (omega arith) (omega (arith, worst.1)) u in
-        low_within side turns (child_of m side s 0 worst.0 d) (child_is side s 0 worst.0 d r (omega arith) (omega (arith, worst.1)) u) (omega arith))))
+        (looser_right side _ _ _ (sym worst.2) (mean_above side s numbers 0 worst.0 (state_bound m side s) r first against (λ d u.
+        let lower = child_lower side s 0 worst.0 d r first against u in
+        turn_from side s 0 worst.0 d r first against u _ (low_within side turns (child_of m side s 0 worst.0 d) (child_is side s 0 worst.0 d r first against u) (omega arith)))))
         (best_bounds side (m.moves side s - 1) value 0 (omega arith)))
   ]
 
-  pub serial_low : (side : Side) (s : S) → Reachable m s → IsNoTighter side (opening_bound m side) (serial_bound m side s)
+  pub serial_low : (side : Side) (s : S) → Reachable m s → IsNoTighter side (state_bound m side s) (serial_bound m side s)
   serial_low side s r = low_within side (m.rank s) s r (omega arith)
 
-  pub serial_high : (side : Side) (s : S) → Reachable m s → IsNoTighter side (serial_bound m side s) (opening_bound m (other_side side))
+  pub serial_high : (side : Side) (s : S) → Reachable m s → IsNoTighter side (serial_bound m side s) (state_bound m (other_side side) s)
   serial_high side s r = backed_within m game side s (serial_bound m side s) r (serial_backed m game side s r)
+
+  -- so is that of a turn, and that of a pair of moves
+  pub turn_value_low : (side : Side) (s : S) (own reply d : ℕ) → Reachable m s → own < m.moves side s → reply < m.moves (other_side side) s → d < draws_of m side s own reply
+      → IsNoTighter side (state_bound m side s) (turn_value m side s own reply d)
+  turn_value_low side s own reply d r p q u = turn_from side s own reply d r p q u _ (serial_low side (child_of m side s own reply d) (child_is side s own reply d r p q u))
+
+  pub turn_value_high : (side : Side) (s : S) (own reply d : ℕ) → Reachable m s → own < m.moves side s → reply < m.moves (other_side side) s → d < draws_of m side s own reply
+      → IsNoTighter side (turn_value m side s own reply d) (state_bound m (other_side side) s)
+  turn_value_high side s own reply d r p q u = turn_to side s own reply d r p q u _ (serial_high side (child_of m side s own reply d) (child_is side s own reply d r p q u))
+
+  pub pair_range : (side : Side) (s : S) (own reply : ℕ) → Reachable m s → own < m.moves side s → reply < m.moves (other_side side) s → IsInStateRange m side s (pair_value m side s own reply)
+  pair_range side s own reply r p q = record {
+    low = mean_above side s (turn_value m side s) own reply _ r p q (λ d u. turn_value_low side s own reply d r p q u);
+    high = mean_within m game side s (turn_value m side s) own reply _ r p q (λ d u. turn_value_high side s own reply d r p q u);
+  }
+
+  -- both ends of the range of payoffs, for the serial bound
+  pub serial_from : (side : Side) (s : S) → Reachable m s → IsNoTighter side (opening_bound m side) (serial_bound m side s)
+  serial_from side s r = looser_trans side _ _ _ (opening_state m side s game r) (serial_low side s r)
+
+  pub serial_to : (side : Side) (s : S) → Reachable m s → IsNoTighter side (serial_bound m side s) (opening_bound m (other_side side))
+  serial_to side s r = looser_trans side _ _ _ (serial_high side s r) (flip_side side _ _ (opening_state m (other_side side) s game r))
 
   -- ---- parts of the value
   pub move_below : (side : Side) (s : S) (own : ℕ) → Reachable m s → 1 ≤ m.rank s → own < m.moves side s → IsNoTighter side (move_value m side s own) (serial_bound m side s)

@@ -3,16 +3,16 @@ use Rattle.std.specs.Prelude.{◌≡◌, ℕ, ◌+◌, ◌≤◌, ℤ, ◌<ℤ�
 use Rattle.sim_game.specs.declared.Side.{Side}
 use Rattle.sim_game.specs.declared.Side.TheVariants.{One, Two}
 use Rattle.sim_game.specs.Model.{GameModel, HasAtMost}
-use Rattle.sim_game.specs.Sides.{opening_bound}
+use Rattle.sim_game.specs.Sides.{state_bound}
 use Rattle.plan_book.specs.Serial.{serial_bound, tree_size}
 use Rattle.serial_ab.specs.Counts.{VisitsView, spent_on, left_on, IsCut}
 use Rattle.serial_ab.specs.declared.roots.RootEnd.{RootEnd}
 use Rattle.serial_ab.specs.declared.roots.RootEnd.TheVariants.{Found, Cut, Full}
 
--- the root is no end, and payoffs differ: only such a game is searched
+-- the root is no end, and what can be got from it differs: only such a game is searched
 pub record IsSearchable {S : Type 0} (m : GameModel S) : Type 0 where
   pub goes_on : 1 ≤ m.rank m.root
-  pub wide : opening_bound m One <ℤ opening_bound m Two
+  pub wide : state_bound m One m.root <ℤ state_bound m Two m.root
 
 -- the number is the serial bound of the root, and a search took two visits or more of those left
 pub record IsRootValue {S : Type 0} (m : GameModel S) (side : Side) (old new : VisitsView) (x : ℤ) : Type 0 where

@@ -5,7 +5,7 @@ use Rattle.sim_game.specs.declared.Side.TheVariants.{One, Two}
 use Rattle.sim_game.specs.Model.{GameModel, LeadsTo}
 use Rattle.sim_game.specs.Sides.{IsNoTighter, opening_bound}
 use Rattle.plan_book.specs.Serial.{serial_bound, tree_size}
-use Rattle.bounds_board.specs.Views.{BoardView, WasFull}
+use Rattle.bounds_board.specs.Views.{BoardView, WasFull, known_bound}
 use Rattle.bounds_board.specs.declared.bounds.BoardFault.{BoardFault}
 use Rattle.bounds_board.specs.declared.bounds.BoardFault.TheVariants.{Full}
 use Rattle.serial_ab.specs.Counts.{VisitsView, spent_on, left_on}
@@ -27,9 +27,9 @@ pub record IsSerialEnd {S G N : Type 0} (m : GameModel S) (side : Side) (s : S) 
   pub entered : 1 ≤ left_on side before → spent_on side before + 1 ≤ spent_on side after
   -- and so does a child, where the state is no end
   pub below : 1 ≤ m.rank s → IfOk result (λ end. end ≢ Cut → spent_on side before + 2 ≤ spent_on side after)
-  -- what is found inside the window, or beyond its better end, is on the board
-  pub seen : 1 ≤ m.rank s → IfOk result (IsShown side (new.seen side (m.key s)))
+  -- what is found inside the window, or beyond its better end, is known
+  pub seen : 1 ≤ m.rank s → IfOk result (IsShown side (known_bound m new side s))
   -- over the whole range the serial bound is
   pub whole : low ≡ opening_bound m One → high ≡ opening_bound m Two → 1 ≤ m.rank s
-      → IfOk result (λ end. end ≢ Cut → IsNoTighter side (serial_bound m side s) (new.seen side (m.key s)))
+      → IfOk result (λ end. end ≢ Cut → IsNoTighter side (serial_bound m side s) (known_bound m new side s))
   pub full : result ≡ Err Full → WasFull m new (LeadsTo m s)

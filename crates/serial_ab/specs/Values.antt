@@ -3,13 +3,17 @@ use Rattle.std.specs.Prelude.{ℕ, ◌-◌, ℤ}
 use Rattle.sim_game.specs.declared.Side.{Side}
 use Rattle.sim_game.specs.Model.{GameModel}
 use Rattle.sums.specs.Sums.{count_below}
-use Rattle.sim_game.specs.Sides.{other_side, draws_of, child_of}
+use Rattle.sim_game.specs.Sides.{other_side, draws_of, child_of, over_turns}
 use Rattle.plan_book.specs.Steps.{cell}
 use Rattle.plan_book.specs.Serial.{best_upto, serial_bound, tree_size}
 
+-- the reward of a turn, with the serial bound of the state that follows
+abbrev pub turn_value : {S : Type 0} → GameModel S → Side → S → ℕ → ℕ → ℕ → ℤ
+turn_value m side s own reply draw = over_turns m side s (serial_bound m side) own reply draw
+
 -- the serial bound over the draws of an own move and a reply
 abbrev pub pair_value : {S : Type 0} → GameModel S → Side → S → ℕ → ℕ → ℤ
-pair_value m side s own reply = cell m side s (λ a b d. serial_bound m side (child_of m side s a b d)) own reply
+pair_value m side s own reply = cell m side s (turn_value m side s) own reply
 
 -- that of an own move: the reply is the best for the other side
 abbrev pub move_value : {S : Type 0} → GameModel S → Side → S → ℕ → ℤ

@@ -1,15 +1,15 @@
 //! Steps by one move, and the means of numbers at draws.
 ghost use Rattle.std.specs.Prelude.{◌≡◌, ◌<◌, ◌≤◌, ◌++◌, ◌∷◌, [], Some, OnOk, OnErr, IfOk};
 ghost use Rattle.sim_game.specs.Model.{Reachable};
-ghost use Rattle.sim_game.specs.Sides.{other_side, IsNoTighter, opening_bound};
+ghost use Rattle.sim_game.specs.Sides.{other_side, IsNoTighter, state_bound};
 ghost use Rattle.plan_book.specs.Plans.{one_move};
 ghost use Rattle.plan_book.specs.Books.{Grows};
-ghost use Rattle.bounds_board.specs.Views.{IsLater};
+ghost use Rattle.bounds_board.specs.Views.{IsLater, known_bound};
 ghost use Rattle.serial_ab.specs.Searches.{IsReplied, IsPureEntry};
 
 use crate::stop::Stop;
 use crate::task::Task;
-use bounds_board::{Bounds, Row};
+use bounds_board::{Bounds, Row, known_bounds};
 use plan_book::Entry;
 use seq::Seq;
 use sim_game::Game;
@@ -57,7 +57,7 @@ pub(crate) fn pure_weights(
     }
 }
 
-/// Posts the step by one move over the numbers at its children, where its bound is tighter than what is read.
+/// Posts the step by one move over the numbers at its children, where its bound is tighter than what is known of the state.
 pub(crate) fn post_move<G: Game, B: Bounds<G>>(
     task: &Task<G>,
     s: G::State,
@@ -72,17 +72,17 @@ pub(crate) fn post_move<G: Game, B: Bounds<G>>(
     requires goes_on { 1 ≤ (G.model task.now.game).rank s }
     requires own_move { own < (G.model task.now.game).moves task.now.side s }
     requires row { (B.view board.old).key_at row ≡ Some ((G.model task.now.game).key s) }
-    requires low { IsNoTighter task.now.side (opening_bound (G.model task.now.game) task.now.side) bound }
+    requires low { IsNoTighter task.now.side (state_bound (G.model task.now.game) task.now.side s) bound }
     requires replied { IsReplied (G.model task.now.game) task.now.side s own
         ((G.model task.now.game).moves (other_side task.now.side) s) (B.view board.old) reads.now bound }
     ensures later { IsLater (B.view board.old) (B.view board.new) }
     ensures posted { Grows (IsPureEntry (G.model task.now.game) (B.view board.old).total)
         (B.view board.old).entries (B.view board.new).entries }
     ensures seen { OnOk result (IsNoTighter task.now.side bound
-        ((B.view board.new).seen task.now.side ((G.model task.now.game).key s))) }
+        (known_bound (G.model task.now.game) (B.view board.new) task.now.side s)) }
     ensures err { OnErr result (result ≡ Err Stop.NoMemory) }
 {
-    let known = board.read(row).of(task.side);
+    let known = known_bounds(task.game, s, row, board).of(task.side);
     if !task.side.is_tighter(bound, known) {
         return Ok(());
     }

@@ -2,7 +2,6 @@
 ghost use Rattle.std.specs.Prelude.{◌≡◌, ◌≤◌, IfOk};
 ghost use Rattle.sim_game.specs.declared.Side.TheVariants.{One, Two};
 ghost use Rattle.sim_game.specs.Model.{LeadsTo};
-ghost use Rattle.sim_game.specs.Sides.{opening_bound};
 ghost use Rattle.plan_book.specs.Serial.{tree_size};
 ghost use Rattle.bounds_board.specs.Views.{WasFull};
 ghost use Rattle.serial_ab.specs.Counts.{left_on, IsCut, HasCounted};
@@ -16,7 +15,7 @@ use crate::task::{SerialWorker, Task, Window};
 use crate::transpositions::{TABLE_LIMIT, TranspositionTable};
 use crate::visits::Visits;
 use bounds_board::{Bounds, PlainBoard};
-use sim_game::{Game, NoMemory, Side, end_bound, opening_bound};
+use sim_game::{Game, NoMemory, Side, end_bound, opening_bound, state_bound};
 use std::alloc::Global;
 use std::mem;
 
@@ -32,8 +31,8 @@ pub enum RootEnd {
 }
 
 /// The serial bounds of the root, by a search for One and one for Two over a plain board of 1 to 1048576 rows. Where
-/// the root is an end, or all payoffs are equal, there is no search and no visit. Without an answer only for want of
-/// memory.
+/// the root is an end, or all that can be got from it is one number, there is no search and no visit. Without an answer
+/// only for want of memory.
 pub fn root_bounds<G: Game>(
     alloc: Global,
     g: G,
@@ -55,8 +54,8 @@ pub fn root_bounds<G: Game>(
             upper: value,
         });
     }
-    let low = opening_bound(g, Side::One);
-    if low == opening_bound(g, Side::Two) {
+    let low = state_bound(g, Side::One, g.root());
+    if low == state_bound(g, Side::Two, g.root()) {
         return Ok(RootEnd::Found {
             lower: low,
             upper: low,

@@ -1,6 +1,6 @@
 //! The search: a state, its moves, a move, a pair of moves, its draws. One stack of numbers, `reads`, serves them all:
-//! a move pushes the numbers at its children, and pops them when it is left or done.
-ghost use Rattle.std.specs.Prelude.{◌≡◌, ◌+◌, ◌<◌, ◌≤◌, ℤ, Some, Err, IfSome, IfOk, OnOk, OnErr};
+//! a move pushes the numbers of its turns, and pops them when it is left or done.
+ghost use Rattle.std.specs.Prelude.{◌≡◌, ◌+◌, ◌<◌, ◌≤◌, ℤ, ◌+ℤ◌, ◌-ℤ◌, unsigned_abs, Some, Err, IfSome, IfOk, OnOk, OnErr};
 ghost use Rattle.sim_game.specs.Model.{Reachable, LeadsTo};
 ghost use Rattle.sim_game.specs.Sides.{other_side, opening_bound, move_of_one, move_of_two, draws_of, IsTighter};
 ghost use Rattle.plan_book.specs.Serial.{tree_size};
@@ -17,7 +17,7 @@ use crate::task::{SerialWorker, Task, Window};
 use crate::transpositions::{Memo, Query};
 use crate::visits::Visits;
 use bounds_board::{Bounds, Row};
-use sim_game::{CHANCE, Game, Side, end_bound, opening_bound};
+use sim_game::{CHANCE, Game, Side, end_bound, opening_bound, state_bound, turn_reward};
 
 /// The least rank of a state whose search is stored. Below it a search is cheaper than a look-up.
 const STORED_RANK: u32 = 3;
@@ -36,7 +36,7 @@ pub(crate) fn search_state<G: Game, B: Bounds<G>>(
     requires remembered { AreRemembered (G.model task.now.game) (B.view board.old) worker.old.table }
     requires reachable { Reachable (G.model task.now.game) s }
     requires known { IfSome known (IsOpened (G.model task.now.game) task.now.side s (B.view board.old)) }
-    requires window { IsWindow (G.model task.now.game) task.now.side window.worse window.better }
+    requires window { IsWindow (G.model task.now.game) task.now.side s window.worse window.better }
     ensures ends { IsPart (G.model task.now.game) task.now.side s
         (tree_size (G.model task.now.game) s)
         (IsFound (G.model task.now.game) task.now.side s window.worse window.better (B.view board.new))
@@ -77,7 +77,7 @@ fn search_inner<G: Game, B: Bounds<G>>(
     requires reachable { Reachable (G.model task.now.game) s }
     requires goes_on { 1 ≤ (G.model task.now.game).rank s }
     requires row { IsOpened (G.model task.now.game) task.now.side s (B.view board.old) row }
-    requires window { IsWindow (G.model task.now.game) task.now.side window.worse window.better }
+    requires window { IsWindow (G.model task.now.game) task.now.side s window.worse window.better }
     ensures ends { IsPart (G.model task.now.game) task.now.side s
         (inner_nodes (G.model task.now.game) task.now.side s)
         (IsFound (G.model task.now.game) task.now.side s window.worse window.better (B.view board.new))
@@ -168,14 +168,17 @@ fn search_moves<G: Game, B: Bounds<G>>(
     requires reachable { Reachable (G.model task.now.game) s }
     requires goes_on { 1 ≤ (G.model task.now.game).rank s }
     requires row { IsOpened (G.model task.now.game) task.now.side s (B.view board.old) row }
-    requires window { IsWindow (G.model task.now.game) task.now.side window.worse window.better }
+    requires window { IsWindow (G.model task.now.game) task.now.side s window.worse window.better }
     ensures ends { IsPart (G.model task.now.game) task.now.side s
         (inner_nodes (G.model task.now.game) task.now.side s)
         (IsFound (G.model task.now.game) task.now.side s window.worse window.better (B.view board.new))
         (B.view board.old) (B.view board.new) worker.old worker.new result }
     ensures same_reads { OnOk result (worker.new.reads.items ≡ worker.old.reads.items) }
 {
-    let mut value = opening_bound(task.game, task.side);
+    // The bound of all values of the state, or the window's worse end where that is worse.
+    let all = state_bound(task.game, task.side, s);
+    let lowest = task.side.other().better(all, window.worse);
+    let mut value = lowest;
     for own in 0..task.game.moves(task.side, s) {
         let above = Window {
             worse: task.side.better(value, window.worse),
@@ -207,14 +210,17 @@ fn search_move<G: Game, B: Bounds<G>>(
     requires goes_on { 1 ≤ (G.model task.now.game).rank s }
     requires own_move { own < (G.model task.now.game).moves task.now.side s }
     requires row { (B.view board.old).key_at row ≡ Some ((G.model task.now.game).key s) }
-    requires window { IsWindow (G.model task.now.game) task.now.side window.worse window.better }
+    requires window { IsWindow (G.model task.now.game) task.now.side s window.worse window.better }
     ensures ends { IsPart (G.model task.now.game) task.now.side s
         (move_nodes (G.model task.now.game) task.now.side s own)
         (IsMoveFound (G.model task.now.game) task.now.side s own window.worse window.better (B.view board.new))
         (B.view board.old) (B.view board.new) worker.old worker.new result }
     ensures same_reads { OnOk result (worker.new.reads.items ≡ worker.old.reads.items) }
 {
-    let mut least = opening_bound(task.game, task.side.other());
+    // The other side's bound of all values of the state, or the window's better end where that is better.
+    let all = state_bound(task.game, task.side.other(), s);
+    let highest = task.side.better(all, window.better);
+    let mut least = highest;
     let start = worker.reads.len();
     for reply in 0..task.game.moves(task.side.other(), s) {
         let below = Window {
@@ -233,7 +239,31 @@ fn search_move<G: Game, B: Bounds<G>>(
     Ok(least)
 }
 
-/// The number of an own move and a reply; the numbers at its draws are added to the reads.
+/// The window at the state that a turn of this reward leads to.
+fn window_after(window: Window, reward: i64) -> Window
+    requires worse { unsigned_abs window.worse ≤ 256000000000 }
+    requires better { unsigned_abs window.better ≤ 256000000000 }
+    requires reward { unsigned_abs reward ≤ 8000000000 }
+    ensures worse { result.worse ≡ window.worse -ℤ reward }
+    ensures better { result.better ≡ window.better -ℤ reward }
+{
+    Window {
+        worse: window.worse - reward,
+        better: window.better - reward,
+    }
+}
+
+/// The number of a turn: its reward, and the number of the state that follows.
+fn with_reward(reward: i64, found: i64) -> i64
+    requires reward { unsigned_abs reward ≤ 8000000000 }
+    requires found { unsigned_abs found ≤ 4000000000 }
+    ensures { result ≡ reward +ℤ found }
+{
+    reward + found
+}
+
+/// The number of an own move and a reply; the numbers of its turns, each a reward and the number of the state that
+/// follows, are added to the reads.
 #[cycle(serial)]
 fn search_pair<G: Game, B: Bounds<G>>(
     task: &Task<G>,
@@ -250,7 +280,7 @@ fn search_pair<G: Game, B: Bounds<G>>(
     requires goes_on { 1 ≤ (G.model task.now.game).rank s }
     requires own_move { own < (G.model task.now.game).moves task.now.side s }
     requires reply { reply < (G.model task.now.game).moves (other_side task.now.side) s }
-    requires window { IsWindow (G.model task.now.game) task.now.side window.worse window.better }
+    requires window { IsWindow (G.model task.now.game) task.now.side s window.worse window.better }
     ensures { IsPart (G.model task.now.game) task.now.side s
         (pair_nodes (G.model task.now.game) task.now.side s own reply)
         (IsPairFound (G.model task.now.game) task.now.side s own reply window.worse window.better (B.view board.new)
@@ -264,9 +294,12 @@ fn search_pair<G: Game, B: Bounds<G>>(
         return search_draws(task, s, own, reply, draws, worker, board);
     }
     let child = task.game.drawn(s, one, two, 0);
-    let found = search_state(task, child, None, window, worker, board)?;
-    keep(&mut worker.reads, found)?;
-    Ok(found)
+    let reward = turn_reward(task.game, s, one, two, 0);
+    let after = window_after(window, reward);
+    let found = search_state(task, child, None, after, worker, board)?;
+    let number = with_reward(reward, found);
+    keep(&mut worker.reads, number)?;
+    Ok(number)
 }
 
 /// The number of an own move and a reply with several draws, each searched over the whole range.
@@ -305,8 +338,9 @@ fn search_draws<G: Game, B: Bounds<G>>(
     for d in 0..draws {
         let child = task.game.drawn(s, one, two, d);
         let found = search_state(task, child, None, range, worker, board)?;
-        sum += task.game.chance(s, one, two, d) as i64 * found;
-        keep(&mut worker.reads, found)?;
+        let number = with_reward(turn_reward(task.game, s, one, two, d), found);
+        sum += task.game.chance(s, one, two, d) as i64 * number;
+        keep(&mut worker.reads, number)?;
     }
     Ok(task.side.quotient(sum, CHANCE))
 }

@@ -11,8 +11,8 @@ use Rattle.sim_game.specs.declared.Side.{Side}
 use Rattle.sim_game.specs.declared.Side.TheVariants.{One, Two}
 use Rattle.sim_game.specs.Model.{GameModel, IsGame}
 use Rattle.sim_game.specs.Sides.{opening_bound}
-use Rattle.sim_game.proofs.SideLemmas.{looser_refl}
-use Rattle.plan_book.specs.Backed.{IsBacked, by_opening}
+use Rattle.sim_game.proofs.SideLemmas.{opening_state}
+use Rattle.plan_book.specs.Backed.{IsBacked, by_range}
 use Rattle.shared_board.specs.Words.{key_word, bound_word, key_in_row, bound_in_row, opening_word, IsLooser, tighter, as_bound, IsProved}
 use Rattle.shared_board.specs.Rule.{IsConsistent, IsConsistentView, IsRow, IsPostedWord, IsWordInRange, Has, seen_at, seen, with_seen}
 use Rattle.shared_board.specs.Plays.{reading, posting, loaded, met, IsBound, MayPost}
@@ -42,7 +42,7 @@ module _ {S : Type 0} (m : GameModel S) (game_laws : IsGame m) where
 
   pub opening_proved : (side : Side) (k : ℕ) → IsProved m side k (opening_word m side)
   unfolding IsProved
-  opening_proved side k s reached key = subst (IsBacked m side s) (sym (opening_back side)) (by_opening s (opening_bound m side) (looser_refl side (opening_bound m side)))
+  opening_proved side k s reached key = subst (IsBacked m side s) (sym (opening_back side)) (by_range s (opening_bound m side) (opening_state m side s game_laws reached))
 
 module _ {G : Type 0} where
   abbrev pub sees : Side → View G → ℕ → ℕ → List (ℕ × Side × ℕ) → ℕ → View G

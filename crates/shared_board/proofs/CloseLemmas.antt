@@ -19,7 +19,7 @@ use Rattle.atomic_table.specs.Table.{State}
 use Rattle.sim_game.specs.declared.Side.{Side}
 use Rattle.sim_game.specs.declared.Side.TheVariants.{One, Two}
 use Rattle.sim_game.specs.Model.{GameModel, IsGame}
-use Rattle.sim_game.specs.Sides.{IsNoTighter, opening_bound}
+use Rattle.sim_game.specs.Sides.{IsNoTighter, opening_bound, state_bound, end_bound}
 use Rattle.sim_game.proofs.SideLemmas.{looser_trans, looser_left, looser_both}
 use Rattle.plan_book.specs.declared.Entry.{Entry}
 use Rattle.plan_book.specs.Entries.{IsEntry}
@@ -27,12 +27,12 @@ use Rattle.plan_book.specs.Books.{same_side, best_posted, IsBooked, IsClosed}
 use Rattle.plan_book.proofs.BookLemmas.{best_opening, best_has, eqb_self, same_side_self}
 use Rattle.bounds_board.proofs.PlainLemmas.{entry_weaker}
 use Rattle.shared_board.specs.Words.{IsLooser, key_in_row, bound_in_row, opening_word, word_of, as_bound}
-use Rattle.shared_board.specs.Passes.{known_key, seen_by, IsKnown, IsPostedEntry, IsTold}
+use Rattle.shared_board.specs.Passes.{known_key, seen_by, known_by, IsKnown, IsPostedEntry, IsTold}
 use Rattle.shared_board.specs.Closing.{kept_row, kept_if, kept_rows, key_if, known_keys, kept_bound, IsDistinct, HasKey, IsKeptRow, AreKeptRows}
 use Rattle.shared_board.specs.declared.close.Kept.{Kept}
 use Rattle.shared_board.proofs.WordLemmas.{word_trans}
 use Rattle.shared_board.proofs.BoundLemmas.{word_in_range, opening_back}
-use Rattle.shared_board.proofs.SeenLemmas.{looser_bound, key_of_has, key_of_none, cond_first, cond_better, seen_most, known_then}
+use Rattle.shared_board.proofs.SeenLemmas.{looser_bound, key_of_has, key_of_none, cond_first, cond_better, seen_most, better_more, known_then}
 use Rattle.shared_board.proofs.PassLemmas.{entry_back, word_low}
 
 abbrev one_at : ℕ → ℕ → ℕ
@@ -247,8 +247,8 @@ module _ {S G : Type 0} (m : GameModel S) (game_laws : IsGame m) (g : G) (rows :
   pub book_closed : IsClosed m total entries
   book_closed = All-weaker (IsEntry m total (IsKnown m v)) (IsEntry m total (IsBooked m entries))
       (λ e h. entry_weaker m total (IsKnown m v) (IsBooked m entries) e
-      (λ t x _ k. known_then (eqb (m.rank t) 0) e.side x _ (seen_by m v e.side (m.key t)) (best_posted m entries e.side (m.key t)) (seen_booked e.side (m.key t)) k) h) entries
-      told.lawful
+      (λ t x _ k. known_then (eqb (m.rank t) 0) e.side x (end_bound m t) (known_by m v e.side t) _
+      (better_more e.side _ _ (state_bound m e.side t) (seen_booked e.side (m.key t))) k) h) entries told.lawful
 
   has_key : (i k : ℕ) → i < rows → key_in_row s.words i ≡ suc k → HasKey (kept_rows s.words rows) k
   has_key i k l is = record { row = kept_row s.words i k; is_kept = has_contains (kept_row s.words i k) (kept_rows s.words rows) (kept_has s.words rows i k l is); is_key = refl }

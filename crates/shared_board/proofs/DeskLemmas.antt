@@ -5,16 +5,16 @@ use Rattle.std.proofs.lemmas.Int.{ints}
 use Rattle.sim_game.specs.declared.Side.{Side}
 use Rattle.sim_game.specs.declared.Side.TheVariants.{One, Two}
 use Rattle.sim_game.specs.Model.{GameModel, IsGame, IsEnd, Reachable}
-use Rattle.sim_game.specs.Sides.{IsNoTighter, opening_bound, end_bound}
-use Rattle.sim_game.proofs.SideLemmas.{looser_refl, looser_trans, looser_left, looser_right, looser_both, end_range}
+use Rattle.sim_game.specs.Sides.{IsNoTighter, opening_bound, state_bound, end_bound}
+use Rattle.sim_game.proofs.SideLemmas.{looser_refl, looser_trans, looser_left, looser_right, looser_both, better_left, better_right, opening_state, end_range}
 use Rattle.plan_book.specs.declared.Entry.{Entry}
 use Rattle.plan_book.specs.Entries.{IsEntry}
-use Rattle.bounds_board.specs.Views.{BoardView, IsLater, IsInnerKey, IsFull, IsSeenNumber, by_end, by_opening, by_seen, IsPostable, IsRead, IsEnclosure}
+use Rattle.bounds_board.specs.Views.{BoardView, IsLater, IsInnerKey, IsFull, IsSeenNumber, by_end, by_range, by_seen, IsPostable, IsRead, IsEnclosure}
 use Rattle.bounds_board.proofs.PlainLemmas.{entry_weaker}
 use Rattle.shared_board.specs.Words.{IsLooser, tighter, word_of, as_bound, opening_word}
 use Rattle.shared_board.specs.Rule.{Has, seen, seen_at}
 use Rattle.shared_board.specs.Plays.{more_keys, reading, posting, IsApart, AllNamed}
-use Rattle.shared_board.specs.Passes.{known_key, seen_by, IsKnown, IsUnseen, IsBoundAnswer}
+use Rattle.shared_board.specs.Passes.{known_key, seen_by, known_by, IsKnown, IsUnseen, IsBoundAnswer}
 use Rattle.shared_board.specs.Values.{DeskValue, viewing, entering, desk_view}
 use Rattle.shared_board.specs.declared.view.View.{View}
 use Rattle.shared_board.proofs.ListLemmas.{has_right}
@@ -50,17 +50,21 @@ module _ {S G N : Type 0} (m : GameModel S) (game : IsGame m) (v : View G) (name
       (λ i h. let n = named i (m.key s) h in let same : n.state ≡ s = game.same_key n.state s n.reachable r n.is_key in let on : 1 ≤ m.rank n.state = n.goes_on in
       let at : m.rank n.state ≡ m.rank s = ap m.rank same in absurd (omega arith))
 
+  -- what is known of an end is no tighter than its payoff
+  known_at_end : (side : Side) (s : S) → Reachable m s → IsEnd m s → IsNoTighter side (seen_by m v side (m.key s)) (end_bound m s)
+  known_at_end side s r e = looser_trans side _ _ _ (seen_at_end side s r e) (looser_trans side _ _ _ (opening_state m side s game r) (end_range m side s game r e))
+
   known_of : ((side : Side) (key : ℕ) → b.seen side key ≡ seen_by m v side key) → (side : Side) (s : S) (x : ℤ) (t : Bool) → eqb (m.rank s) 0 ≡ t → (t ≡ true → IsEnd m s)
       → Reachable m s → IsSeenNumber m b side s x
-      → IsNoTighter side x (cond t (end_bound m s) (seen_by m v side (m.key s)))
+      → IsNoTighter side x (cond t (end_bound m s) (known_by m v side s))
   known_of is side s x true e end r (by_end z h) = looser_right side x x (end_bound m s) h (looser_refl side x)
-  known_of is side s x true e end r (by_opening h) = looser_left side (opening_bound m side) x (end_bound m s) (sym h) (end_range m side s game r (end refl))
-  known_of is side s x true e end r (by_seen h) = looser_trans side x (seen_by m v side (m.key s)) (end_bound m s)
-      (looser_right side x (b.seen side (m.key s)) (seen_by m v side (m.key s)) (is side (m.key s)) h)
-      (looser_trans side (seen_by m v side (m.key s)) (opening_bound m side) (end_bound m s) (seen_at_end side s r (end refl)) (end_range m side s game r (end refl)))
+  known_of is side s x true e end r (by_range h) = looser_trans side x _ _ h (end_range m side s game r (end refl))
+  known_of is side s x true e end r (by_seen h) = looser_trans side x (b.seen side (m.key s)) _ h
+      (looser_left side _ _ _ (sym (is side (m.key s))) (known_at_end side s r (end refl)))
   known_of is side s x false e end r (by_end z h) = let no : true ≡ false = ap (λ (n : ℕ). eqb n 0) (sym z) ∙ e in cc
-  known_of is side s x false e end r (by_opening h) = looser_left side (opening_bound m side) x (seen_by m v side (m.key s)) (sym h) (seen_opening m side v v.keys (m.key s))
-  known_of is side s x false e end r (by_seen h) = looser_right side x (b.seen side (m.key s)) (seen_by m v side (m.key s)) (is side (m.key s)) h
+  known_of is side s x false e end r (by_range h) = looser_trans side x _ _ h (better_right side (seen_by m v side (m.key s)) (state_bound m side s))
+  known_of is side s x false e end r (by_seen h) = looser_trans side x (b.seen side (m.key s)) _ h
+      (looser_left side _ _ _ (sym (is side (m.key s))) (better_left side (seen_by m v side (m.key s)) (state_bound m side s)))
 
   pub known_entry : (e : Entry) → ((side : Side) (key : ℕ) → b.seen side key ≡ seen_by m v side key) → IsPostable m b e → IsEntry m b.total (IsKnown m v) e
   known_entry e is h = entry_weaker m b.total (IsSeenNumber m b) (IsKnown m v) e

@@ -1,6 +1,6 @@
 -- The facts of a pass, after its view or its book changed.
 use Rattle.std.proofs.Common.{◌≡◌, inl, inr, ⊎_elim, ℕ, ◌+◌, ◌*◌, ◌<◌, ◌≤◌, min, max, List, [], ◌∷◌, ◌++◌, length, length-append, Bool, true, false, ◌||◌, All}
-use Rattle.std.proofs.Common.{sym, refl, ap, ◌∙◌, subst, arith, Some, ◌⊎◌, ℤ, pos, neg_ℤ, ◌≤ℤ◌}
+use Rattle.std.proofs.Common.{sym, refl, ap, ◌∙◌, subst, arith, Some, ◌⊎◌, ℤ, pos, neg_ℤ, ◌≤ℤ◌, w64, to_z, of_z}
 use Rattle.std.proofs.lemmas.List.Elements.{All-nil, All-append, All-weaker, All-push}
 use Rattle.atomic_table.specs.Table.{Me}
 use Rattle.sim_game.specs.declared.Side.{Side}
@@ -19,10 +19,11 @@ use Rattle.shared_board.proofs.SeatLemmas.{not_nil, long_joined, seen_joined, se
 use Rattle.shared_board.proofs.RuleLemmas.{first, first_long, first_seen}
 use Rattle.shared_board.proofs.SeenLemmas.{each_grows, seen_grows, looser_bound, lawful_grows}
 use Rattle.shared_board.proofs.ClaimLemmas.{game_is}
-use Rattle.std.proofs.lemmas.Int.{ints}
+use Rattle.std.proofs.lemmas.Int.{ints, to_z-of_z}
 use Rattle.sim_game.specs.Sides.{IsNoTighter, opening_bound}
 use Rattle.plan_book.specs.Backed.{IsBacked}
-use Rattle.plan_book.proofs.BookLemmas.{entry_backed}
+use Rattle.plan_book.proofs.BookLemmas.{entry_backed, entry_range}
+use Rattle.bounds_board.proofs.PlainLemmas.{range_fits}
 use Rattle.shared_board.proofs.BoundLemmas.{sees_more, seen_as, shaped_as, sees, low_fits, high_fits}
 
 module _ {S G : Type 0} (m : GameModel S) where
@@ -220,10 +221,15 @@ module _ {S : Type 0} (m : GameModel S) (game_laws : IsGame m) where
 
   module _ (e : Entry) (total : ℕ) (Known : Side → S → ℤ → Type 0) (l : IsEntry m total Known e) where
     pub entry_low : neg_ℤ (pos 4000000000) ≤ℤ e.bound
-    entry_low = let a = l.low in let c = game_laws.low_least in omega (arith, ints)
+    entry_low = let a = entry_range m game_laws total Known One e l in let c = game_laws.low_least in omega (arith, ints)
+
+    -- the bound fits, so it comes back as it was handed over
+    pub entry_small : (neg_ℤ (pos 4000000000) ≤ℤ to_z w64 (of_z w64 e.bound)) × (to_z w64 (of_z w64 e.bound) ≤ℤ pos 4000000000)
+    entry_small = let low = entry_range m game_laws total Known One e l in let high = entry_range m game_laws total Known Two e l in let most = game_laws.high_most in
+        rw (to_z-of_z w64 e.bound (range_fits m game_laws e.bound low high)) (entry_low, omega (arith, ints))
 
     pub entry_in_range : IsWordInRange m (word_of e.bound)
-    entry_in_range = let low = low_fits m game_laws in let a = l.low in let b = l.high in
+    entry_in_range = let low = low_fits m game_laws in let a = entry_range m game_laws total Known One e l in let b = entry_range m game_laws total Known Two e l in
         (word_mono (opening_bound m One) e.bound low a, word_mono e.bound (opening_bound m Two) entry_low b)
 
     pub entry_back : as_bound (word_of e.bound) ≡ e.bound

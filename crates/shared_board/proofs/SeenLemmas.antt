@@ -6,7 +6,7 @@ use Rattle.std.proofs.lemmas.List.Elements.{All-weaker}
 use Rattle.sim_game.specs.declared.Side.{Side}
 use Rattle.sim_game.specs.declared.Side.TheVariants.{One, Two}
 use Rattle.sim_game.specs.Model.{GameModel}
-use Rattle.sim_game.specs.Sides.{IsNoTighter, better, opening_bound, end_bound}
+use Rattle.sim_game.specs.Sides.{IsNoTighter, better, opening_bound, state_bound, end_bound}
 use Rattle.sim_game.proofs.SideLemmas.{looser_refl, looser_trans, looser_both, better_left, better_right, better_least}
 use Rattle.plan_book.specs.declared.Entry.{Entry}
 use Rattle.plan_book.specs.Entries.{IsEntry}
@@ -15,7 +15,7 @@ use Rattle.bounds_board.proofs.PlainLemmas.{entry_weaker}
 use Rattle.shared_board.specs.Words.{IsLooser, as_bound}
 use Rattle.shared_board.specs.Rule.{Has, seen_at}
 use Rattle.shared_board.specs.Plays.{IsApart}
-use Rattle.shared_board.specs.Passes.{known_key, seen_in, seen_by, IsKnown}
+use Rattle.shared_board.specs.Passes.{known_key, seen_in, seen_by, known_by, IsKnown}
 use Rattle.shared_board.specs.declared.view.View.{View}
 
 pub looser_bound : (side : Side) (a b : ℕ) → IsLooser side a b → IsNoTighter side (as_bound a) (as_bound b)
@@ -54,6 +54,10 @@ cond_first false side x z e = cc
 cond_least : (b : Bool) (side : Side) (x z most : ℤ) → (b ≡ true → IsNoTighter side x most) → IsNoTighter side z most → IsNoTighter side (cond b (better side x z) z) most
 cond_least true side x z most p q = better_least side x z most (p refl) q
 cond_least false side x z most p q = q
+
+-- the better of two, after the first became no looser
+pub better_more : (side : Side) (x y z : ℤ) → IsNoTighter side x y → IsNoTighter side (better side x z) (better side y z)
+better_more side x y z h = better_least side x z _ (looser_trans side x y _ h (better_left side y z)) (better_right side y z)
 
 pub known_then : (b : Bool) (side : Side) (x e y z : ℤ) → IsNoTighter side y z → IsNoTighter side x (cond b e y) → IsNoTighter side x (cond b e z)
 known_then true side x e y z l h = h
@@ -95,11 +99,16 @@ module _ {S G : Type 0} (m : GameModel S) where
       (λ j t. subst (λ (z : ℕ). IsNoTighter side (as_bound (seen_at m side v z)) (as_bound (seen_at m side v i))) (apart.one_row i j key h t)
       (looser_refl side (as_bound (seen_at m side v i)))))
 
+  -- what is known at a state, after no less was seen
+  pub known_grows : (v w : View G) (side : Side) (s : S) → IsNoTighter side (seen_by m v side (m.key s)) (seen_by m w side (m.key s))
+      → IsNoTighter side (known_by m v side s) (known_by m w side s)
+  known_grows v w side s more = better_more side _ _ (state_bound m side s) more
+
   pub lawful_grows : (v w : View G) (total : ℕ) (e : Entry) → ((p : ℕ × ℕ) → Has p v.keys → Has p w.keys)
       → ((side : Side) (i : ℕ) → IsLooser side (seen_at m side v i) (seen_at m side w i)) → IsEntry m total (IsKnown m v) e → IsEntry m total (IsKnown m w) e
   lawful_grows v w total e keys sees h = entry_weaker m total (IsKnown m v) (IsKnown m w) e
-      (λ s x r k. known_then (eqb (m.rank s) 0) e.side x (end_bound m s) (seen_by m v e.side (m.key s)) (seen_by m w e.side (m.key s))
-      (seen_grows v w e.side (m.key s) keys (sees e.side)) k) h
+      (λ s x r k. known_then (eqb (m.rank s) 0) e.side x (end_bound m s) (known_by m v e.side s) (known_by m w e.side s)
+      (known_grows v w e.side s (seen_grows v w e.side (m.key s) keys (sees e.side))) k) h
 
   pub each_grows : (v w : View G) (total : ℕ) (es : List Entry) → ((p : ℕ × ℕ) → Has p v.keys → Has p w.keys)
       → ((side : Side) (i : ℕ) → IsLooser side (seen_at m side v i) (seen_at m side w i)) → All (IsEntry m total (IsKnown m v)) es → All (IsEntry m total (IsKnown m w)) es

@@ -3,7 +3,7 @@ use Rattle.std.specs.Prelude.{◌≡◌, ◌≢◌, ◌⊎◌, ℕ, ◌+◌, ◌
 use Rattle.sim_game.specs.declared.Side.{Side}
 use Rattle.sim_game.specs.declared.Side.TheVariants.{One, Two}
 use Rattle.sim_game.specs.Model.{GameModel, Reachable}
-use Rattle.sim_game.specs.Sides.{IsNoTighter, better, opening_bound, end_bound}
+use Rattle.sim_game.specs.Sides.{IsNoTighter, better, opening_bound, state_bound, end_bound}
 use Rattle.plan_book.specs.declared.Entry.{Entry}
 use Rattle.plan_book.specs.Backed.{IsBacked}
 use Rattle.plan_book.specs.Entries.{IsEntry}
@@ -42,9 +42,13 @@ module _ {S G : Type 0} (m : GameModel S) where
   abbrev pub seen_by : View G → Side → ℕ → ℤ
   seen_by v side key = seen_in side v v.keys key
 
-  -- the number says no more for the side than the payoff of an end, or what the view has seen at the state
+  -- the better of what the view has seen at the state and what holds of every value of it
+  abbrev pub known_by : View G → Side → S → ℤ
+  known_by v side s = better side (seen_by v side (m.key s)) (state_bound m side s)
+
+  -- the number says no more for the side than the payoff of an end, or what is known at the state
   abbrev pub IsKnown : View G → Side → S → ℤ → Type 0
-  IsKnown v side s x = IsNoTighter side x (cond (nat_eq (m.rank s) 0) (end_bound m s) (seen_by v side (m.key s)))
+  IsKnown v side s x = IsNoTighter side x (cond (nat_eq (m.rank s) 0) (end_bound m s) (known_by v side s))
 
   -- what the view has seen of a row is the opening bound, or it knows the row's key
   abbrev pub IsUnseen : View G → Side → ℕ → Type 0

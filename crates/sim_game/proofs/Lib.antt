@@ -1,4 +1,5 @@
 pub mod ReachLemmas
+pub mod RewardLemmas
 pub mod ResolutionLemmas
 pub mod SideLemmas
 pub mod StateLemmas

@@ -1,13 +1,15 @@
 -- Bounds of a side: which says no more than another, the better of two, sums and products of them.
-use Rattle.std.proofs.Common.{◌≡◌, ◌⊎◌, ⊎_elim, ℕ, zero, suc, ◌<◌, ◌≤◌, ℤ, pos, ◌*ℤ◌, ◌≤ℤ◌, ◌<ℤ◌, sym, subst, arith}
+use Rattle.std.proofs.Common.{◌≡◌, ◌⊎◌, ⊎_elim, inl, inr, ℕ, zero, suc, ◌<◌, ◌≤◌, ℤ, pos, ◌+ℤ◌, ◌-ℤ◌, ◌*ℤ◌, ◌≤ℤ◌, ◌<ℤ◌, sym, subst, arith}
+use Rattle.std.proofs.lemmas.Bool.{cases_eq}
 use Rattle.std.proofs.lemmas.Int.{ints, clamps}
 use Rattle.sums.specs.Sums.{sum_below}
-use Rattle.sums.proofs.IntegerLemmas.{int_le_refl, int_le_trans, times_mono, times_cancel, times_floor, floor_greatest, times_ceiling, ceiling_least}
+use Rattle.sums.proofs.IntegerLemmas.{int_le_refl, int_le_trans, times_mono, times_add, times_cancel, times_floor, floor_greatest, times_ceiling, ceiling_least}
 use Rattle.sums.proofs.SumLemmas.{sum_mono}
 use Rattle.sim_game.specs.declared.Side.{Side}
 use Rattle.sim_game.specs.declared.Side.TheVariants.{One, Two}
 use Rattle.sim_game.specs.Model.{GameModel, IsGame, IsTurn, IsEnd, Reachable, bound_scale}
-use Rattle.sim_game.specs.Sides.{other_side, IsNoTighter, IsTighter, better, quotient, opening_bound, end_bound, turn_of, draws_of}
+use Rattle.sim_game.specs.Sides.{other_side, IsNoTighter, IsTighter, better, quotient, opening_bound, state_bound, end_bound, move_of_one, move_of_two, turn_of, draws_of, child_of, turn_reward, over_turns}
+use Rattle.sim_game.proofs.ReachLemmas.{reachable_turn}
 
 -- ---- no tighter
 pub looser_refl : (side : Side) (x : ℤ) → IsNoTighter side x x
@@ -144,11 +146,77 @@ pub opening_range : {S : Type 0} (m : GameModel S) (side : Side) → IsGame m �
 opening_range m One game = times_mono bound_scale m.low m.high game.low_high
 opening_range m Two game = times_mono bound_scale m.low m.high game.low_high
 
-pub end_range : {S : Type 0} (m : GameModel S) (side : Side) (s : S) → IsGame m → Reachable m s → IsEnd m s → IsNoTighter side (opening_bound m side) (end_bound m s)
-end_range m One s game r e = times_mono bound_scale m.low (m.payoff s) (game.payoff_low s r e)
-end_range m Two s game r e = times_mono bound_scale (m.payoff s) m.high (game.payoff_high s r e)
+-- a state's bounds lie in the range of payoffs
+pub opening_state : {S : Type 0} (m : GameModel S) (side : Side) (s : S) → IsGame m → Reachable m s → IsNoTighter side (opening_bound m side) (state_bound m side s)
+opening_state m One s game r = times_mono bound_scale m.low (m.least s) (game.least_low s r)
+opening_state m Two s game r = times_mono bound_scale (m.most s) m.high (game.most_high s r)
+
+pub end_range : {S : Type 0} (m : GameModel S) (side : Side) (s : S) → IsGame m → Reachable m s → IsEnd m s → IsNoTighter side (state_bound m side s) (end_bound m s)
+end_range m One s game r e = times_mono bound_scale (m.least s) (m.payoff s) (game.payoff_low s r e)
+end_range m Two s game r e = times_mono bound_scale (m.payoff s) (m.most s) (game.payoff_high s r e)
 
 pub side_turn : {S : Type 0} (m : GameModel S) (side : Side) (s : S) (own reply draw : ℕ)
     → own < m.moves side s → reply < m.moves (other_side side) s → draw < draws_of m side s own reply → IsTurn m s (turn_of side own reply draw)
 side_turn m One s own reply draw p q r = record { one_below = p; two_below = q; draw_below = r }
 side_turn m Two s own reply draw p q r = record { one_below = q; two_below = p; draw_below = r }
+
+-- ---- turns
+pub looser_add : (side : Side) (c x y : ℤ) → IsNoTighter side x y → IsNoTighter side (c +ℤ x) (c +ℤ y)
+looser_add One c x y h = omega (arith, ints)
+looser_add Two c x y h = omega (arith, ints)
+
+-- what is left of a number without a part that both have
+pub looser_less : (side : Side) (c x y : ℤ) → IsNoTighter side x (c +ℤ y) → IsNoTighter side (x -ℤ c) y
+looser_less One c x y h = omega (arith, ints)
+looser_less Two c x y h = omega (arith, ints)
+
+pub looser_more : (side : Side) (c x y : ℤ) → IsNoTighter side (x -ℤ c) y → IsNoTighter side x (c +ℤ y)
+looser_more One c x y h = omega (arith, ints)
+looser_more Two c x y h = omega (arith, ints)
+
+pub add_less : (c x : ℤ) → (c +ℤ x) -ℤ c ≡ x
+add_less c x = omega (arith, ints)
+
+pub less_add : (c x : ℤ) → c +ℤ (x -ℤ c) ≡ x
+less_add c x = omega (arith, ints)
+
+-- a state's bound is no tighter than a turn's reward with the bound of the state that follows
+pub turn_range : {S : Type 0} (m : GameModel S) (of side : Side) (s : S) (own reply draw : ℕ) → IsGame m → Reachable m s → IsTurn m s (turn_of side own reply draw)
+    → IsNoTighter of (state_bound m of s) (over_turns m side s (state_bound m of) own reply draw)
+turn_range m One side s own reply draw game r t =
+    let pay : ℤ = m.reward s (move_of_one side own reply) (move_of_two side own reply) draw in
+    let next : ℤ = m.least (child_of m side s own reply draw) in
+    looser_right One (state_bound m One s) (pos bound_scale *ℤ (pay +ℤ next)) _ (times_add bound_scale pay next)
+    (times_mono bound_scale (m.least s) (pay +ℤ next) (game.reward_low s (turn_of side own reply draw) r t))
+turn_range m Two side s own reply draw game r t =
+    let pay : ℤ = m.reward s (move_of_one side own reply) (move_of_two side own reply) draw in
+    let next : ℤ = m.most (child_of m side s own reply draw) in
+    looser_right Two (state_bound m Two s) (pos bound_scale *ℤ (pay +ℤ next)) _ (times_add bound_scale pay next)
+    (times_mono bound_scale (pay +ℤ next) (m.most s) (game.reward_high s (turn_of side own reply draw) r t))
+
+pub some_draw : {S : Type 0} (m : GameModel S) (side : Side) (s : S) (own reply : ℕ) → IsGame m → Reachable m s
+    → own < m.moves side s → reply < m.moves (other_side side) s → 1 ≤ draws_of m side s own reply
+some_draw m One s own reply game r p q = game.draws_low s own reply r p q
+some_draw m Two s own reply game r p q = game.draws_low s reply own r q p
+
+state_within : {S : Type 0} (m : GameModel S) (side : Side) → IsGame m → (turns : ℕ) (s : S) → Reachable m s → m.rank s ≤ turns
+    → IsNoTighter side (state_bound m side s) (state_bound m (other_side side) s)
+state_within m side game zero s r few =
+    looser_trans side _ _ _ (end_range m side s game r (omega arith)) (flip_side side _ _ (end_range m (other_side side) s game r (omega arith)))
+state_within m side game (suc turns) s r few = elim (cases_eq (m.rank s) 0) [
+  | inl e ↦ looser_trans side _ _ _ (end_range m side s game r e) (flip_side side _ _ (end_range m (other_side side) s game r e))
+  | inr on ↦
+      let own = game.other_moves side s r (omega arith) in
+      let reply = game.other_moves (other_side side) s r (omega arith) in
+      let turn : IsTurn m s (turn_of side 0 0 0) = side_turn m side s 0 0 0 own reply (some_draw m side s 0 0 game r own reply) in
+      looser_trans side _ _ _ (turn_range m side side s 0 0 0 game r turn)
+      (looser_trans side _ _ _
+      (looser_add side (turn_reward m side s 0 0 0) _ _
+      (state_within m side game turns (child_of m side s 0 0 0) (reachable_turn m s (turn_of side 0 0 0) r turn)
+      (omega (arith, game.rank_falls s (turn_of side 0 0 0) r turn))))
+      (flip_side side _ _ (turn_range m (other_side side) side s 0 0 0 game r turn)))
+]
+
+-- a state's bounds are not crossed
+pub state_range : {S : Type 0} (m : GameModel S) (side : Side) (s : S) → IsGame m → Reachable m s → IsNoTighter side (state_bound m side s) (state_bound m (other_side side) s)
+state_range m side s game r = state_within m side game (m.rank s) s r (omega arith)

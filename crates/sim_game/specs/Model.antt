@@ -1,5 +1,5 @@
 -- A game of two players who move at once, as plain functions over any type of states.
-use Rattle.std.specs.Prelude.{◌≡◌, ◌≢◌, ℕ, ◌<◌, ◌≤◌, ◌^◌, ℤ, pos, neg_ℤ, ◌≤ℤ◌, Bool, IsTrue, List, [], ◌∷◌}
+use Rattle.std.specs.Prelude.{◌≡◌, ◌≢◌, ℕ, ◌<◌, ◌≤◌, ◌^◌, ℤ, pos, neg_ℤ, ◌+ℤ◌, ◌≤ℤ◌, Bool, IsTrue, List, [], ◌∷◌}
 use Rattle.sim_game.specs.declared.Side.{Side}
 use Rattle.sim_game.specs.declared.Side.TheVariants.{One, Two}
 use Rattle.sums.specs.Sums.{count_below}
@@ -16,6 +16,11 @@ pub record GameModel (S : Type 0) : Type 0 where
   pub drawn : S → ℕ → ℕ → ℕ → S
   -- what One gets at an end
   pub payoff : S → ℤ
+  -- what One gets by a turn, besides what follows it
+  pub reward : S → ℕ → ℕ → ℕ → ℤ
+  -- the least and the greatest sum that One can still get from a state on
+  pub least : S → ℤ
+  pub most : S → ℤ
   pub rank : S → ℕ
   pub key : S → ℕ
   pub label : Side → S → ℕ → ℕ
@@ -88,8 +93,12 @@ pub record IsGame {S : Type 0} (m : GameModel S) : Type 0 where
   pub moves_high : (side : Side) (s : S) → Reachable m s → m.moves side s ≤ m.width
   pub rank_high : (s : S) → Reachable m s → m.rank s ≤ 31
   pub rank_falls : (s : S) (t : Turn) → Reachable m s → IsTurn m s t → m.rank (after_turn m s t) < m.rank s
-  pub payoff_low : (s : S) → Reachable m s → IsEnd m s → m.low ≤ℤ m.payoff s
-  pub payoff_high : (s : S) → Reachable m s → IsEnd m s → m.payoff s ≤ℤ m.high
+  pub least_low : (s : S) → Reachable m s → m.low ≤ℤ m.least s
+  pub most_high : (s : S) → Reachable m s → m.most s ≤ℤ m.high
+  pub payoff_low : (s : S) → Reachable m s → IsEnd m s → m.least s ≤ℤ m.payoff s
+  pub payoff_high : (s : S) → Reachable m s → IsEnd m s → m.payoff s ≤ℤ m.most s
+  pub reward_low : (s : S) (t : Turn) → Reachable m s → IsTurn m s t → m.least s ≤ℤ (m.reward s t.one t.two t.draw +ℤ m.least (after_turn m s t))
+  pub reward_high : (s : S) (t : Turn) → Reachable m s → IsTurn m s t → (m.reward s t.one t.two t.draw +ℤ m.most (after_turn m s t)) ≤ℤ m.most s
   pub same_key : (s t : S) → Reachable m s → Reachable m t → m.key s ≡ m.key t → s ≡ t
   pub key_high : (s : S) → Reachable m s → m.key s < 2 ^ 63
   pub draws_low : (s : S) (a b : ℕ) → Reachable m s → a < m.moves One s → b < m.moves Two s → 1 ≤ m.draws s a b

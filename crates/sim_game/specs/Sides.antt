@@ -1,5 +1,5 @@
 -- What differs between the two players: whose move is whose, and which way a bound points.
-use Rattle.std.specs.Prelude.{ℕ, ℤ, pos, ◌*ℤ◌, ◌≤ℤ◌, ◌<ℤ◌}
+use Rattle.std.specs.Prelude.{ℕ, ℤ, pos, ◌+ℤ◌, ◌-ℤ◌, ◌*ℤ◌, ◌≤ℤ◌, ◌<ℤ◌}
 use Rattle.std.specs.Int.{int_max, int_min}
 use Rattle.sums.specs.Quotients.{floor_quotient, ceiling_quotient}
 use Rattle.sim_game.specs.declared.Side.{Side}
@@ -31,10 +31,15 @@ abbrev pub quotient : Side → ℕ → ℤ → ℤ
 quotient One k x = floor_quotient k x
 quotient Two k x = ceiling_quotient k x
 
--- what holds of every value, by the range of payoffs
+-- what holds of every value of every state, by the range of payoffs
 abbrev pub opening_bound : {S : Type 0} → GameModel S → Side → ℤ
 opening_bound m One = pos bound_scale *ℤ m.low
 opening_bound m Two = pos bound_scale *ℤ m.high
+
+-- what holds of every value of a state
+abbrev pub state_bound : {S : Type 0} → GameModel S → Side → S → ℤ
+state_bound m One s = pos bound_scale *ℤ m.least s
+state_bound m Two s = pos bound_scale *ℤ m.most s
 
 abbrev pub end_bound : {S : Type 0} → GameModel S → S → ℤ
 end_bound m s = pos bound_scale *ℤ m.payoff s
@@ -65,3 +70,16 @@ chance_of m side s own reply draw = m.chance s (move_of_one side own reply) (mov
 
 abbrev pub child_of : {S : Type 0} → GameModel S → Side → S → ℕ → ℕ → ℕ → S
 child_of m side s own reply draw = m.drawn s (move_of_one side own reply) (move_of_two side own reply) draw
+
+-- ---- rewards
+-- what a turn pays One, as a bound
+abbrev pub turn_reward : {S : Type 0} → GameModel S → Side → S → ℕ → ℕ → ℕ → ℤ
+turn_reward m side s own reply draw = pos bound_scale *ℤ m.reward s (move_of_one side own reply) (move_of_two side own reply) draw
+
+-- a number for each turn: its reward, and a number of the state that follows
+abbrev pub over_turns : {S : Type 0} → GameModel S → Side → S → (S → ℤ) → ℕ → ℕ → ℕ → ℤ
+over_turns m side s f own reply draw = turn_reward m side s own reply draw +ℤ f (child_of m side s own reply draw)
+
+-- a fact of the state that follows, about what is left of a turn's number
+abbrev pub after_reward : {S : Type 0} → GameModel S → Side → S → ℕ → ℕ → ℕ → (S → ℤ → Type 0) → ℤ → Type 0
+after_reward m side s own reply draw P x = P (child_of m side s own reply draw) (x -ℤ turn_reward m side s own reply draw)

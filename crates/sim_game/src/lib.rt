@@ -7,7 +7,7 @@ ghost use Rattle.sim_game.specs.Resolution.{IsLeastGap, IsResolution};
 
 mod sides;
 
-pub use sides::{end_bound, opening_bound};
+pub use sides::{end_bound, opening_bound, state_bound, turn_reward};
 use std::alloc::{AllocError, AllocFailed};
 
 /// How many parts a payoff of 1 has in a bound.
@@ -63,11 +63,31 @@ pub trait Game: Copy {
         requires two { b < (model self.now).moves Side.Two s }
         ensures { result ≡ (model self.now).drawn s a b 0 };
 
-    /// What One gets at an end, from `low` to `high`; Two gets its negative.
+    /// What One gets at an end, from `least` to `most`; Two gets its negative.
     fn payoff(&self, s: Self::State) -> i32
         requires reachable { Reachable (model self.now) s }
         requires end { IsEnd (model self.now) s }
         ensures { result ≡ (model self.now).payoff s };
+
+    /// What One gets by a turn, besides what follows it; Two gets its negative.
+    fn reward(&self, s: Self::State, a: u32, b: u32, d: u32) -> i32
+        requires reachable { Reachable (model self.now) s }
+        requires one { a < (model self.now).moves Side.One s }
+        requires two { b < (model self.now).moves Side.Two s }
+        requires draw { d < (model self.now).draws s a b }
+        ensures { result ≡ (model self.now).reward s a b d };
+
+    /// The least sum that One can still get from a state on, at least `low`. It is no more than a turn's reward and the
+    /// least sum after the turn.
+    fn least(&self, s: Self::State) -> i32
+        requires { Reachable (model self.now) s }
+        ensures { result ≡ (model self.now).least s };
+
+    /// The greatest sum that One can still get from a state on, at most `high`. It is no less than a turn's reward and
+    /// the greatest sum after the turn.
+    fn most(&self, s: Self::State) -> i32
+        requires { Reachable (model self.now) s }
+        ensures { result ≡ (model self.now).most s };
 
     /// The rank, 0 to 31: 0 exactly at an end, and lower after each turn.
     fn rank(&self, s: Self::State) -> u32
@@ -86,11 +106,11 @@ pub trait Game: Copy {
         1 << 63
     }
 
-    /// The least payoff, at least -4000.
+    /// The least sum from any state on, at least -4000.
     fn low(&self) -> i32
         ensures { result ≡ (model self.now).low };
 
-    /// The greatest payoff, at most 4000.
+    /// The greatest sum from any state on, at most 4000.
     fn high(&self) -> i32
         ensures { result ≡ (model self.now).high };
 

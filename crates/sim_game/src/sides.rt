@@ -1,8 +1,8 @@
 //! What differs between the two players.
 
-ghost use Rattle.std.specs.Prelude.{◌≡◌, ◌≤◌, ◌<ℤ◌, pos, neg_ℤ, MatchBool};
+ghost use Rattle.std.specs.Prelude.{◌≡◌, ◌<◌, ◌≤◌, ◌<ℤ◌, pos, neg_ℤ, MatchBool};
 ghost use Rattle.sim_game.specs.Model.{Reachable, IsEnd};
-ghost use Rattle.sim_game.specs.Sides.{IsNoTighter, IsTighter, better, quotient, other_side, opening_bound, end_bound, move_of_one, move_of_two};
+ghost use Rattle.sim_game.specs.Sides.{IsNoTighter, IsTighter, better, quotient, other_side, opening_bound, state_bound, end_bound, turn_reward, move_of_one, move_of_two};
 
 use crate::{Game, SCALE, Side};
 use sums::{ceiling_quotient, floor_quotient};
@@ -78,6 +78,29 @@ pub fn opening_bound<G: Game>(g: G, side: Side) -> i64
         Side::One => g.low() as i64 * SCALE,
         Side::Two => g.high() as i64 * SCALE,
     }
+}
+
+/// The bound that holds of every value of a state, in millionths: the least sum that One can still get for One, the
+/// greatest for Two.
+pub fn state_bound<G: Game>(g: G, side: Side, s: G::State) -> i64
+    requires { Reachable (G.model g) s }
+    ensures { result ≡ state_bound (G.model g) side s }
+{
+    match side {
+        Side::One => g.least(s) as i64 * SCALE,
+        Side::Two => g.most(s) as i64 * SCALE,
+    }
+}
+
+/// What a turn pays One, in millionths.
+pub fn turn_reward<G: Game>(g: G, s: G::State, a: u32, b: u32, d: u32) -> i64
+    requires reachable { Reachable (G.model g) s }
+    requires one { a < (G.model g).moves Side.One s }
+    requires two { b < (G.model g).moves Side.Two s }
+    requires draw { d < (G.model g).draws s a b }
+    ensures { result ≡ turn_reward (G.model g) Side.One s a b d }
+{
+    g.reward(s, a, b, d) as i64 * SCALE
 }
 
 /// The payoff of an end as a bound, in millionths.

@@ -15,6 +15,8 @@ use Rattle.fields.specs.declared.positions.PositionText.{PositionText}
 use Rattle.certificate.specs.declared.report.Report.{Report}
 use Rattle.certificate.specs.Outcomes.{Allows}
 use Rattle.fields.specs.Ranges.{Within, IsAskInRange, IsPositionInRange}
+use Rattle.fields.specs.declared.positions.Limits.{Limits}
+use Rattle.certificate.specs.Versions.{limits_of, version_of}
 use Rattle.certificate.specs.Ranges.{IsSheetInRange, IsInRange}
 use Rattle.matrix_game.specs.Budget.{Budget}
 use Rattle.lazy_workers.specs.declared.summary.Found.{Found}
@@ -47,11 +49,11 @@ module _ {S : Type 0} (m : GameModel S) (ask : Ask) (x : Found) (found : IsFound
     none_spent : All (λ n. n ≡ 0) (spent_of x.turns) → All (λ t. t.spent ≡ 0) x.turns
     none_spent each = All-from_recursion (λ t. t.spent ≡ 0) x.turns (from_spent (λ n. n ≡ 0) x.turns (recursion_from_All (λ n. n ≡ 0) (spent_of x.turns) each))
 
-    in_sheet : (side : Side) (sheet : Sheet) (bound : ℤ) → IsFoundPlan m ask x side sheet bound → IsSheetInRange side ask.weight sheet
-    in_sheet side sheet bound plan =
+    in_sheet : (limits : Limits) (side : Side) (sheet : Sheet) (bound : ℤ) → IsFoundPlan m ask x side sheet bound → IsSheetInRange limits side ask.weight sheet
+    in_sheet limits side sheet bound plan =
         let few = plan.few in let rows = asks.rows in let weight = asks.weight in let total = plan.total_is in
-        let ranged = sheet_in_range m game sheet plan.lawful (omega arith) (omega arith) in
-        record { side_is = plan.side_is; total_is = total; few = ranged.few; rows = ranged.rows; rising = ranged.rising }
+        let ranged = sheet_in_range m game limits sheet plan.lawful (omega arith) (omega arith) in
+        record { side_is = plan.side_is; total_is = total; few = ranged.few; rows = ranged.rows; moves = ranged.moves; rising = ranged.rising }
 
     allowed : (o : Outcome) → IsOutcomeFor (found_gap x) ask.gap x.resolution x.was_full o → Allows (report_with text ask x o) o
     allowed Spent e = (record { asked = e.0; resolution = e.1 }, each_spent (λ n. n ≡ ask.turns) (found.spent e.2 e.0 e.1).all)
@@ -81,8 +83,8 @@ module _ {S : Type 0} (m : GameModel S) (ask : Ask) (x : Found) (found : IsFound
       upper = found.two.small;
       workers = subst (λ (n : ℕ). Within 1 16 n) (sym (length-map x.turns (λ t. t.spent) ∙ found.workers)) asks.workers;
       spent = each_spent (λ n. n ≤ 1099511627776) (All-weaker (HasLimit ask) (λ t. t.spent ≤ 1099511627776) (λ t h. omega (arith, h.spent, asks.turns)) x.turns found.within);
-      one = in_sheet One x.one x.lower found.one;
-      two = in_sheet Two x.two x.upper found.two;
+      one = in_sheet (limits_of (version_of r)) One x.one x.lower found.one;
+      two = in_sheet (limits_of (version_of r)) Two x.two x.upper found.two;
     }
 
     solution : IsSolution m text ask r

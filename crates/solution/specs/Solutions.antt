@@ -1,7 +1,8 @@
 -- What a report says of a game.
-use Rattle.std.specs.Prelude.{◌≡◌, ℕ, ◌<◌, ◌≤◌, ℤ, pos, ◌≤ℤ◌, List, length, map, All, Contains}
+use Rattle.std.specs.Prelude.{◌≡◌, ℕ, ◌<◌, ◌≤◌, pos, ◌≤ℤ◌, List, length, map, All, Contains}
 use Rattle.sim_game.specs.declared.Side.TheVariants.{One, Two}
 use Rattle.sim_game.specs.Model.{GameModel}
+use Rattle.sim_game.specs.Sides.{better, state_bound}
 use Rattle.sim_game.specs.Resolution.{IsResolution}
 use Rattle.plan_book.specs.Expected.{Guarantees}
 use Rattle.plan_book.specs.Sheets.{IsLawful, plan_of, root_bound}
@@ -101,6 +102,7 @@ pub record IsSolvedGame {S : Type 0} (m : GameModel S) (text : PositionText) (as
   pub one_kept : All (IsSheetRowKept One x.kept) x.report.one.rows
   pub two_kept : All (IsSheetRowKept Two x.kept) x.report.two.rows
   pub left : IsLeft m ask x.report x.kept
-  -- the bounds of the report are those of the root's row
+  -- the bounds of the report are those of the root's row, or of every value of the root where these are better
   pub root : (row : Kept) → Contains x.kept row → row.key ≡ m.key m.root
-      → (x.report.lower ≡ row.lower) × (x.report.upper ≡ row.upper)
+      → (x.report.lower ≡ better One row.lower (state_bound m One m.root))
+      × (x.report.upper ≡ better Two row.upper (state_bound m Two m.root))

@@ -30,6 +30,7 @@ pennies_lists = record {
   values = pos 0 ∷ pos 1 ∷ neg_ℤ (pos 1) ∷ [];
   cells = pos 1 ∷ pos 2 ∷ pos 2 ∷ pos 1 ∷ [];
   draws = [];
+  rewards = [];
 }
 
 lists_of_pennies : lists_of_states pennies ≡ pennies_lists
@@ -71,6 +72,7 @@ stages_lists = record {
   values = pos 0 ∷ pos 4 ∷ pos 8 ∷ pos 5 ∷ pos 1 ∷ neg_ℤ (pos 1) ∷ neg_ℤ (pos 5) ∷ [];
   cells = pos 2 ∷ negsuc 0 ∷ negsuc 2 ∷ pos 1 ∷ pos 3 ∷ pos 6 ∷ pos 6 ∷ pos 3 ∷ pos 3 ∷ pos 4 ∷ pos 5 ∷ pos 6 ∷ [];
   draws = pos 2 ∷ pos 120120 ∷ pos 5 ∷ pos 240240 ∷ pos 1 ∷ pos 90090 ∷ pos 6 ∷ pos 270270 ∷ [];
+  rewards = [];
 }
 
 lists_of_stages : lists_of_states stages ≡ stages_lists
@@ -95,6 +97,65 @@ stages_drawn = refl
 stages_certain : (table_game stages_lists).chance (record { number = 2 }) 1 1 0 ≡ 360360
 stages_certain = refl
 
+-- ---- turns that pay
+abbrev paid : ℕ → ℕ → ℤ → List ℤ
+paid state weight reward = pos state ∷ pos weight ∷ reward ∷ []
+
+abbrev tolls : List StateForm
+tolls =
+    Rows (pair (Draws (paid 1 360360 (pos 2) ∷ [])) (to 1) ∷ pair (to 1) (Draws (paid 1 180180 (pos 1) ∷ paid 2 180180 (neg_ℤ (pos 1)) ∷ [])) ∷ [])
+    ∷ Rows (pair (to 2) (to 3) ∷ pair (to 3) (to 2) ∷ [])
+    ∷ End (pos 1) ∷ End (neg_ℤ (pos 1)) ∷ []
+
+tolls_in_range : are_in_range tolls ≡ true
+tolls_in_range = refl
+
+abbrev tolls_lists : Lists
+tolls_lists = record {
+  ranks = pos 2 ∷ pos 1 ∷ pos 0 ∷ pos 0 ∷ [];
+  moves = pos 2 ∷ pos 2 ∷ pos 2 ∷ pos 2 ∷ pos 0 ∷ pos 0 ∷ pos 0 ∷ pos 0 ∷ [];
+  values = pos 0 ∷ pos 4 ∷ pos 1 ∷ neg_ℤ (pos 1) ∷ [];
+  cells = negsuc 0 ∷ pos 1 ∷ pos 1 ∷ negsuc 1 ∷ pos 2 ∷ pos 3 ∷ pos 3 ∷ pos 2 ∷ [];
+  draws = pos 1 ∷ pos 360360 ∷ pos 1 ∷ pos 180180 ∷ pos 2 ∷ pos 180180 ∷ [];
+  rewards = pos 2 ∷ pos 1 ∷ neg_ℤ (pos 1) ∷ [];
+}
+
+lists_of_tolls : lists_of_states tolls ≡ tolls_lists
+lists_of_tolls = refl
+
+tolls_fine : first_fault tolls_lists ≡ None
+tolls_fine = refl
+
+tolls_reward : (table_game tolls_lists).reward (record { number = 0 }) 1 1 1 ≡ neg_ℤ (pos 1)
+tolls_reward = refl
+
+tolls_certain : (table_game tolls_lists).reward (record { number = 0 }) 0 1 0 ≡ pos 0
+tolls_certain = refl
+
+tolls_least : map (λ (s : ℕ). (table_game tolls_lists).least (record { number = s })) (0 ∷ 1 ∷ 2 ∷ 3 ∷ []) ≡ neg_ℤ (pos 1) ∷ neg_ℤ (pos 1) ∷ pos 1 ∷ neg_ℤ (pos 1) ∷ []
+tolls_least = refl
+
+tolls_most : map (λ (s : ℕ). (table_game tolls_lists).most (record { number = s })) (0 ∷ 1 ∷ 2 ∷ 3 ∷ []) ≡ pos 3 ∷ pos 1 ∷ pos 1 ∷ neg_ℤ (pos 1) ∷ []
+tolls_most = refl
+
+tolls_low : (table_game tolls_lists).low ≡ neg_ℤ (pos 1)
+tolls_low = refl
+
+tolls_high : (table_game tolls_lists).high ≡ pos 3
+tolls_high = refl
+
+-- a draw of two numbers has the reward 0
+rewards_of_both : (lists_of_states (Rows ((Draws (draw 1 180180 ∷ paid 1 180180 (pos 5) ∷ []) ∷ []) ∷ []) ∷ End (pos 0) ∷ [])).rewards ≡ pos 0 ∷ pos 5 ∷ []
+rewards_of_both = refl
+
+-- draws that are not kept count for nothing
+rewards_not_kept : (lists_of_states (Rows ((Draws (paid 1 360360 (pos 5) ∷ []) ∷ []) ∷ [] ∷ []) ∷ End (pos 0) ∷ [])).rewards ≡ []
+rewards_not_kept = refl
+
+-- rewards of 0 that were given are kept
+zeros_are_kept : (lists_of_states (Rows ((Draws (paid 1 360360 (pos 0) ∷ []) ∷ []) ∷ []) ∷ End (pos 0) ∷ [])).rewards ≡ pos 0 ∷ []
+zeros_are_kept = refl
+
 -- ---- rows of unequal length have no cells
 ragged_has_no_cells : lists_of_states (Rows (pair (to 1) (to 1) ∷ (to 1 ∷ []) ∷ []) ∷ End (pos 3) ∷ []) ≡ record {
   ranks = pos 1 ∷ pos 0 ∷ [];
@@ -102,6 +163,7 @@ ragged_has_no_cells : lists_of_states (Rows (pair (to 1) (to 1) ∷ (to 1 ∷ []
   values = pos 0 ∷ pos 3 ∷ [];
   cells = [];
   draws = [];
+  rewards = [];
 }
 ragged_has_no_cells = refl
 
@@ -147,8 +209,20 @@ state_below_none = refl
 weight_too_long : in_range (Rows ((Draws (draw 1 1048576 ∷ []) ∷ []) ∷ [])) ≡ false
 weight_too_long = refl
 
-draw_of_three : in_range (Rows ((Draws ((pos 1 ∷ pos 2 ∷ pos 3 ∷ []) ∷ []) ∷ []) ∷ [])) ≡ false
+abbrev draw_in : List ℤ → Bool
+draw_in numbers = in_range (Rows ((Draws (numbers ∷ []) ∷ []) ∷ []))
+
+draw_of_one : draw_in (pos 1 ∷ []) ≡ false
+draw_of_one = refl
+
+draw_of_three : draw_in (pos 1 ∷ pos 2 ∷ neg_ℤ (pos 1000000) ∷ []) ≡ true
 draw_of_three = refl
+
+draw_of_four : draw_in (pos 1 ∷ pos 2 ∷ pos 3 ∷ pos 4 ∷ []) ≡ false
+draw_of_four = refl
+
+reward_too_low : draw_in (pos 1 ∷ pos 2 ∷ neg_ℤ (pos 1000001) ∷ []) ≡ false
+reward_too_low = refl
 
 most_rows : in_range (Rows (replicate 255 [])) ≡ true
 most_rows = refl
@@ -226,26 +300,51 @@ abbrev counts : List ℕ → List ℤ
 counts = map pos
 
 rank_missing : first_fault (lists_from (counts (1 ∷ 0 ∷ [])) (counts (2 ∷ 2 ∷ 0 ∷ 0 ∷ 0 ∷ 0 ∷ []))
-    (pos 0 ∷ pos 1 ∷ negsuc 0 ∷ []) (pos 1 ∷ pos 2 ∷ pos 2 ∷ pos 1 ∷ []) []) ≡ Some errors.Lists
+    (pos 0 ∷ pos 1 ∷ negsuc 0 ∷ []) (pos 1 ∷ pos 2 ∷ pos 2 ∷ pos 1 ∷ []) [] []) ≡ Some errors.Lists
 rank_missing = refl
 
-moves_at_end : first_fault (lists_from (counts (0 ∷ [])) (counts (1 ∷ 0 ∷ [])) (pos 0 ∷ []) [] []) ≡ Some errors.Lists
+moves_at_end : first_fault (lists_from (counts (0 ∷ [])) (counts (1 ∷ 0 ∷ [])) (pos 0 ∷ []) [] [] []) ≡ Some errors.Lists
 moves_at_end = refl
 
 draws_from_one : first_fault (lists_from (counts (1 ∷ 0 ∷ [])) (counts (1 ∷ 1 ∷ 0 ∷ 0 ∷ []))
-    (pos 0 ∷ pos 1 ∷ []) (negsuc 1 ∷ []) (counts (1 ∷ 180180 ∷ 1 ∷ 360360 ∷ []))) ≡ Some errors.Lists
+    (pos 0 ∷ pos 1 ∷ []) (negsuc 1 ∷ []) (counts (1 ∷ 180180 ∷ 1 ∷ 360360 ∷ [])) []) ≡ Some errors.Lists
 draws_from_one = refl
 
 -- the draws of the second cell begin before those of the first
 draws_fall : first_fault (lists_from (counts (1 ∷ 0 ∷ [])) (counts (1 ∷ 2 ∷ 0 ∷ 0 ∷ []))
-    (pos 0 ∷ pos 0 ∷ []) (negsuc 1 ∷ negsuc 0 ∷ []) (counts (1 ∷ 360360 ∷ 1 ∷ 360360 ∷ []))) ≡ Some errors.Lists
+    (pos 0 ∷ pos 0 ∷ []) (negsuc 1 ∷ negsuc 0 ∷ []) (counts (1 ∷ 360360 ∷ 1 ∷ 360360 ∷ [])) []) ≡ Some errors.Lists
 draws_fall = refl
 
 -- a cell that no state has
-cell_too_many : first_fault (lists_from (counts (1 ∷ 0 ∷ [])) (counts (1 ∷ 1 ∷ 0 ∷ 0 ∷ [])) (pos 0 ∷ pos 0 ∷ []) (pos 1 ∷ pos 1 ∷ []) []) ≡ Some errors.Lists
+cell_too_many : first_fault (lists_from (counts (1 ∷ 0 ∷ [])) (counts (1 ∷ 1 ∷ 0 ∷ 0 ∷ [])) (pos 0 ∷ pos 0 ∷ []) (pos 1 ∷ pos 1 ∷ []) [] []) ≡ Some errors.Lists
 cell_too_many = refl
 
 -- lists of a report may have a rank that is no longest way
 rank_too_high : first_fault (lists_from (counts (2 ∷ 0 ∷ 0 ∷ [])) (counts (2 ∷ 2 ∷ 0 ∷ 0 ∷ 0 ∷ 0 ∷ []))
-    (pos 0 ∷ pos 1 ∷ negsuc 0 ∷ []) (pos 1 ∷ pos 2 ∷ pos 2 ∷ pos 1 ∷ []) []) ≡ Some (errors.Turns 0)
+    (pos 0 ∷ pos 1 ∷ negsuc 0 ∷ []) (pos 1 ∷ pos 2 ∷ pos 2 ∷ pos 1 ∷ []) [] []) ≡ Some (errors.Turns 0)
 rank_too_high = refl
+
+-- ---- sums out of range: the first such state, also where nothing leads there
+abbrev toll : ℤ → StateForm
+toll reward = Rows ((Draws (paid 2 360360 reward ∷ []) ∷ []) ∷ [])
+
+sum_too_high : told_of (toll (pos 4001) ∷ toll (pos 4001) ∷ End (pos 0) ∷ []) ≡ Some (errors.Total 0)
+sum_too_high = refl
+
+sum_too_low : told_of (toll (neg_ℤ (pos 4000)) ∷ toll (neg_ℤ (pos 4000)) ∷ End (neg_ℤ (pos 1)) ∷ []) ≡ Some (errors.Total 0)
+sum_too_low = refl
+
+second_sum_too_high : told_of (toll (pos 1) ∷ toll (pos 4001) ∷ End (pos 0) ∷ []) ≡ Some (errors.Total 1)
+second_sum_too_high = refl
+
+highest_sum : told_of (toll (pos 3999) ∷ toll (neg_ℤ (pos 3999)) ∷ End (pos 1) ∷ []) ≡ None
+highest_sum = refl
+
+-- rewards and payoffs that are each out of the range of sums
+back_in_range : told_of (toll (pos 8000) ∷ toll (pos 8000) ∷ End (neg_ℤ (pos 4000)) ∷ []) ≡ None
+back_in_range = refl
+
+-- one reward for two draws
+reward_missing : first_fault (lists_from (counts (1 ∷ 0 ∷ [])) (counts (1 ∷ 1 ∷ 0 ∷ 0 ∷ []))
+    (pos 0 ∷ pos 0 ∷ []) (negsuc 0 ∷ []) (counts (1 ∷ 180180 ∷ 1 ∷ 180180 ∷ [])) (pos 1 ∷ [])) ≡ Some errors.Lists
+reward_missing = refl

@@ -8,7 +8,7 @@ use Rattle.sim_game.specs.declared.Side.{Side}
 use Rattle.sim_game.specs.declared.Side.TheVariants.{One, Two}
 use Rattle.table.specs.Below.{all_below}
 use Rattle.table.specs.BelowLemmas.{all_at, all_from, not_all}
-use Rattle.table.specs.Faults.{cell_fits, do_draws_fit, do_fit, do_states_fit, have_counts, state_fits}
+use Rattle.table.specs.Faults.{are_rewards, cell_fits, do_draws_fit, do_fit, do_states_fit, have_counts, state_fits}
 use Rattle.table.specs.Laws.{count_up_to}
 use Rattle.table.specs.Lists.{Lists, table_cell, cells_of, draw_total, draws_end, end_at, first_draw, table_moves, table_rank, state_count, table_value}
 use Rattle.table.specs.Position.{AreFitting}
@@ -59,7 +59,8 @@ places_fit l s inner h =
 
 pub counts_fit : (l : Lists) → have_counts l ≡ true → (length l.moves ≡ 2 * state_count l) × (length l.values ≡ state_count l) × (length l.draws ≡ 2 * draw_total l)
 counts_fit l h =
-    let last = and_parts (eqb (length l.moves) (2 * state_count l) && eqb (length l.values) (state_count l)) (eqb (length l.draws % 2) 0) h in
+    let whole = and_parts (eqb (length l.moves) (2 * state_count l) && eqb (length l.values) (state_count l) && eqb (length l.draws % 2) 0) (are_rewards l) h in
+    let last = and_parts (eqb (length l.moves) (2 * state_count l) && eqb (length l.values) (state_count l)) (eqb (length l.draws % 2) 0) whole.0 in
     let first = and_parts (eqb (length l.moves) (2 * state_count l)) (eqb (length l.values) (state_count l)) last.0 in
     (eqb-true (length l.moves) (2 * state_count l) first.0, eqb-true (length l.values) (state_count l) first.1, omega (arith, eqb-true (length l.draws % 2) 0 last.1))
 

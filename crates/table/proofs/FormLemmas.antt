@@ -1,8 +1,8 @@
--- What stands at each place of the five lists of a nested form.
-use Rattle.std.proofs.Common.{◌≡◌, ℕ, zero, suc, ◌+◌, ◌*◌, ◌<◌, ◌≤◌, ℤ, pos, negsuc, Bool, true, eqb, leb, List, [], ◌∷◌, ◌++◌, length, map, take, drop, get_or, refl, ap, sym, subst, ◌∙◌, inl, inr, arith}
+-- What stands at each place of the six lists of a nested form.
+use Rattle.std.proofs.Common.{◌≡◌, ℕ, zero, suc, ◌+◌, ◌*◌, ◌<◌, ◌≤◌, ℤ, pos, negsuc, Bool, true, false, not, ◌&&◌, eqb, leb, List, [], ◌∷◌, ◌++◌, length, map, take, drop, get_or, refl, ap, sym, subst, ◌∙◌, inl, inr, arith}
 use Rattle.std.proofs.Math.Seq.{take-length}
 use Rattle.std.proofs.lemmas.Bool.{and_from, and_parts, cases_lt, cond_both, cond-false, cond-true, eq-eqb, eqb-true, ne_eqb}
-use Rattle.std.proofs.lemmas.List.{length-append, length-map}
+use Rattle.std.proofs.lemmas.List.{get_or_past, length-append, length-map}
 use Rattle.std.proofs.lemmas.List.Concat.{get_or-flat_map}
 use Rattle.std.proofs.lemmas.List.Folds.{list_all-append}
 use Rattle.std.proofs.lemmas.Grind.{flat_map-append}
@@ -10,7 +10,7 @@ use Rattle.std.specs.Int.RustNames.{unsigned_abs}
 use Rattle.std.specs.List.{flat_map, list_all}
 use Rattle.sums.specs.Sums.{count_below}
 use Rattle.table.specs.Lists.{count_in, draws_end}
-use Rattle.table.specs.Nested.{CellForm, Follows, Draws, StateForm, End, Rows, cell_in_range, columns_in, cells_told, draw_in_range, draws_of_form, draws_told, kept_cells, moves_told, names_state, ranks_told, row_in_range, state_in_range, values_told}
+use Rattle.table.specs.Nested.{CellForm, Follows, Draws, StateForm, End, Rows, cell_in_range, columns_in, cells_told, draw_in_range, draw_told, draws_of_form, draws_told, is_reward, kept_cells, moves_told, names_state, ranks_told, reward_told, row_in_range, state_in_range, values_told}
 use Rattle.table.specs.NestedGame.{form_at, rows_in}
 
 -- ---- pieces one behind the other
@@ -93,11 +93,15 @@ later_ends_told first total (Draws draws ∷ cells) (suc k) h e =
     let more : total ≡ first + length draws + length (flat_map draws_of_form cells) = omega (arith, e, length-append draws (flat_map draws_of_form cells)) in
     later_ends_told (first + length draws) total cells k rest.1 more ∙ omega (arith, length-append draws (flat_map draws_of_form (take k cells)))
 
+not_true : (b : Bool) → not b ≡ false → b ≡ true
+not_true true h = refl
+not_true false h = let e : true ≡ false = h in absurd (cc)
+
 -- ---- draws
-pub draws_flat : (cells : List CellForm) → flat_map draws_told cells ≡ flat_map (λ (draw : List ℤ). draw) (flat_map draws_of_form cells)
+pub draws_flat : (cells : List CellForm) → flat_map draws_told cells ≡ flat_map draw_told (flat_map draws_of_form cells)
 draws_flat [] = refl
 draws_flat (cell ∷ cells) =
-    ap (λ (ns : List ℤ). draws_told cell ++ ns) (draws_flat cells) ∙ sym (flat_map-append (λ (draw : List ℤ). draw) (draws_of_form cell) (flat_map draws_of_form cells))
+    ap (λ (ns : List ℤ). draws_told cell ++ ns) (draws_flat cells) ∙ sym (flat_map-append draw_told (draws_of_form cell) (flat_map draws_of_form cells))
 
 draws_named : (cell : CellForm) → cell_in_range cell ≡ true → list_all draw_in_range (draws_of_form cell) ≡ true
 draws_named (Follows state) h = refl
@@ -106,18 +110,37 @@ draws_named (Draws draws) h = (and_parts (leb (length draws) 255) (list_all draw
 pub draws_in_range : (cells : List CellForm) → list_all cell_in_range cells ≡ true → list_all draw_in_range (flat_map draws_of_form cells) ≡ true
 draws_in_range = all_flat cell_in_range draw_in_range draws_of_form draws_named
 
-pub draw_of_two : (draws : List (List ℤ)) → list_all draw_in_range draws ≡ true → (k : ℕ) → k < length draws → length (get_or draws k []) ≡ 2
-draw_of_two draws h k below =
-    let draw = get_or draws k [] in
-    eqb-true (length draw) 2 (and_parts (eqb (length draw) 2) (list_all names_state draw) (all_in draw_in_range draws [] k h below)).0
+-- what is in range of a draw: the state, the weight and the reward
+pub draw_parts : (draw : List ℤ) → draw_in_range draw ≡ true
+    → (names_state (get_or draw 0 (pos 0)) ≡ true) × (names_state (get_or draw 1 (pos 0)) ≡ true) × (is_reward (reward_told draw) ≡ true)
+draw_parts draw h =
+    let numbers = (and_parts (leb 2 (length draw) && leb (length draw) 3) _ h).1 in
+    let last = and_parts (names_state (get_or draw 0 (pos 0)) && names_state (get_or draw 1 (pos 0))) (is_reward (reward_told draw)) numbers in
+    let first = and_parts (names_state (get_or draw 0 (pos 0))) (names_state (get_or draw 1 (pos 0))) last.0 in
+    (first.0, first.1, last.1)
+
+two_told : (draw : List ℤ) (i : ℕ) → i < 2 → count_in (draw_told draw) i ≡ count_in draw i
+two_told draw zero h = refl
+two_told draw (suc zero) h = refl
+two_told draw (suc (suc i)) h = absurd (omega arith)
 
 -- the number of a draw of the list, and of one of a cell
-pub draw_at : (draws : List (List ℤ)) → list_all draw_in_range draws ≡ true → (k i : ℕ) → k < length draws → i < 2
-    → count_in (flat_map (λ (draw : List ℤ). draw) draws) (2 * k + i) ≡ count_in (get_or draws k []) i
-draw_at draws h k i below few =
-    let place : 2 * k + i ≡ before (λ (draw : List ℤ). draw) draws k + i = omega (arith, before_even (λ (draw : List ℤ). draw) draws [] 2 (draw_of_two draws h) k (omega arith)) in
-    ap (λ (n : ℕ). count_in (flat_map (λ (draw : List ℤ). draw) draws) n) place
-    ∙ ap unsigned_abs (get_or-flat_map (λ (draw : List ℤ). draw) draws k i [] (pos 0) below (omega (arith, draw_of_two draws h k below)))
+pub draw_at : (draws : List (List ℤ)) (k i : ℕ) → k < length draws → i < 2 → count_in (flat_map draw_told draws) (2 * k + i) ≡ count_in (get_or draws k []) i
+draw_at draws k i below few =
+    let place : 2 * k + i ≡ before draw_told draws k + i = omega (arith, before_even draw_told draws [] 2 (λ k h. refl) k (omega arith)) in
+    ap (λ (n : ℕ). count_in (flat_map draw_told draws) n) place
+    ∙ ap unsigned_abs (get_or-flat_map draw_told draws k i [] (pos 0) below (omega arith)) ∙ two_told (get_or draws k []) i few
+
+-- where no draw has a reward each has two numbers
+pub some_paid : (draws : List (List ℤ)) → not (list_all (λ (draw : List ℤ). eqb (length draw) 2) draws) ≡ true → not (eqb (length (map reward_told draws)) 0) ≡ true
+some_paid [] h = let e : false ≡ true = h in absurd (cc)
+some_paid (draw ∷ draws) h = ap not (ne_eqb (length (map reward_told (draw ∷ draws))) 0 (λ none. absurd (omega arith)))
+
+pub all_unpaid : (draws : List (List ℤ)) (k : ℕ) → not (list_all (λ (draw : List ℤ). eqb (length draw) 2) draws) ≡ false → k < length draws → reward_told (get_or draws k []) ≡ pos 0
+all_unpaid draws k h below =
+    let draw = get_or draws k [] in
+    let two = all_in (λ (draw : List ℤ). eqb (length draw) 2) draws [] k (not_true _ h) below in
+    get_or_past draw 2 (pos 0) (omega (arith, eqb-true (length draw) 2 two))
 
 -- ---- rows
 shape_of : (row : List CellForm) (rows : List (List CellForm)) (k : ℕ) → list_all (λ (other : List CellForm). eqb (length other) (length row)) rows ≡ true → k < suc (length rows)

@@ -1,8 +1,9 @@
 -- The lists of a nested form fit each other, and their game is the one that the form tells.
-use Rattle.std.proofs.Common.{◌≡◌, ℕ, zero, suc, ◌+◌, ◌-◌, ◌*◌, ◌%◌, ◌<◌, ◌≤◌, ℤ, pos, negsuc, Bool, true, ◌&&◌, cond, eqb, List, [], ◌∷◌, length, map, drop, get_or, false, Option, None, Some, refl, ap, sym, subst, ◌∙◌, inl, inr, arith, add-one}
-use Rattle.std.proofs.lemmas.Bool.{both_ways, or_left, or_right, and_from, and_parts, cases_lt, cond-false, eq-eqb, le-leb, ne_eqb}
+use Rattle.std.proofs.Common.{◌≡◌, ℕ, zero, suc, ◌+◌, ◌-◌, ◌*◌, ◌%◌, ◌<◌, ◌≤◌, ℤ, pos, negsuc, Bool, true, ◌&&◌, ◌||◌, not, ◌+ℤ◌, cond, eqb, List, [], ◌∷◌, length, map, drop, get_or, false, Option, None, Some, refl, ap, sym, subst, ◌∙◌, inl, inr, arith, add-one}
+use Rattle.std.proofs.lemmas.Bool.{both_ways, or_left, or_right, and_from, and_parts, cases_lt, cond_both, cond-false, cond-true, eq-eqb, le-leb, ne_eqb}
 use Rattle.std.proofs.lemmas.Bool.Decides.{Decides-int_eq}
 use Rattle.std.proofs.lemmas.Int.{ints}
+use Rattle.std.proofs.lemmas.List.{get_or-map, length-map}
 use Rattle.std.proofs.lemmas.List.Concat.{get_or-flat_map}
 use Rattle.std.proofs.lemmas.List.Folds.{length-flat_map-take}
 use Rattle.std.specs.Int.RustNames.{unsigned_abs}
@@ -11,27 +12,31 @@ use Rattle.std.specs.Ordering.{int_eq}
 use Rattle.sums.specs.Sums.{count_below}
 use Rattle.sim_game.specs.declared.Side.{Side}
 use Rattle.sim_game.specs.declared.Side.TheVariants.{One, Two}
+use Rattle.sim_game.specs.Sides.{IsNoTighter}
+use Rattle.sim_game.proofs.SideLemmas.{looser_left, looser_right}
 use Rattle.table.specs.declared.State.{State}
 use Rattle.table.specs.declared.TableError.{TableError}
 use Rattle.table.specs.declared.TableError.TheVariants as errors
 use Rattle.table.specs.declared.rules.CellRule.TheVariants as CellRule
 use Rattle.table.specs.declared.rules.Rule.TheVariants as Rule
-use Rattle.table.specs.Below.{first_below}
-use Rattle.table.specs.BelowLemmas.{all_from, greatest_high, or_there}
-use Rattle.table.specs.Faults.{AreOrdered, cell_fits, fault_at, is_rank, first_fault, rule_fault, do_draws_fit, do_fit, do_states_fit, have_counts, state_fits}
-use Rattle.table.specs.Laws.{last_is_end, least_at, moves_width, pair_below, payoff_at}
-use Rattle.table.specs.Lists.{Lists, cell_rank, next_rank, cells_of, count_in, count_of, draw_state, draw_total, draw_weight, draws_end, draws_at, end_at, first_draw, place_at, state_count, table_cell, table_high, table_low, table_moves, table_rank, table_state, table_value, table_weight}
-use Rattle.table.specs.Nested.{CellForm, Follows, Draws, StateForm, End, Rows, are_in_range, cell_in_range, columns_in, draw_in_range, draws_of_form, greatest_in, kept_cells, lists_of_states, named_by, rank_behind, rank_told, ranks_told, state_in_range}
-use Rattle.table.specs.NestedGame.{cell_chance, cell_draws, cell_follows, form_at, form_cell, form_moves, rows_in, HaveMoves, IsNestedGame}
+use Rattle.table.specs.Below.{first_below, worst_upto}
+use Rattle.table.specs.BelowLemmas.{all_from, greatest_high, or_none, or_there, worst_found}
+use Rattle.table.specs.Faults.{AreOrdered, are_rewards, cell_fits, fault_at, is_rank, first_fault, shape_fault, rule_fault, do_draws_fit, do_fit, do_states_fit, have_counts, state_fits}
+use Rattle.table.specs.Laws.{bound_turn, is_inner, last_is_end, least_at, moves_width, pair_below, payoff_at, range_state}
+use Rattle.table.specs.Lists.{Lists, cell_rank, next_rank, cells_of, count_in, count_of, draw_reward, draw_state, draw_total, draw_weight, draws_end, draws_at, end_at, first_draw, has_rewards, place_at, state_count, table_cell, table_moves, table_rank, table_reward, table_state, table_value, table_weight}
+use Rattle.table.specs.Nested.{CellForm, Follows, Draws, StateForm, End, Rows, are_in_range, cell_in_range, columns_in, draw_told, draws_of_form, greatest_in, has_paid_draw, kept_cells, lists_of_states, named_by, rank_behind, rank_told, ranks_told, reward_told, state_in_range}
+use Rattle.table.specs.NestedGame.{cell_chance, cell_draws, cell_follows, cell_reward, form_at, form_cell, form_moves, form_sum, range_sum, rows_in, worst_sum, HaveMoves, IsFormTurn, IsNestedGame, IsPaidFor, IsUnpaid}
 use Rattle.table.specs.NestedRanks.{HaveLongestWays}
 use Rattle.table.specs.Position.{IsTable}
 use Rattle.table.specs.Rules.{place_of, table_game}
+use Rattle.table.specs.Totals.{state_total, table_bound, table_range, turn_total, worst_payoff}
 use Rattle.table.proofs.PayoffLemmas.{greatest_found, least_found, IsPaid}
 use Rattle.table.proofs.PositionLemmas.{rank_no_higher, table_of}
+use Rattle.table.proofs.RankLemmas.{bound_at_end, bound_found, turn_of_cell}
 use Rattle.table.proofs.RangeLemmas.{forms_in_range}
 use Rattle.table.proofs.RuleLemmas.{keeps_all, leads_behind}
 use Rattle.table.proofs.WayLemmas.{behind_is, greatest_named, named_at, named_count, named_is, named_no_higher, rank_in}
-use Rattle.table.proofs.FormLemmas.{all_in, before, before_all, before_even, before_more, cell_told, cells_count, cells_in_range, columns_of, columns_told, count_before, counts_told, draw_at, draw_of_two, draws_flat, draws_in_range, ends_told, kept_cell, kept_count, later_ends_told, moves_count, number_told, rank_told_at, ranks_count, row_length, rows_told, value_at_told, value_told, values_count, IsRanked}
+use Rattle.table.proofs.FormLemmas.{all_in, all_unpaid, before, before_all, before_even, before_more, cell_told, cells_count, cells_in_range, columns_of, columns_told, count_before, counts_told, draw_at, draws_flat, ends_told, kept_cell, kept_count, later_ends_told, moves_count, number_told, rank_told_at, ranks_count, row_length, rows_told, some_paid, value_at_told, value_told, values_count, IsRanked}
 
 -- ---- a state
 state_fits_told : (form : StateForm) (rank one two cells : ℕ) (value : ℤ) → IsRanked form rank → one ≡ length (rows_in form) → two ≡ columns_of form → value ≡ value_told cells form
@@ -68,9 +73,6 @@ module _ (forms : List StateForm) (fine : list_all state_in_range forms ≡ true
   cells_fine : list_all cell_in_range cells ≡ true
   cells_fine = cells_in_range forms fine
 
-  draws_fine : list_all draw_in_range draws ≡ true
-  draws_fine = draws_in_range cells cells_fine
-
   -- ---- counts
   states_are : state_count l ≡ length forms
   states_are = ranks_count forms
@@ -80,8 +82,7 @@ module _ (forms : List StateForm) (fine : list_all state_in_range forms ≡ true
 
   draws_are : length l.draws ≡ 2 * length draws
   draws_are =
-      ap length (draws_flat cells) ∙ sym (before_all (λ (draw : List ℤ). draw) draws)
-      ∙ before_even (λ (draw : List ℤ). draw) draws [] 2 (draw_of_two draws draws_fine) (length draws) (omega arith) ∙ omega arith
+      ap length (draws_flat cells) ∙ sym (before_all draw_told draws) ∙ before_even draw_told draws [] 2 (λ k h. refl) (length draws) (omega arith) ∙ omega arith
 
   total_is : draw_total l ≡ length draws
   total_is = omega (arith, draws_are)
@@ -115,9 +116,13 @@ module _ (forms : List StateForm) (fine : list_all state_in_range forms ≡ true
       cells_are ∙ sym (before_all kept_cells forms) ∙ sym (cells_before (length forms) (omega arith)) ∙ ap (λ (n : ℕ). count_below n (cells_of l)) (sym states_are) in
       and_from _ _ (all_from (state_count l) (state_fits l) fits_at) (eq-eqb _ _ all)
 
+  rewards_fit : are_rewards l ≡ true
+  rewards_fit = cond_both (has_paid_draw forms) (map reward_told draws) [] (λ (ns : List ℤ). (eqb (length ns) 0 || eqb (2 * length ns) (length l.draws)) ≡ true)
+      (λ e. or_right (eqb (length (map reward_told draws)) 0) _ (eq-eqb (2 * length (map reward_told draws)) (length l.draws) (omega (arith, draws_are, length-map draws reward_told)))) (λ e. refl)
+
   counts_fit : have_counts l ≡ true
-  counts_fit = and_from _ _ (and_from _ _ (eq-eqb (length l.moves) (2 * state_count l) (omega (arith, moves_count forms, states_are)))
-      (eq-eqb (length l.values) (state_count l) (values_count 0 forms ∙ sym states_are))) (eq-eqb (length l.draws % 2) 0 (omega (arith, draws_are)))
+  counts_fit = and_from _ _ (and_from _ _ (and_from _ _ (eq-eqb (length l.moves) (2 * state_count l) (omega (arith, moves_count forms, states_are)))
+      (eq-eqb (length l.values) (state_count l) (values_count 0 forms ∙ sym states_are))) (eq-eqb (length l.draws % 2) 0 (omega (arith, draws_are)))) rewards_fit
 
   -- ---- cells
   abbrev at : ℕ → CellForm
@@ -154,16 +159,23 @@ module _ (forms : List StateForm) (fine : list_all state_in_range forms ≡ true
   draws_are_at place here =
       ap (λ (z : ℤ). count_of z (end_at l place)) (cell_is place here) ∙ count_told (first place) (end_at l place) (at place) (is_fine place here) (end_is place here)
 
-  -- a number of a draw of the cell at the place
+  -- a draw of the cell at the place
+  draw_is : (place d : ℕ) (more : List (List ℤ)) → place < length cells → at place ≡ Draws more → d < length more
+      → (first place + d < length draws) × (get_or draws (first place + d) [] ≡ get_or more d [])
+  draw_is place d more here e below =
+      let same : draws_of_form (at place) ≡ more = ap draws_of_form e in
+      let count : length (draws_of_form (at place)) ≡ length more = ap length same in (
+        omega (arith, length-flat_map-take draws_of_form cells place (Follows (pos 0)) here, count),
+        get_or-flat_map draws_of_form cells place d (Follows (pos 0)) [] here (omega (arith, count)) ∙ ap (λ (ds : List (List ℤ)). get_or ds d []) same,
+      )
+
   number_at : (place d i : ℕ) (more : List (List ℤ)) → place < length cells → at place ≡ Draws more → d < length more → i < 2
       → count_in l.draws (2 * (first place + d) + i) ≡ count_in (get_or more d []) i
   number_at place d i more here e below few =
-      let same : draws_of_form (at place) ≡ more = ap draws_of_form e in
-      let count : length (draws_of_form (at place)) ≡ length more = ap length same in
-      let within : first place + d < length draws = omega (arith, length-flat_map-take draws_of_form cells place (Follows (pos 0)) here, count) in
+      let draw = draw_is place d more here e below in
       ap (λ (ns : List ℤ). count_in ns (2 * (first place + d) + i)) (draws_flat cells)
-      ∙ draw_at draws draws_fine (first place + d) i within few
-      ∙ ap (λ (draw : List ℤ). count_in draw i) (get_or-flat_map draws_of_form cells place d (Follows (pos 0)) [] here (omega (arith, count)) ∙ ap (λ (ds : List (List ℤ)). get_or ds d []) same)
+      ∙ draw_at draws (first place + d) i draw.0 few
+      ∙ ap (λ (draw : List ℤ). count_in draw i) draw.1
 
   weight_of_draw : (place d : ℕ) (cell : CellForm) → place < length cells → at place ≡ cell → cell_in_range cell ≡ true → d < cell_draws cell
       → draw_weight l.draws (number_told (first place) cell) d ≡ cell_chance cell d
@@ -177,6 +189,21 @@ module _ (forms : List StateForm) (fine : list_all state_in_range forms ≡ true
   state_of_draw place d (Follows (negsuc state)) here e fine below = absurd (cc)
   state_of_draw place d (Draws more) here e fine below =
       ap (λ (n : ℕ). count_in l.draws n) (omega arith) ∙ number_at place d 0 more here e below (omega arith)
+
+  reward_of_draw : (place d : ℕ) (cell : CellForm) → place < length cells → at place ≡ cell → cell_in_range cell ≡ true → d < cell_draws cell
+      → draw_reward l.rewards (number_told (first place) cell) d ≡ cell_reward cell d
+  reward_of_draw place d (Follows (pos state)) here e fine below = refl
+  reward_of_draw place d (Follows (negsuc state)) here e fine below = absurd (cc)
+  reward_of_draw place d (Draws more) here e fine below =
+      let draw = draw_is place d more here e below in
+      let n = first place + d in
+      cond_both (has_paid_draw forms) (map reward_told draws) [] (λ (ns : List ℤ). get_or ns n (pos 0) ≡ reward_told (get_or more d []))
+      (λ paid. get_or-map reward_told draws n [] (pos 0) draw.0 ∙ ap reward_told draw.1)
+      (λ unpaid. sym (ap reward_told (sym draw.1) ∙ all_unpaid draws n unpaid draw.0))
+
+  reward_is : (place d : ℕ) → place < length cells → d < cell_draws (at place) → table_reward l place d ≡ cell_reward (at place) d
+  reward_is place d here below =
+      ap (λ (z : ℤ). draw_reward l.rewards z d) (cell_is place here) ∙ reward_of_draw place d (at place) here refl (is_fine place here) below
 
   weight_is : (place d : ℕ) → place < length cells → d < cell_draws (at place) → table_weight l place d ≡ cell_chance (at place) d
   weight_is place d here below =
@@ -300,6 +327,10 @@ module _ (forms : List StateForm) (fine : list_all state_in_range forms ≡ true
       same_state d below =
           state_is (place_of l s.number a b) d there.0 (omega (arith, ap cell_draws there.1)) ∙ ap (λ (c : CellForm). cell_follows c d) there.1
 
+      same_reward : (d : ℕ) → d < cell_draws cell → table_reward l (place_of l s.number a b) d ≡ cell_reward cell d
+      same_reward d below =
+          reward_is (place_of l s.number a b) d there.0 (omega (arith, ap cell_draws there.1)) ∙ ap (λ (c : CellForm). cell_reward c d) there.1
+
     same_moves : (side : Side) (s : ℕ) → s < length forms → table_moves l side s ≡ form_moves side (form_at forms s)
     same_moves One s here = one_is s here
     same_moves Two s here = two_is s here ∙ columns_first s (form_at forms s) here refl
@@ -328,17 +359,121 @@ module _ (forms : List StateForm) (fine : list_all state_in_range forms ≡ true
         let rank = last_is_end l p s (omega (arith, p.some)) in
         (s, here, rank, h s here rank)
 
-    low_paid : IsPaid l (state_count l) (table_low l)
+    low_paid : IsPaid l (state_count l) (worst_payoff l One)
     low_paid = elim (least_found l (state_count l)) [
-      | inl none ↦ last_paid (table_low l) (λ s here rank. omega (arith, ints, none, p.payoff_high s here rank, least_at l (state_count l) s here rank))
+      | inl none ↦ last_paid (worst_payoff l One) (λ s here rank. omega (arith, ints, none, p.payoff_high s here rank, least_at l (state_count l) s here rank))
       | inr found ↦ found
     ]
 
-    high_paid : IsPaid l (state_count l) (table_high l)
+    high_paid : IsPaid l (state_count l) (worst_payoff l Two)
     high_paid = elim (greatest_found l (state_count l)) [
-      | inl none ↦ last_paid (table_high l) (λ s here rank. omega (arith, ints, none, p.payoff_low s here rank, payoff_at l (state_count l) s here rank))
+      | inl none ↦ last_paid (worst_payoff l Two) (λ s here rank. omega (arith, ints, none, p.payoff_low s here rank, payoff_at l (state_count l) s here rank))
       | inr found ↦ found
     ]
+
+    worst_told : (side : Side) (s : State) → worst_sum (table_game l) side s ≡ table_bound l side s.number
+    worst_told One s = refl
+    worst_told Two s = refl
+
+    range_told : (side : Side) → range_sum (table_game l) side ≡ table_range l side
+    range_told One = refl
+    range_told Two = refl
+
+    -- ---- no draw has a reward
+    module _ (unpaid : has_paid_draw forms ≡ false) where
+      none_pays : has_rewards l ≡ false
+      none_pays = ap (λ (ns : List ℤ). not (eqb (length ns) 0)) (cond-false (has_paid_draw forms) (map reward_told draws) [] unpaid)
+
+      range_is : (side : Side) → table_range l side ≡ worst_payoff l side
+      range_is side = cond-false (has_rewards l) (worst_upto side (state_count l - 1) (state_total l side)) (worst_payoff l side) none_pays
+
+      bound_same : (side : Side) (s : ℕ) → table_bound l side s ≡ table_range l side
+      bound_same side s = cond-false (has_rewards l) (state_total l side s) (worst_payoff l side) none_pays ∙ sym (range_is side)
+
+      is_unpaid : IsUnpaid forms (table_game l)
+      is_unpaid = record {
+        low_least = λ s payoff here e.
+            let paid = end_value s payoff here e in
+            omega (arith, ints, range_is One, least_at l (state_count l) s (omega (arith, here, states_are)) paid.0, paid.1);
+        low_there = paid_told (table_range l One) (subst (IsPaid l (state_count l)) (sym (range_is One)) low_paid);
+        high_most = λ s payoff here e.
+            let paid = end_value s payoff here e in
+            omega (arith, ints, range_is Two, payoff_at l (state_count l) s (omega (arith, here, states_are)) paid.0, paid.1);
+        high_there = paid_told (table_range l Two) (subst (IsPaid l (state_count l)) (sym (range_is Two)) high_paid);
+        least = λ s. bound_same One s.number;
+        most = λ s. bound_same Two s.number;
+      }
+
+    -- ---- some draw has a reward
+    -- the sum of a turn of the form is that of the turn
+    sum_told : (side : Side) (s : State) (a b d : ℕ) → IsFormTurn forms s a b d
+        → turn_total l (table_bound l side) (place_of l s.number a b) d ≡ form_sum forms (table_game l) side s a b d
+    sum_told side s a b d turn =
+        let place = place_of l s.number a b in
+        let cell = form_cell (form_at forms s.number) a b in
+        let next : State = record { number = cell_follows cell d } in
+        ap (λ (r : ℤ). r +ℤ table_bound l side (table_state l place d)) (same_reward s a b turn.moves d turn.draw)
+        ∙ ap (λ (c : ℕ). cell_reward cell d +ℤ table_bound l side c) (same_state s a b turn.moves d turn.draw)
+        ∙ ap (λ (x : ℤ). cell_reward cell d +ℤ x) (sym (worst_told side next))
+
+    rank_of_rows : (s : ℕ) (rows : List (List CellForm)) → s < length forms → form_at forms s ≡ Rows rows → 1 ≤ table_rank l s
+    rank_of_rows s rows here e = subst (λ (form : StateForm). IsRanked form (table_rank l s)) e (rank_told_at forms s here)
+
+    holds_at : (side : Side) (s : State) (a b d : ℕ) → IsFormTurn forms s a b d → IsNoTighter side (worst_sum (table_game l) side s) (form_sum forms (table_game l) side s a b d)
+    holds_at side s a b d turn =
+        let moves = turn.moves in
+        let n = s.number in
+        let here : n < state_count l = omega (arith, states_are, moves.here) in
+        let one : a < table_moves l One n = omega (arith, same_moves One n moves.here, moves.one) in
+        let two : b < table_moves l Two n = omega (arith, same_moves Two n moves.here, moves.two) in
+        let draw : d < draws_at l (place_of l n a b) = omega (arith, same_draws s a b moves, turn.draw) in
+        looser_left side _ _ _ (sym (worst_told side s)) (looser_right side _ _ _ (sum_told side s a b d turn)
+        (bound_turn l p side n (a * table_moves l Two n + b) d here (is_inner l p One n a here one) (pair_below a b (table_moves l One n) (table_moves l Two n) one two) draw))
+
+    module _ (paid : has_paid_draw forms ≡ true) where
+      some_pays : has_rewards l ≡ true
+      some_pays = ap (λ (ns : List ℤ). not (eqb (length ns) 0)) (cond-true (has_paid_draw forms) (map reward_told draws) [] paid) ∙ some_paid draws paid
+
+      sum_from : (side : Side) (s : State) (a b d : ℕ) → IsFormTurn forms s a b d → table_bound l side s.number ≡ turn_total l (table_bound l side) (place_of l s.number a b) d
+          → worst_sum (table_game l) side s ≡ form_sum forms (table_game l) side s a b d
+      sum_from side s a b d turn e = worst_told side s ∙ e ∙ sum_told side s a b d turn
+
+      there_at : (side : Side) (s : State) (rows : List (List CellForm)) → s.number < length forms → form_at forms s.number ≡ Rows rows
+          → (a : ℕ) × (b : ℕ) × (d : ℕ) × IsFormTurn forms s a b d × (worst_sum (table_game l) side s ≡ form_sum forms (table_game l) side s a b d)
+      there_at side s rows here e =
+          let inner = rank_of_rows s.number rows here e in
+          let below : s.number < state_count l = omega (arith, states_are, here) in
+          let found = bound_found l p side s.number below inner some_pays in
+          let turn = turn_of_cell l p (λ place d. table_bound l side s.number ≡ turn_total l (table_bound l side) place d) s found.0 found.1 below inner found.2 found.3 found.4 in
+          let t = turn.0 in
+          let moves : HaveMoves forms s t.one t.two = record {
+            here = here;
+            one = omega (arith, same_moves One s.number here, turn.1.one_below);
+            two = omega (arith, same_moves Two s.number here, turn.1.two_below);
+          } in
+          let told : IsFormTurn forms s t.one t.two t.draw = record { moves = moves; draw = omega (arith, same_draws s t.one t.two moves, turn.1.draw_below) } in
+          (t.one, t.two, t.draw, told, sum_from side s t.one t.two t.draw told turn.2)
+
+      range_found : (side : Side) → (s : State) × (s.number < length forms) × (range_sum (table_game l) side ≡ worst_sum (table_game l) side s)
+      range_found side =
+          let found = worst_found side (state_count l - 1) (state_total l side) in
+          let s : State = record { number = found.0 } in (
+            s,
+            omega (arith, states_are, p.some, found.1),
+            range_told side ∙ cond-true (has_rewards l) (worst_upto side (state_count l - 1) (state_total l side)) (worst_payoff l side) some_pays
+                ∙ found.2 ∙ sym (cond-true (has_rewards l) (state_total l side found.0) (worst_payoff l side) some_pays) ∙ sym (worst_told side s),
+          )
+
+      is_paid : (side : Side) → IsPaidFor forms (table_game l) side
+      is_paid side = record {
+        at_end = λ s payoff here e.
+            let ended = end_value s.number payoff here e in
+            worst_told side s ∙ bound_at_end l p side s.number some_pays ended.0 ∙ ended.1;
+        no_worse = holds_at side;
+        as_bad = there_at side;
+        range_holds = λ s here. looser_left side _ _ _ (sym (range_told side)) (looser_right side _ _ _ (sym (worst_told side s)) (range_state l p side s.number (omega (arith, here, states_are))));
+        range_there = range_found side;
+      }
 
     pub nested_game : IsNestedGame forms (table_game l)
     nested_game = record {
@@ -350,15 +485,10 @@ module _ (forms : List StateForm) (fine : list_all state_in_range forms ≡ true
       chance = λ s a b d m below. same_chance s a b m d below;
       drawn = λ s a b d m below. (let e = same_state s a b m d below in λ i. record { number = e i });
       ends = λ s payoff here e. end_value s.number payoff here e;
-      inner = λ s rows here e. subst (λ (form : StateForm). IsRanked form (table_rank l s.number)) e (rank_told_at forms s.number here);
-      low_least = λ s payoff here e.
-          let paid = end_value s payoff here e in
-          omega (arith, ints, least_at l (state_count l) s (omega (arith, here, states_are)) paid.0, paid.1);
-      low_there = paid_told (table_low l) low_paid;
-      high_most = λ s payoff here e.
-          let paid = end_value s payoff here e in
-          omega (arith, ints, payoff_at l (state_count l) s (omega (arith, here, states_are)) paid.0, paid.1);
-      high_there = paid_told (table_high l) high_paid;
+      inner = λ s rows here e. rank_of_rows s.number rows here e;
+      reward = λ s a b d m below. same_reward s a b m d below;
+      unpaid = is_unpaid;
+      paid = is_paid;
       width_most = λ side s here. omega (arith, same_moves side s here, moves_width l p side s (omega (arith, here, states_are)));
     }
 
@@ -416,7 +546,8 @@ forms_fit forms h = nested_fits forms (states_in_range forms h)
 pub forms_tell_game : (forms : List StateForm) → are_in_range forms ≡ true → first_fault (lists_of_states forms) ≡ None → IsNestedGame forms (table_game (lists_of_states forms))
 forms_tell_game forms h none =
     let short = forms_in_range forms h in
-    nested_game forms (states_in_range forms h) (table_of (lists_of_states forms) none (omega (arith, short.ranks.few)) (omega (arith, short.draws.few)))
+    let shaped = (or_none (shape_fault (lists_of_states forms)) _ none).0 in
+    nested_game forms (states_in_range forms h) (table_of (lists_of_states forms) shaped (omega (arith, short.ranks.few)) (omega (arith, short.draws.few)))
 
 pub forms_have_longest_ways : (forms : List StateForm) → are_in_range forms ≡ true → AreOrdered (lists_of_states forms) → HaveLongestWays (lists_of_states forms)
 forms_have_longest_ways forms h order = ways_told forms (states_in_range forms h) order

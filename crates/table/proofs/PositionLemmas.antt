@@ -1,7 +1,9 @@
 -- Lists that break no rule make a table.
-use Rattle.std.proofs.Common.{◌≡◌, ℕ, ◌+◌, ◌<◌, ◌≤◌, ◌^◌, ℤ, pos, neg_ℤ, ◌≤ℤ◌, Bool, true, not, ◌||◌, eqb, leb, length, None, arith, zero, suc, cond, Some}
-use Rattle.std.proofs.lemmas.Bool.{and_parts, eq-eqb, eqb-true, leb-true, ne_eqb}
+use Rattle.std.proofs.Common.{◌≡◌, ℕ, ◌+◌, ◌<◌, ◌≤◌, ◌^◌, ℤ, pos, neg_ℤ, ◌≤ℤ◌, ◌<ℤ◌, Bool, true, not, ◌||◌, ◌&&◌, eqb, leb, length, None, arith, zero, suc, cond, Some, Option, ap, sym, ◌∙◌, inl, inr}
+use Rattle.std.proofs.lemmas.Bool.{and_parts, cases_Bool, cond-false, cond-true, eq-eqb, eqb-true, leb-true, ne_eqb}
 use Rattle.std.proofs.lemmas.Int.{ints}
+use Rattle.std.specs.Option.{option_or}
+use Rattle.std.specs.Prelude.{int_le}
 use Rattle.sums.specs.Sums.{count_below}
 use Rattle.sim_game.specs.declared.Side.{Side}
 use Rattle.sim_game.specs.declared.Side.TheVariants.{One, Two}
@@ -9,13 +11,14 @@ use Rattle.sim_game.specs.Model.{whole_chance}
 use Rattle.table.specs.declared.rules.CellRule.TheVariants.{Draws, Weights, Order}
 use Rattle.table.specs.declared.rules.Rule.TheVariants.{Payoff, Rows, Cells, Each, Turns}
 use Rattle.table.specs.declared.TableError.TheVariants as errors
-use Rattle.table.specs.Below.{all_below}
+use Rattle.table.specs.Below.{all_below, first_below}
 use Rattle.table.specs.BelowLemmas.{all_at, greatest_at, none_at, or_none}
 use Rattle.table.proofs.FitLemmas.{fits_from}
 use Rattle.table.specs.declared.TableError.{TableError}
-use Rattle.table.specs.Faults.{count_fault, do_fit, first_fault, lists_fault, are_moves, fault_at, is_payoff, is_rank, is_weight, rule_fault}
-use Rattle.table.specs.Lists.{Lists, cells_of, draws_at, table_moves, place_at, table_rank, table_state, state_count, table_value, table_weight, cell_rank, next_rank}
-use Rattle.table.specs.Position.{AreFitting, IsTableCell, IsTable}
+use Rattle.table.specs.Faults.{count_fault, do_fit, first_fault, lists_fault, are_moves, fault_at, is_payoff, is_rank, is_total, is_weight, rule_fault, shape_fault, total_fault, total_fault_at}
+use Rattle.table.specs.Lists.{Lists, cells_of, draws_at, table_moves, place_at, table_rank, table_state, state_count, table_value, table_weight, cell_rank, has_rewards, next_rank}
+use Rattle.table.specs.Position.{AreFitting, AreSmallTotals, IsTableCell, IsTable}
+use Rattle.table.specs.Totals.{state_total}
 use Rattle.table.proofs.RuleLemmas.{keeps_all, kept, leads_behind, leads_there}
 
 -- ---- payoffs and moves
@@ -96,7 +99,7 @@ some_states : (n : ℕ) (fault : TableError) → cond (eqb n 0) (Some fault) Non
 some_states zero fault h = absurd (cc)
 some_states (suc n) fault h = omega arith
 
-pub table_of : (l : Lists) → first_fault l ≡ None → state_count l < 2 ^ 31 → length l.draws < 2 ^ 31 → IsTable l
+pub table_of : (l : Lists) → shape_fault l ≡ None → state_count l < 2 ^ 31 → length l.draws < 2 ^ 31 → IsTable l
 table_of l none few few_draws =
     let fits = or_none (lists_fault l) _ none in
     let some = or_none (count_fault l) _ fits.1 in
@@ -109,3 +112,30 @@ table_of l none few few_draws =
     let turns = or_none (rule_fault Turns l) _ order.1 in
     table_from l draws.0 weights.0 order.0 turns.0
     (fits_from l (kept (do_fit l) errors.Lists fits.0)) (some_states (state_count l) errors.NoStates some.0) few few_draws payoffs.0 rows.0 columns.0
+
+-- ---- sums
+total_range : (x y : ℤ) → (int_le (neg_ℤ (pos 4000)) x && int_le y (pos 4000)) ≡ true → (neg_ℤ (pos 4000) ≤ℤ x) × (y ≤ℤ pos 4000)
+total_range x y h = (grind (arith, ints), grind (arith, ints))
+
+not_total : (l : Lists) (s : ℕ) → (is_total l s ≡ true → ⊥) → total_fault_at l s ≡ Some (errors.Total s)
+not_total l s h = elim (cases_Bool (is_total l s)) [
+  | inl fine ↦ absurd (h fine)
+  | inr broken ↦ cond-false (is_total l s) None (Some (errors.Total s)) broken
+]
+
+pub total_low : (l : Lists) (s : ℕ) → state_total l One s <ℤ neg_ℤ (pos 4000) → total_fault_at l s ≡ Some (errors.Total s)
+total_low l s h = not_total l s (λ fine. absurd (omega (arith, ints, h, (total_range (state_total l One s) (state_total l Two s) fine).0)))
+
+pub total_high : (l : Lists) (s : ℕ) → pos 4000 <ℤ state_total l Two s → total_fault_at l s ≡ Some (errors.Total s)
+total_high l s h = not_total l s (λ fine. absurd (omega (arith, ints, h, (total_range (state_total l One s) (state_total l Two s) fine).1)))
+
+pub small_from : (l : Lists) → (has_rewards l ≡ true → first_below (state_count l) (total_fault_at l) ≡ None) → AreSmallTotals l
+small_from l h paid s here =
+    total_range (state_total l One s) (state_total l Two s) (kept (is_total l s) (errors.Total s) (none_at (state_count l) (total_fault_at l) s (h paid) here))
+
+pub small_of : (l : Lists) → total_fault l ≡ None → AreSmallTotals l
+small_of l none = small_from l (λ paid. sym (cond-true (has_rewards l) (first_below (state_count l) (total_fault_at l)) None paid) ∙ none)
+
+-- the last rule, where no other is broken
+pub fault_last : (l other : Lists) (x : Option TableError) → other ≡ l → shape_fault l ≡ None → total_fault other ≡ x → first_fault l ≡ x
+fault_last l other x same none e = ap (λ (first : Option TableError). option_or first (total_fault l)) none ∙ ap total_fault (sym same) ∙ e

@@ -7,9 +7,9 @@ use Rattle.std.proofs.lemmas.List.Concat.{length-flat_map}
 use Rattle.std.proofs.lemmas.List.Sums.{sum-map}
 use Rattle.std.proofs.lemmas.Grind.{flat_map-append}
 use Rattle.std.specs.List.{flat_map, list_all}
-use Rattle.table.specs.Nested.{CellForm, Follows, Draws, StateForm, End, Rows, are_in_range, cell_in_range, cells_told, columns_in, draw_count_of, draw_in_range, draws_of_form, draws_told, given_cells, greatest_in, is_within, kept_cells, lists_of_states, moves_told, named_by, names_state, rank_behind, ranks_told, row_in_range, state_in_range, values_told}
+use Rattle.table.specs.Nested.{CellForm, Follows, Draws, StateForm, End, Rows, are_in_range, cell_in_range, cells_told, columns_in, draw_count_of, draw_in_range, draw_told, draws_of_form, draws_told, given_cells, greatest_in, has_paid_draw, is_reward, is_within, kept_cells, lists_of_states, moves_told, named_by, names_state, rank_behind, ranks_told, reward_told, rewards_told, row_in_range, state_in_range, values_told}
 use Rattle.table.specs.Ranges.{AreListsInRange}
-use Rattle.table.proofs.FormLemmas.{all_flat, all_in, before_all, before_even, cells_count, cells_in_range, draw_of_two, draws_flat, draws_in_range, moves_count, ranks_count, values_count}
+use Rattle.table.proofs.FormLemmas.{all_flat, all_in, before_all, before_even, cells_count, cells_in_range, draw_parts, draws_flat, draws_in_range, moves_count, ranks_count, values_count}
 
 -- ---- numbers
 within_from : (low high z : ℤ) → low ≤ℤ z → z ≤ℤ high → is_within low high z ≡ true
@@ -119,8 +119,14 @@ cells_within first (Draws draws ∷ cells) h few =
     and_from _ _ (within_from (neg_ℤ (pos 1048576)) (pos 1048575) (negsuc first) (omega (arith, ints, few)) (omega (arith, ints)))
     (cells_within (first + length draws) cells both.1 (omega (arith, few, count)))
 
-draw_within : (draw : List ℤ) → draw_in_range draw ≡ true → list_all names_state draw ≡ true
-draw_within draw h = (and_parts (eqb (length draw) 2) (list_all names_state draw) h).1
+draw_within : (draw : List ℤ) → draw_in_range draw ≡ true → list_all names_state (draw_told draw) ≡ true
+draw_within draw h = let parts = draw_parts draw h in and_from _ _ parts.0 (and_from _ _ parts.1 refl)
+
+rewards_within : (draws : List (List ℤ)) → list_all draw_in_range draws ≡ true → list_all is_reward (map reward_told draws) ≡ true
+rewards_within [] h = refl
+rewards_within (draw ∷ draws) h =
+    let both = and_parts (draw_in_range draw) (list_all draw_in_range draws) h in
+    and_from (is_reward (reward_told draw)) _ (draw_parts draw both.0).2 (rewards_within draws both.1)
 
 module _ (forms : List StateForm) (fine : list_all state_in_range forms ≡ true) (few : length forms ≤ 524288)
     (few_cells : length (flat_map given_cells forms) ≤ 524288) (few_draws : draw_count_of (flat_map given_cells forms) ≤ 262144) where
@@ -161,12 +167,17 @@ module _ (forms : List StateForm) (fine : list_all state_in_range forms ≡ true
       few = omega (
         arith,
         ap length (draws_flat cells),
-        before_all (λ (draw : List ℤ). draw) draws,
-        before_even (λ (draw : List ℤ). draw) draws [] 2 (draw_of_two draws draws_fine) (length draws) (omega arith),
+        before_all draw_told draws,
+        before_even draw_told draws [] 2 (λ k h. refl) (length draws) (omega arith),
         draws_few,
       );
       each = all_within (pos 0) (pos 1048575) (flat_map draws_told cells)
-          (ap (list_all names_state) (draws_flat cells) ∙ all_flat draw_in_range names_state (λ (draw : List ℤ). draw) draw_within draws draws_fine);
+          (ap (list_all names_state) (draws_flat cells) ∙ all_flat draw_in_range names_state draw_told draw_within draws draws_fine);
+    };
+    rewards = record {
+      few = cond_both (has_paid_draw forms) (map reward_told draws) [] (λ (ns : List ℤ). length ns ≤ 262144) (λ e. omega (arith, draws_few, length-map draws reward_told)) (λ e. omega arith);
+      each = all_within (neg_ℤ (pos 1000000)) (pos 1000000) (rewards_told forms)
+          (cond_both (has_paid_draw forms) (map reward_told draws) [] (λ (ns : List ℤ). list_all is_reward ns ≡ true) (λ e. rewards_within draws draws_fine) (λ e. refl));
     };
   }
 

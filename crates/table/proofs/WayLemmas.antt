@@ -1,15 +1,15 @@
 -- The rank of a state, by the greatest rank of the states that its cells name.
-use Rattle.std.proofs.Common.{◌≡◌, ℕ, zero, suc, ◌+◌, ◌-◌, ◌<◌, ◌≤◌, ℤ, pos, negsuc, ◌≤ℤ◌, true, eqb, leb, List, [], ◌∷◌, ◌++◌, length, map, take, drop, get_or, refl, ap, ◌∙◌, arith}
-use Rattle.std.proofs.lemmas.Bool.{and_parts, cond-false, eqb-true, lt-leb}
+use Rattle.std.proofs.Common.{◌≡◌, ℕ, zero, suc, ◌+◌, ◌-◌, ◌<◌, ◌≤◌, ℤ, pos, negsuc, ◌≤ℤ◌, true, leb, List, [], ◌∷◌, ◌++◌, length, map, take, drop, get_or, refl, ap, ◌∙◌, arith}
+use Rattle.std.proofs.lemmas.Bool.{and_parts, cond-false, lt-leb}
 use Rattle.std.proofs.lemmas.Int.{ints}
 use Rattle.std.proofs.lemmas.List.{get_or-drop, get_or-map, length-map}
 use Rattle.std.proofs.lemmas.List.Concat.{get_or-flat_map}
 use Rattle.std.proofs.lemmas.List.Folds.{length-flat_map-take}
 use Rattle.std.specs.Int.RustNames.{unsigned_abs}
 use Rattle.std.specs.List.{flat_map, list_all}
-use Rattle.table.specs.Nested.{CellForm, Follows, Draws, StateForm, cell_in_range, draw_in_range, greatest_in, named_by, names_state, rank_behind, rank_told, ranks_told}
+use Rattle.table.specs.Nested.{CellForm, Follows, Draws, StateForm, cell_in_range, draw_in_range, greatest_in, named_by, rank_behind, rank_told, ranks_told}
 use Rattle.table.specs.NestedGame.{cell_draws, cell_follows, form_at}
-use Rattle.table.proofs.FormLemmas.{all_in}
+use Rattle.table.proofs.FormLemmas.{all_in, draw_parts}
 use Rattle.table.proofs.RangeLemmas.{within_parts}
 
 -- ---- the greatest of a list
@@ -60,9 +60,8 @@ named_is (Follows state) (suc d) fine below = absurd (omega arith)
 named_is (Draws draws) d fine below =
     let draw = get_or draws d [] in
     let all = (and_parts (leb (length draws) 255) (list_all draw_in_range draws) fine).1 in
-    let both = and_parts (eqb (length draw) 2) (list_all names_state draw) (all_in draw_in_range draws [] d all below) in
     let state = get_or draw 0 (pos 0) in
-    let named : names_state state ≡ true = all_in names_state draw (pos 0) 0 both.1 (omega (arith, eqb-true (length draw) 2 both.0)) in
+    let named = (draw_parts draw (all_in draw_in_range draws [] d all below)).0 in
     get_or-map (λ (draw : List ℤ). get_or draw 0 (pos 0)) draws d [] (pos 0) below ∙ no_sign state (within_parts (pos 0) (pos 1048575) state named).0
 
 -- ---- ranks

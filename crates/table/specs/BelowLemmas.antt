@@ -1,8 +1,11 @@
 -- What holds of the numbers below a number.
-use Rattle.std.proofs.Common.{◌≡◌, ℕ, zero, suc, ◌+◌, ◌<◌, ◌≤◌, Bool, true, false, Option, None, Some, refl, ap, ◌∙◌, ◌⊎◌, inl, inr, arith, add-one}
+use Rattle.std.proofs.Common.{◌≡◌, ℕ, zero, suc, ◌+◌, ◌<◌, ◌≤◌, ℤ, Bool, true, false, Option, None, Some, refl, ap, ◌∙◌, ◌⊎◌, inl, inr, arith, add-one}
 use Rattle.std.proofs.lemmas.Bool.{and_from, and_left, and_parts, and_right, cases_lt}
 use Rattle.std.specs.Option.{option_or}
-use Rattle.table.specs.Below.{all_below, first_below, highest_below}
+use Rattle.sim_game.specs.declared.Side.{Side}
+use Rattle.sim_game.specs.Sides.{other_side, better, IsNoTighter}
+use Rattle.sim_game.proofs.SideLemmas.{better_cases, better_left, better_right, flip_side, looser_refl, looser_trans}
+use Rattle.table.specs.Below.{all_below, first_below, highest_below, worst_upto}
 
 -- ---- tests
 pub all_at : (n : ℕ) (p : ℕ → Bool) (k : ℕ) → all_below n p ≡ true → k < n → p k ≡ true
@@ -39,6 +42,27 @@ greatest_at (suc n) f i h = elim (cases_lt i n) [
 pub greatest_high : (n top : ℕ) (f : ℕ → ℕ) → ((i : ℕ) → i < n → f i ≤ top) → highest_below n f ≤ top
 greatest_high zero top f h = omega arith
 greatest_high (suc n) top f h = omega (arith, h n (omega arith), greatest_high n top f (λ i below. h i (omega arith)))
+
+-- ---- the worst for a side
+pub worst_at : (side : Side) (last : ℕ) (f : ℕ → ℤ) (i : ℕ) → i ≤ last → IsNoTighter side (worst_upto side last f) (f i)
+worst_at side zero f i h = let first : i ≡ 0 = omega arith in rw first (looser_refl side (f 0))
+worst_at side (suc last) f i h = elim (cases_lt i (suc last)) [
+  | inl earlier ↦ looser_trans side _ _ _ (flip_side side _ _ (better_left (other_side side) (worst_upto side last f) (f (suc last)))) (worst_at side last f i (omega arith))
+  | inr end ↦ let same : i ≡ suc last = omega arith in rw same (flip_side side _ _ (better_right (other_side side) (worst_upto side last f) (f (suc last))))
+]
+
+pub worst_found : (side : Side) (last : ℕ) (f : ℕ → ℤ) → (i : ℕ) × (i ≤ last) × (worst_upto side last f ≡ f i)
+worst_found side zero f = (0, omega arith, refl)
+worst_found side (suc last) f = elim (better_cases (other_side side) (worst_upto side last f) (f (suc last))) [
+  | inl before ↦ let found = worst_found side last f in (found.0, omega (arith, found.1), before ∙ found.2)
+  | inr here ↦ (suc last, omega arith, here)
+]
+
+pub worst_same : (side : Side) (last : ℕ) (f g : ℕ → ℤ) → ((i : ℕ) → i ≤ last → f i ≡ g i) → worst_upto side last f ≡ worst_upto side last g
+worst_same side zero f g h = h 0 (omega arith)
+worst_same side (suc last) f g h =
+    ap (λ (x : ℤ). better (other_side side) x (f (suc last))) (worst_same side last f g (λ i le. h i (omega arith)))
+    ∙ ap (better (other_side side) (worst_upto side last g)) (h (suc last) (omega arith))
 
 -- ---- the first that there is
 pub or_none : {T : Type 0} (a b : Option T) → option_or a b ≡ None → (a ≡ None) × (b ≡ None)

@@ -1,5 +1,6 @@
 -- The rules that the lists of a table keep, and the first that is broken.
-use Rattle.std.specs.Prelude.{◌≡◌, ℕ, ◌+◌, ◌*◌, ◌/◌, ◌%◌, ℤ, pos, neg_ℤ, int_lt, Bool, not, ◌||◌, ◌&&◌, ◌==◌, nat_lt, nat_le, if◌then◌else◌, [], ◌∷◌, length, Option, Some, None}
+use Rattle.std.specs.Prelude.{◌≡◌, ℕ, ◌+◌, ◌*◌, ◌/◌, ◌%◌, ℤ, pos, neg_ℤ, int_lt, int_le, Bool, not, ◌||◌, ◌&&◌, ◌==◌, nat_lt, nat_le, if◌then◌else◌, true, List, [], ◌∷◌, length, Option, Some, None}
+use Rattle.std.specs.Option.{option_or}
 use Rattle.std.specs.Ordering.{int_eq}
 use Rattle.sums.specs.Sums.{count_below}
 use Rattle.sim_game.specs.declared.Side.TheVariants.{One, Two}
@@ -12,7 +13,8 @@ use Rattle.table.specs.declared.rules.Rule.TheVariants as rules
 use Rattle.table.specs.declared.rules.CellRule.{CellRule}
 use Rattle.table.specs.declared.rules.CellRule.TheVariants.{Draws, Weights, Order}
 use Rattle.table.specs.Below.{all_below, first_below}
-use Rattle.table.specs.Lists.{Lists, state_count, table_rank, table_moves, table_value, cells_of, place_at, draw_total, draws_end, first_draw, table_cell, end_at, draws_at, table_state, table_weight, next_rank}
+use Rattle.table.specs.Lists.{Lists, state_count, table_rank, table_moves, table_value, cells_of, place_at, draw_total, draws_end, first_draw, table_cell, end_at, draws_at, table_state, table_weight, next_rank, has_rewards}
+use Rattle.table.specs.Totals.{state_total, AreStateTotals}
 
 -- ---- the lists fit each other
 -- an end has no moves, and the cells of another state stand behind those of the states before it
@@ -26,8 +28,12 @@ state_fits l s =
 abbrev pub cell_fits : Lists → ℕ → Bool
 cell_fits l place = nat_le (first_draw (table_cell l place)) (end_at l place)
 
+-- there are no rewards, or one for each draw
+abbrev pub are_rewards : Lists → Bool
+are_rewards l = (length l.rewards == 0) || (2 * length l.rewards == length l.draws)
+
 abbrev pub have_counts : Lists → Bool
-have_counts l = (length l.moves == 2 * state_count l) && (length l.values == state_count l) && (length l.draws % 2 == 0)
+have_counts l = (length l.moves == 2 * state_count l) && (length l.values == state_count l) && (length l.draws % 2 == 0) && are_rewards l
 
 -- and there are no other cells, and no other draws
 abbrev pub do_states_fit : Lists → Bool
@@ -108,9 +114,28 @@ lists_fault l = if do_fit l then None else Some errors.Lists
 abbrev pub count_fault : Lists → Option TableError
 count_fault l = if state_count l == 0 then Some errors.NoStates else None
 
-abbrev pub first_fault : Lists → Option TableError
-first_fault l = first_some (
+-- the first but for the last rule
+abbrev pub shape_fault : Lists → Option TableError
+shape_fault l = first_some (
     lists_fault l ∷ count_fault l ∷
     rule_fault rules.Payoff l ∷ rule_fault rules.Rows l ∷ rule_fault rules.Cells l ∷
     rule_fault (rules.Each Draws) l ∷ rule_fault (rules.Each Weights) l ∷ rule_fault (rules.Each Order) l ∷
     rule_fault rules.Turns l ∷ [])
+
+-- the sums from the state on are small
+abbrev pub is_total : Lists → ℕ → Bool
+is_total l s = int_le (neg_ℤ (pos 4000)) (state_total l One s) && int_le (state_total l Two s) (pos 4000)
+
+abbrev pub total_fault_at : Lists → ℕ → Option TableError
+total_fault_at l s = if is_total l s then None else Some (errors.Total s)
+
+-- the last rule, where turns pay
+abbrev pub total_fault : Lists → Option TableError
+total_fault l = if has_rewards l then first_below (state_count l) (total_fault_at l) else None
+
+abbrev pub first_fault : Lists → Option TableError
+first_fault l = option_or (shape_fault l) (total_fault l)
+
+-- the list has the totals of the states, where turns pay and no other rule is broken
+abbrev pub HasTotals : Lists → List ℤ → Type 0
+HasTotals l totals = has_rewards l ≡ true → shape_fault l ≡ None → AreStateTotals l totals

@@ -1,5 +1,5 @@
 -- A table that can be played is a game.
-use Rattle.std.proofs.Common.{◌≡◌, ℕ, zero, suc, ◌+◌, ◌-◌, ◌*◌, ◌/◌, ◌%◌, ◌<◌, ◌≤◌, ℤ, pos, negsuc, neg_ℤ, ◌≤ℤ◌, eqb, List, [], ◌∷◌, length, drop, get_or, refl, ap, sym, ◌∙◌, inl, inr, arith, add-one}
+use Rattle.std.proofs.Common.{◌≡◌, ℕ, zero, suc, ◌+◌, ◌-◌, ◌*◌, ◌/◌, ◌%◌, ◌<◌, ◌≤◌, ℤ, pos, negsuc, neg_ℤ, ◌≤ℤ◌, ◌+ℤ◌, Bool, true, false, cond, eqb, List, [], ◌∷◌, length, drop, get_or, refl, ap, sym, ◌∙◌, inl, inr, arith, add-one}
 use Rattle.std.proofs.lemmas.Nat.{mul-le}
 use Rattle.std.proofs.lemmas.Bool.{cases_lt, cond_both, eqb-true, eq-eqb}
 use Rattle.std.proofs.lemmas.Int.{ints, clamps}
@@ -10,14 +10,18 @@ use Rattle.sums.proofs.CountLemmas.{count_same}
 use Rattle.sim_game.specs.declared.Side.{Side}
 use Rattle.sim_game.specs.declared.Side.TheVariants.{One, Two}
 use Rattle.sim_game.specs.Model.{Turn, IsTurn, Reachable, IsGame}
+use Rattle.sim_game.specs.Sides.{IsNoTighter}
 use Rattle.sim_game.proofs.ReachLemmas.{reachable_induction}
+use Rattle.sim_game.proofs.SideLemmas.{looser_left, looser_refl}
 use Rattle.table.specs.declared.State.{State}
-use Rattle.table.specs.BelowLemmas.{all_at, greatest_at, greatest_high}
+use Rattle.table.specs.BelowLemmas.{all_at, greatest_at, greatest_high, worst_at, worst_found}
 use Rattle.table.specs.Draws.{weight_from, AreDraws}
-use Rattle.table.specs.Lists.{Lists, count_in, state_count, table_rank, table_moves, table_value, cells_of, place_at, draw_total, draws_end, first_draw, table_cell, end_at, draws_at, table_weight, least_of, greatest_of, table_low, table_high, table_width}
-use Rattle.table.specs.Position.{AreFitting, IsTableCell, IsTable}
-use Rattle.table.specs.Rules.{place_of, table_game}
+use Rattle.table.specs.Lists.{Lists, count_in, state_count, table_rank, table_moves, table_value, cells_of, place_at, draw_total, draws_end, first_draw, table_cell, end_at, draws_at, table_weight, table_reward, has_rewards, least_of, greatest_of, table_width}
+use Rattle.table.specs.Position.{AreFitting, IsTableCell, IsTable, AreSmallTotals}
+use Rattle.table.specs.Rules.{place_of, table_game, turn_sum}
 use Rattle.table.specs.Setting.{HasDraw}
+use Rattle.table.specs.TotalLaws.{total_at_end, total_turn, unpaid_turn}
+use Rattle.table.specs.Totals.{state_total, table_bound, table_range, turn_total, worst_payoff}
 
 -- ---- numbers
 -- the place of a pair of moves among the cells of a state
@@ -26,6 +30,10 @@ pair_below a b m n h h' = omega (arith, mul-le (a + 1) n m n (omega arith) (omeg
 
 same_state : (s t : State) → s.number ≡ t.number → s ≡ t
 same_state s t e = λ i. record { number = e i }
+
+both_cond : (b : Bool) (x x' y y' : ℤ) (R : ℤ → ℤ → Type 0) → (b ≡ true → R x y) → (b ≡ false → R x' y') → R (cond b x x') (cond b y y')
+both_cond true x x' y y' R h h' = h refl
+both_cond false x x' y y' R h h' = h' refl
 
 -- ---- the range of payoffs
 least_low : (l : Lists) (p : (s : ℕ) → s < state_count l → table_rank l s ≡ 0 → neg_ℤ (pos 4000) ≤ℤ table_value l s)
@@ -164,13 +172,6 @@ module _ (l : Lists) (p : IsTable l) where
     | inr none ↦ omega arith
   ]
 
-  low_high : table_low l ≤ℤ table_high l
-  low_high =
-      let s = state_count l - 1 in
-      let last : s + 1 ≡ state_count l = omega (arith, p.some) in
-      let rank = last_is_end s last in
-      omega (arith, ints, least_at l (state_count l) s (omega arith) rank, payoff_at l (state_count l) s (omega arith) rank)
-
   pub moves_width : (side : Side) (s : ℕ) → s < state_count l → table_moves l side s ≤ table_width l
   moves_width One s here = omega (arith, greatest_at (length l.moves) (count_in l.moves) (2 * s) (omega (arith, p.fits.moves_count)))
   moves_width Two s here = omega (arith, greatest_at (length l.moves) (count_in l.moves) (2 * s + 1) (omega (arith, p.fits.moves_count)))
@@ -190,25 +191,82 @@ module _ (l : Lists) (p : IsTable l) where
     ]),
   )
 
-  pub table_is_game : IsGame (table_game l)
-  table_is_game = record {
-    width_low = omega arith;
-    width_high = width_high;
-    low_least = least_low l p.payoff_low (state_count l) (omega arith);
-    low_high = low_high;
-    high_most = most_high l p.payoff_high (state_count l) (omega arith);
-    end_moves = λ side s r h. p.fits.ends side s.number (sound s r) h;
-    other_moves = λ side s r h. p.moves_low side s.number (sound s r) h;
-    moves_high = λ side s r. moves_width side s.number (sound s r);
-    rank_high = λ s r. p.rank_high s.number (sound s r);
-    rank_falls = λ s t r turn. (turn_cell s t r turn).falls t.draw turn.draw_below;
-    payoff_low = λ s r h. least_at l (state_count l) s.number (sound s r) h;
-    payoff_high = λ s r h. payoff_at l (state_count l) s.number (sound s r) h;
-    same_key = λ s t r r' e. same_state s t e;
-    key_high = λ s r. omega (arith, sound s r, p.few);
-    draws_low = λ s a b r one two. (is_cell s.number a b (sound s r) one two).draws_low;
-    draws_high = λ s a b r one two. (is_cell s.number a b (sound s r) one two).draws_high;
-    chance_low = λ s t r turn. (turn_cell s t r turn).weight_low t.draw turn.draw_below;
-    chance_sum = λ s a b r one two. (is_cell s.number a b (sound s r) one two).weight_sum;
-    one_draw = λ s a b h r one two. eqb-true _ _ (all_at (length l.cells) (λ place. eqb (draws_at l place) 1) (place_of l s.number a b) h (place_high s.number a b (sound s r) one two));
-  }
+  -- ---- what can still be got
+  unpaid_same : (side : Side) (x r : ℤ) → r ≡ pos 0 → IsNoTighter side x (r +ℤ x)
+  unpaid_same One x r e = omega (arith, ints, e)
+  unpaid_same Two x r e = omega (arith, ints, e)
+
+  pub range_state : (side : Side) (s : ℕ) → s < state_count l → IsNoTighter side (table_range l side) (table_bound l side s)
+  range_state side s here = both_cond (has_rewards l) _ _ _ _ (IsNoTighter side)
+      (λ paid. worst_at side (state_count l - 1) (state_total l side) s (omega arith)) (λ unpaid. looser_refl side (worst_payoff l side))
+
+  pub bound_turn : (side : Side) (s k d : ℕ) → s < state_count l → 1 ≤ table_rank l s → k < cells_of l s → d < draws_at l (place_at l s k)
+      → IsNoTighter side (table_bound l side s) (turn_total l (table_bound l side) (place_at l s k) d)
+  bound_turn side s k d here inner below draw = both_cond (has_rewards l) _ _ _ _ (λ x y. IsNoTighter side x (table_reward l (place_at l s k) d +ℤ y))
+      (λ paid. total_turn l p side s k d here inner below draw) (λ unpaid. unpaid_same side (worst_payoff l side) _ (unpaid_turn l (place_at l s k) d unpaid))
+
+  payoff_worst : (side : Side) (s : ℕ) → s < state_count l → table_rank l s ≡ 0 → IsNoTighter side (worst_payoff l side) (table_value l s)
+  payoff_worst One s here e = least_at l (state_count l) s here e
+  payoff_worst Two s here e = payoff_at l (state_count l) s here e
+
+  bound_end : (side : Side) (s : ℕ) → s < state_count l → table_rank l s ≡ 0 → IsNoTighter side (table_bound l side s) (table_value l s)
+  bound_end side s here e = cond_both (has_rewards l) _ _ (λ (z : ℤ). IsNoTighter side z (table_value l s))
+      (λ paid. looser_left side _ _ _ (sym (total_at_end l side (table_rank l s) s e)) (looser_refl side (table_value l s))) (λ unpaid. payoff_worst side s here e)
+
+  -- by the last state
+  low_high : table_range l One ≤ℤ table_range l Two
+  low_high =
+      let s = state_count l - 1 in
+      let last : s + 1 ≡ state_count l = omega (arith, p.some) in
+      let rank = last_is_end s last in
+      omega (
+        arith,
+        ints,
+        range_state One s (omega arith),
+        range_state Two s (omega arith),
+        bound_end One s (omega arith) rank,
+        bound_end Two s (omega arith) rank,
+      )
+
+  pub turn_bound : (side : Side) (s : State) (t : Turn) → Reachable (table_game l) s → IsTurn (table_game l) s t → IsNoTighter side (table_bound l side s.number) (turn_sum l side s t)
+  turn_bound side s t r turn =
+      bound_turn side s.number (t.one * table_moves l Two s.number + t.two) t.draw (sound s r) (is_inner One s.number t.one (sound s r) turn.one_below)
+      (pair_below t.one t.two (table_moves l One s.number) (table_moves l Two s.number) turn.one_below turn.two_below) turn.draw_below
+
+  module _ (q : AreSmallTotals l) where
+    low_least : neg_ℤ (pos 4000) ≤ℤ table_range l One
+    low_least = cond_both (has_rewards l) _ _ (λ (z : ℤ). neg_ℤ (pos 4000) ≤ℤ z)
+        (λ paid. let found = worst_found One (state_count l - 1) (state_total l One) in omega (arith, ints, found.2, (q paid found.0 (omega (arith, found.1, p.some))).0))
+        (λ unpaid. least_low l p.payoff_low (state_count l) (omega arith))
+
+    high_most : table_range l Two ≤ℤ pos 4000
+    high_most = cond_both (has_rewards l) _ _ (λ (z : ℤ). z ≤ℤ pos 4000)
+        (λ paid. let found = worst_found Two (state_count l - 1) (state_total l Two) in omega (arith, ints, found.2, (q paid found.0 (omega (arith, found.1, p.some))).1))
+        (λ unpaid. most_high l p.payoff_high (state_count l) (omega arith))
+
+    pub table_is_game : IsGame (table_game l)
+    table_is_game = record {
+      width_low = omega arith;
+      width_high = width_high;
+      low_least = low_least;
+      low_high = low_high;
+      high_most = high_most;
+      end_moves = λ side s r h. p.fits.ends side s.number (sound s r) h;
+      other_moves = λ side s r h. p.moves_low side s.number (sound s r) h;
+      moves_high = λ side s r. moves_width side s.number (sound s r);
+      rank_high = λ s r. p.rank_high s.number (sound s r);
+      rank_falls = λ s t r turn. (turn_cell s t r turn).falls t.draw turn.draw_below;
+      least_low = λ s r. range_state One s.number (sound s r);
+      most_high = λ s r. range_state Two s.number (sound s r);
+      payoff_low = λ s r h. bound_end One s.number (sound s r) h;
+      payoff_high = λ s r h. bound_end Two s.number (sound s r) h;
+      reward_low = λ s t r turn. turn_bound One s t r turn;
+      reward_high = λ s t r turn. turn_bound Two s t r turn;
+      same_key = λ s t r r' e. same_state s t e;
+      key_high = λ s r. omega (arith, sound s r, p.few);
+      draws_low = λ s a b r one two. (is_cell s.number a b (sound s r) one two).draws_low;
+      draws_high = λ s a b r one two. (is_cell s.number a b (sound s r) one two).draws_high;
+      chance_low = λ s t r turn. (turn_cell s t r turn).weight_low t.draw turn.draw_below;
+      chance_sum = λ s a b r one two. (is_cell s.number a b (sound s r) one two).weight_sum;
+      one_draw = λ s a b h r one two. eqb-true _ _ (all_at (length l.cells) (λ place. eqb (draws_at l place) 1) (place_of l s.number a b) h (place_high s.number a b (sound s r) one two));
+    }

@@ -12,3 +12,5 @@ pub mod Ranges
 pub mod Refusals
 pub mod Rules
 pub mod Setting
+pub mod TotalLaws
+pub mod Totals

@@ -1,5 +1,5 @@
--- The five lists of a table, and what is read of them.
-use Rattle.std.specs.Prelude.{ℕ, zero, suc, ◌+◌, ◌-◌, ◌*◌, ◌/◌, max, ℤ, pos, negsuc, neg_ℤ, unsigned_abs, Bool, ◌==◌, if◌then◌else◌, List, [], ◌∷◌, length, drop, slice_index_or}
+-- The six lists of a table, and what is read of them.
+use Rattle.std.specs.Prelude.{ℕ, zero, suc, ◌+◌, ◌-◌, ◌*◌, ◌/◌, max, ℤ, pos, negsuc, neg_ℤ, unsigned_abs, Bool, not, ◌==◌, if◌then◌else◌, List, [], ◌∷◌, length, drop, slice_index_or}
 use Rattle.std.specs.Int.{int_max, int_min}
 use Rattle.sim_game.specs.declared.Side.{Side}
 use Rattle.sim_game.specs.declared.Side.TheVariants.{One, Two}
@@ -18,9 +18,11 @@ pub record Lists : Type 0 where
   pub cells : List ℤ
   -- of each draw the state and the weight
   pub draws : List ℤ
+  -- of each draw what One gets by it; no numbers where no turn pays
+  pub rewards : List ℤ
 
-abbrev pub lists_from : List ℤ → List ℤ → List ℤ → List ℤ → List ℤ → Lists
-lists_from ranks moves values cells draws = record { ranks = ranks; moves = moves; values = values; cells = cells; draws = draws }
+abbrev pub lists_from : List ℤ → List ℤ → List ℤ → List ℤ → List ℤ → List ℤ → Lists
+lists_from ranks moves values cells draws rewards = record { ranks = ranks; moves = moves; values = values; cells = cells; draws = draws; rewards = rewards }
 
 -- a number of a list of which no number is below 0
 abbrev pub count_in : List ℤ → ℕ → ℕ
@@ -78,6 +80,11 @@ abbrev pub draw_weight : List ℤ → ℤ → ℕ → ℕ
 draw_weight draws (pos state) d = whole_chance
 draw_weight draws (negsuc first) d = count_in draws (2 * (first + d) + 1)
 
+-- the reward of a draw of a cell
+abbrev pub draw_reward : List ℤ → ℤ → ℕ → ℤ
+draw_reward rewards (pos state) d = pos 0
+draw_reward rewards (negsuc first) d = slice_index_or rewards (first + d) (pos 0)
+
 -- the same of the cell at a place of the list
 abbrev pub table_cell : Lists → ℕ → ℤ
 table_cell l place = slice_index_or l.cells place (pos 0)
@@ -94,6 +101,9 @@ table_state l place d = draw_state l.draws (table_cell l place) d
 abbrev pub table_weight : Lists → ℕ → ℕ → ℕ
 table_weight l place d = draw_weight l.draws (table_cell l place) d
 
+abbrev pub table_reward : Lists → ℕ → ℕ → ℤ
+table_reward l place d = draw_reward l.rewards (table_cell l place) d
+
 -- ---- ranks
 -- the greatest rank of the states that a cell names
 abbrev pub cell_rank : Lists → ℕ → ℕ
@@ -104,6 +114,10 @@ abbrev pub next_rank : Lists → ℕ → ℕ
 next_rank l s = highest_below (cells_of l s) (λ k. cell_rank l (place_at l s k))
 
 -- ---- the whole list
+-- turns pay
+abbrev pub has_rewards : Lists → Bool
+has_rewards l = not (length l.rewards == 0)
+
 -- the least payoff among the ends of the first states, and 4000
 abbrev pub least_of : Lists → ℕ → ℤ
 least_of l zero = pos 4000
@@ -113,12 +127,6 @@ least_of l (suc s) = if table_rank l s == 0 then int_min (least_of l s) (table_v
 abbrev pub greatest_of : Lists → ℕ → ℤ
 greatest_of l zero = neg_ℤ (pos 4000)
 greatest_of l (suc s) = if table_rank l s == 0 then int_max (greatest_of l s) (table_value l s) else greatest_of l s
-
-abbrev pub table_low : Lists → ℤ
-table_low l = least_of l (state_count l)
-
-abbrev pub table_high : Lists → ℤ
-table_high l = greatest_of l (state_count l)
 
 -- the greatest number of moves, at least 1
 abbrev pub table_width : Lists → ℕ

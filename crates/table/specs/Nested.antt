@@ -1,9 +1,10 @@
 -- A table as a position tells it: states, whose cells name states by their numbers.
-use Rattle.std.specs.Prelude.{ℕ, suc, ◌+◌, ◌-◌, ◌==◌, nat_le, max, ℤ, pos, negsuc, neg_ℤ, int_le, Bool, ◌&&◌, if◌then◌else◌, List, [], ◌∷◌, length, map, sum, slice_index, slice_index_or}
+use Rattle.std.specs.Prelude.{ℕ, suc, ◌+◌, ◌-◌, ◌==◌, nat_le, max, ℤ, pos, negsuc, neg_ℤ, int_le, Bool, not, ◌&&◌, if◌then◌else◌, List, [], ◌∷◌, length, map, sum, slice_index, slice_index_or}
 use Rattle.std.specs.List.{flat_map, list_all}
 use Rattle.table.specs.Lists.{Lists}
 
--- the state that follows for certain, or draws: each is a list of numbers, first the state, then its weight
+-- the state that follows for certain, or draws: each is a list of numbers, first the state, then its weight, then the
+-- reward, where it has one
 pub data CellForm : Type 0 where
   Follows : ℤ → CellForm
   Draws : List (List ℤ) → CellForm
@@ -20,8 +21,17 @@ is_within low high z = int_le low z && int_le z high
 abbrev pub names_state : ℤ → Bool
 names_state z = is_within (pos 0) (pos 1048575) z
 
+abbrev pub is_reward : ℤ → Bool
+is_reward z = is_within (neg_ℤ (pos 1000000)) (pos 1000000) z
+
+-- the reward of a draw, and 0 where it has none
+abbrev pub reward_told : List ℤ → ℤ
+reward_told draw = slice_index_or draw 2 (pos 0)
+
 abbrev pub draw_in_range : List ℤ → Bool
-draw_in_range draw = (length draw == 2) && list_all names_state draw
+draw_in_range draw =
+    nat_le 2 (length draw) && nat_le (length draw) 3
+    && (names_state (slice_index_or draw 0 (pos 0)) && names_state (slice_index_or draw 1 (pos 0)) && is_reward (reward_told draw))
 
 abbrev pub cell_in_range : CellForm → Bool
 cell_in_range (Follows state) = names_state state
@@ -81,9 +91,25 @@ cells_told draws [] = []
 cells_told draws (Follows state ∷ cells) = state ∷ cells_told draws cells
 cells_told draws (Draws more ∷ cells) = negsuc draws ∷ cells_told (draws + length more) cells
 
--- the numbers of the draws of a cell
+-- the state and the weight of a draw
+abbrev pub draw_told : List ℤ → List ℤ
+draw_told draw = slice_index_or draw 0 (pos 0) ∷ slice_index_or draw 1 (pos 0) ∷ []
+
+-- the states and the weights of the draws of a cell
 abbrev pub draws_told : CellForm → List ℤ
-draws_told cell = flat_map (λ (draw : List ℤ). draw) (draws_of_form cell)
+draws_told cell = flat_map draw_told (draws_of_form cell)
+
+-- the draws of the cells that are kept
+abbrev pub kept_draws : List StateForm → List (List ℤ)
+kept_draws forms = flat_map draws_of_form (flat_map kept_cells forms)
+
+-- some of them has a reward
+abbrev pub has_paid_draw : List StateForm → Bool
+has_paid_draw forms = not (list_all (λ (draw : List ℤ). length draw == 2) (kept_draws forms))
+
+-- their rewards; no numbers where none of them has one
+abbrev pub rewards_told : List StateForm → List ℤ
+rewards_told forms = if has_paid_draw forms then map reward_told (kept_draws forms) else []
 
 -- ---- ranks
 -- the states that the cell names
@@ -118,4 +144,5 @@ lists_of_states forms = record {
   values = values_told 0 forms;
   cells = cells_told 0 (flat_map kept_cells forms);
   draws = flat_map draws_told (flat_map kept_cells forms);
+  rewards = rewards_told forms;
 }

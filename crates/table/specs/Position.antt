@@ -1,11 +1,13 @@
 -- Which lists make a table that can be played.
-use Rattle.std.specs.Prelude.{◌≡◌, ℕ, ◌+◌, ◌*◌, ◌<◌, ◌≤◌, ◌^◌, pos, neg_ℤ, ◌≤ℤ◌, length}
+use Rattle.std.specs.Prelude.{◌≡◌, ℕ, ◌+◌, ◌*◌, ◌<◌, ◌≤◌, ◌^◌, pos, neg_ℤ, ◌≤ℤ◌, true, length}
 use Rattle.sums.specs.Sums.{count_below}
 use Rattle.sim_game.specs.declared.Side.{Side}
+use Rattle.sim_game.specs.declared.Side.TheVariants.{One, Two}
 use Rattle.sim_game.specs.Model.{whole_chance}
-use Rattle.table.specs.Lists.{Lists, state_count, table_rank, table_moves, table_value, cells_of, place_at, draw_total, draws_end, first_draw, table_cell, end_at, draws_at, table_state, table_weight, next_rank}
+use Rattle.table.specs.Lists.{Lists, state_count, table_rank, table_moves, table_value, cells_of, place_at, draw_total, draws_end, first_draw, table_cell, end_at, draws_at, table_state, table_weight, next_rank, has_rewards}
+use Rattle.table.specs.Totals.{state_total}
 
--- the five lists fit each other
+-- the six lists fit each other
 pub record AreFitting (l : Lists) : Type 0 where
   pub moves_count : length l.moves ≡ 2 * state_count l
   pub values_count : length l.values ≡ state_count l
@@ -29,7 +31,7 @@ pub record IsTableCell (l : Lists) (s place : ℕ) : Type 0 where
   pub there : (d : ℕ) → d < draws_at l place → table_state l place d < state_count l
   pub falls : (d : ℕ) → d < draws_at l place → table_rank l (table_state l place d) < table_rank l s
 
--- the table can be played
+-- the table keeps all rules but the last
 pub record IsTable (l : Lists) : Type 0 where
   pub some : 1 ≤ state_count l
   pub few : state_count l < 2 ^ 31
@@ -43,3 +45,7 @@ pub record IsTable (l : Lists) : Type 0 where
   pub rank_high : (s : ℕ) → s < state_count l → table_rank l s ≤ 31
   -- a rank is 1 more than the greatest that can follow
   pub longest : (s : ℕ) → s < state_count l → 1 ≤ table_rank l s → table_rank l s ≡ next_rank l s + 1
+
+-- and the last: where turns pay, the sums from each state on are small
+abbrev pub AreSmallTotals : Lists → Type 0
+AreSmallTotals l = has_rewards l ≡ true → (s : ℕ) → s < state_count l → (neg_ℤ (pos 4000) ≤ℤ state_total l One s) × (state_total l Two s ≤ℤ pos 4000)

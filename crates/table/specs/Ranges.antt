@@ -1,4 +1,4 @@
--- The ranges that the five lists of a position keep.
+-- The ranges that the six lists of a position keep.
 use Rattle.std.specs.Prelude.{ℕ, ◌≤◌, ℤ, pos, neg_ℤ, ◌≤ℤ◌, List, length, All}
 use Rattle.table.specs.Lists.{Lists}
 
@@ -13,3 +13,4 @@ pub record AreListsInRange (l : Lists) : Type 0 where
   pub values : AreWithin (neg_ℤ (pos 1000000)) (pos 1000000) 524288 l.values
   pub cells : AreWithin (neg_ℤ (pos 1048576)) (pos 1048575) 524288 l.cells
   pub draws : AreWithin (pos 0) (pos 1048575) 524288 l.draws
+  pub rewards : AreWithin (neg_ℤ (pos 1000000)) (pos 1000000) 262144 l.rewards

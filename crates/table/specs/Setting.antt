@@ -6,7 +6,7 @@ use Rattle.table.specs.declared.setting.Cell.TheVariants as cells
 use Rattle.table.specs.Lists.{Lists, lists_from, draw_total}
 
 abbrev pub lists_of : Setting → Lists
-lists_of setting = lists_from setting.ranks.now setting.moves.now setting.values.now setting.cells.now setting.draws.now
+lists_of setting = lists_from setting.ranks.now setting.moves.now setting.values.now setting.cells.now setting.draws.now setting.rewards.now
 
 -- the number that stands for a cell
 abbrev pub cell_number : Cell → ℤ
@@ -14,8 +14,8 @@ cell_number (cells.State state) = pos state
 cell_number (cells.Draws first) = negsuc first
 
 -- the setting holds these lists
-abbrev pub IsSettingOf : List ℤ → List ℤ → List ℤ → List ℤ → List ℤ → Setting → Type 0
-IsSettingOf ranks moves values cells draws setting = lists_of setting ≡ lists_from ranks moves values cells draws
+abbrev pub IsSettingOf : List ℤ → List ℤ → List ℤ → List ℤ → List ℤ → List ℤ → Setting → Type 0
+IsSettingOf ranks moves values cells draws rewards setting = lists_of setting ≡ lists_from ranks moves values cells draws rewards
 
 -- where the cell has draws, the list has one of this number behind the first
 abbrev pub HasDraw : Lists → ℤ → ℕ → Type 0

@@ -1,8 +1,8 @@
-//! Whether the five lists fit each other.
+//! Whether the six lists fit each other.
 
 ghost use Rattle.std.specs.Prelude.{◌≡◌, ◌+◌, ◌<◌, ◌^◌, length, true};
 ghost use Rattle.sums.specs.Sums.{count_below};
-ghost use Rattle.table.specs.Faults.{do_draws_fit, do_fit, do_states_fit, have_counts, state_fits};
+ghost use Rattle.table.specs.Faults.{are_rewards, do_draws_fit, do_fit, do_states_fit, have_counts, state_fits};
 ghost use Rattle.table.specs.Lists.{cells_of, state_count};
 ghost use Rattle.table.specs.Setting.{lists_of};
 
@@ -17,13 +17,22 @@ impl Setting<'_> {
         self.have_counts() && self.do_states_fit() && self.do_draws_fit()
     }
 
-    /// Whether the lists have as many numbers as there are states, or twice as many, and the draws are pairs.
+    /// Whether there are no rewards, or one for each draw.
+    fn are_rewards(&self) -> bool
+        ensures { result ≡ are_rewards (lists_of self.now) }
+    {
+        self.rewards.is_empty() || 2 * self.rewards.len() == self.draws.len()
+    }
+
+    /// Whether the lists have as many numbers as there are states, or twice as many, the draws are pairs, and the
+    /// rewards as many as the draws.
     fn have_counts(&self) -> bool
         ensures { result ≡ have_counts (lists_of self.now) }
     {
         self.moves.len() == 2 * self.ranks.len()
             && self.values.len() == self.ranks.len()
             && self.draws.len() % 2 == 0
+            && self.are_rewards()
     }
 
     /// How many cells a state has.

@@ -1,15 +1,16 @@
 //! Tables: any finite game, handed in state by state.
 #![tactic(auto)]
 
-ghost use Rattle.std.specs.Prelude.{◌≡◌, ℕ, ◌<◌, ◌^◌, length, MatchResult, None, Some};
+ghost use Rattle.std.specs.Prelude.{◌≡◌, ℕ, ◌<◌, ◌^◌, length, true, MatchResult, None, Some};
 ghost use Rattle.sim_game.specs.declared.Side.TheVariants.{One, Two};
 ghost use Rattle.table.specs.Draws.{AreDraws};
-ghost use Rattle.table.specs.Faults.{first_fault};
+ghost use Rattle.table.specs.Faults.{first_fault, HasTotals};
 ghost use Rattle.table.specs.Setting.{cell_number, lists_of, IsSettingOf};
 ghost use Rattle.table.specs.Laws.{table_is_game};
-ghost use Rattle.table.specs.Lists.{table_cell, table_high, is_chance_free, lists_from, table_low, table_moves, state_count, table_width};
-ghost use Rattle.table.specs.Position.{IsTable};
+ghost use Rattle.table.specs.Lists.{table_cell, has_rewards, is_chance_free, lists_from, table_moves, state_count, table_width};
+ghost use Rattle.table.specs.Position.{AreSmallTotals, IsTable};
 ghost use Rattle.table.specs.Rules.{place_of, table_game, KeepsRules};
+ghost use Rattle.table.specs.Totals.{table_bound, table_range, AreStateTotals};
 
 mod fits;
 mod lists;
@@ -17,16 +18,19 @@ mod nested;
 mod refusals;
 mod rules;
 mod setting;
+mod state_totals;
 mod summary;
 
 pub use nested::{
     states_fit, states_have_longest_ways, states_have_one_game, states_have_short_lists,
 };
 pub use refusals::position_has_one_game;
-use rules::{CellRule, Fitting, Rule};
+use rules::Shaped;
 use setting::Cell;
 pub use setting::Setting;
 use sim_game::{CHANCE, Game, Side};
+use state_totals::total_in;
+pub use state_totals::totals;
 use thiserror::Error;
 
 /// A state, by its number.
@@ -39,13 +43,16 @@ pub struct State {
 #[derive(Clone, Copy, PartialEq, Eq, Debug)]
 pub struct Table<'a> {
     pub setting: Setting<'a>,
+    totals: &'a [i32],
     low: i32,
     high: i32,
     width: u32,
     chance_free: bool,
     ghost valid: { IsTable (lists_of setting) },
-    ghost low_is: { low ≡ table_low (lists_of setting) },
-    ghost high_is: { high ≡ table_high (lists_of setting) },
+    ghost small: { AreSmallTotals (lists_of setting) },
+    ghost totals_are: { has_rewards (lists_of setting) ≡ true → AreStateTotals (lists_of setting) totals.now },
+    ghost low_is: { low ≡ table_range (lists_of setting) One },
+    ghost high_is: { high ≡ table_range (lists_of setting) Two },
     ghost width_is: { width ≡ table_width (lists_of setting) },
     ghost chance_free_is: { chance_free ≡ is_chance_free (lists_of setting) },
 }
@@ -71,27 +78,34 @@ pub enum TableError {
     Order { state: u32, row: u32, cell: u32 },
     #[error("the longest way from the state {state} takes more than 31 turns, or not as many as told")]
     Turns { state: u32 },
+    #[error("what can be got from the state {state} on is not -4000 to 4000")]
+    Total { state: u32 },
 }
 
 impl<'a> Table<'a> {
     /// The table of these lists. An error names the first rule that is broken: the lists fit each other; there is a
     /// state; payoffs of ends are -4000 to 4000; a state that is no end has 1 to 32 rows, and 1 to 32 cells in each; a
     /// cell has 1 to 13 draws, whose weights are at least 1 and sum to 360360, and whose states stand behind the
-    /// cell's own; ranks are those of the longest ways, and at most 31.
+    /// cell's own; ranks are those of the longest ways, and at most 31; and where turns pay, all that can be got from a
+    /// state on is -4000 to 4000. `totals` are those that the function of this name makes of the lists.
     pub fn new(
         ranks: &'a [i32],
         moves: &'a [i32],
         values: &'a [i32],
         cells: &'a [i32],
         draws: &'a [i32],
+        rewards: &'a [i32],
+        totals: &'a [i32],
     ) -> Result<Table<'a>, TableError>
         requires ranks { length ranks.now < 2 ^ 31 }
         requires cells { length cells.now < 2 ^ 31 }
         requires draws { length draws.now < 2 ^ 31 }
-        ensures { let l = lists_from ranks.now moves.now values.now cells.now draws.now in
+        requires totals { HasTotals (lists_from ranks.now moves.now values.now cells.now draws.now rewards.now)
+            totals.now }
+        ensures { let l = lists_from ranks.now moves.now values.now cells.now draws.now rewards.now in
             MatchResult result
             (λ table. (first_fault l ≡ None)
-            × IsSettingOf ranks.now moves.now values.now cells.now draws.now table.setting)
+            × IsSettingOf ranks.now moves.now values.now cells.now draws.now rewards.now table.setting)
             (λ fault. first_fault l ≡ Some fault) }
     {
         let setting = Setting {
@@ -100,28 +114,26 @@ impl<'a> Table<'a> {
             values,
             cells,
             draws,
+            rewards,
         };
-        if !setting.do_fit() {
-            return Err(TableError::Lists);
+        let shaped = Shaped::new(setting)?;
+        let table = shaped.table(totals)?;
+        Ok(table)
+    }
+
+    /// The least sum that One can still get from a state on for One, the greatest for Two.
+    #[inline]
+    fn bound(&self, side: Side, s: u32) -> i32
+        requires { s < state_count (lists_of self.now.setting) }
+        ensures { result ≡ table_bound (lists_of self.now.setting) side s }
+    {
+        if !self.setting.rewards.is_empty() {
+            return total_in(self.totals, side, s);
         }
-        if ranks.is_empty() {
-            return Err(TableError::NoStates);
+        match side {
+            Side::One => self.low,
+            Side::Two => self.high,
         }
-        let lists = Fitting { setting };
-        lists.check(Rule::Payoff)?;
-        lists.check(Rule::Rows)?;
-        lists.check(Rule::Cells)?;
-        lists.check(Rule::Each(CellRule::Draws))?;
-        lists.check(Rule::Each(CellRule::Weights))?;
-        lists.check(Rule::Each(CellRule::Order))?;
-        lists.check(Rule::Turns)?;
-        Ok(Table {
-            setting,
-            low: lists.low(),
-            high: lists.high(),
-            width: lists.width(),
-            chance_free: lists.is_chance_free(),
-        })
     }
 
     /// The cell of two moves at a state.
@@ -176,6 +188,21 @@ impl Game for Table<'_> {
     #[inline]
     fn payoff(&self, s: State) -> i32 {
         self.setting.value(s.number)
+    }
+
+    #[inline]
+    fn reward(&self, s: State, a: u32, b: u32, d: u32) -> i32 {
+        self.setting.reward(self.cell(s.number, a, b), d)
+    }
+
+    #[inline]
+    fn least(&self, s: State) -> i32 {
+        self.bound(Side::One, s.number)
+    }
+
+    #[inline]
+    fn most(&self, s: State) -> i32 {
+        self.bound(Side::Two, s.number)
     }
 
     #[inline]
@@ -235,7 +262,7 @@ impl Game for Table<'_> {
         State { number }
     }
 
-    ghost lawful = { λ game. table_is_game (lists_of game.setting) game.valid };
+    ghost lawful = { λ game. table_is_game (lists_of game.setting) game.valid game.small };
 }
 
 /// What a state tells of the turns that follow it holds.

@@ -1,7 +1,7 @@
-//! What is read of the five lists of a table.
+//! What is read of the six lists of a table.
 
 ghost use Rattle.std.specs.Prelude.{◌≡◌, ◌+◌, ◌*◌, ◌<◌, ◌≤◌, drop, length};
-ghost use Rattle.table.specs.Lists.{count_in, draw_state, draw_total, draw_weight, draws_end, state_count, table_cell, table_moves, table_rank, table_value};
+ghost use Rattle.table.specs.Lists.{count_in, draw_reward, draw_state, draw_total, draw_weight, draws_end, state_count, table_cell, table_moves, table_rank, table_value};
 ghost use Rattle.table.specs.Setting.{cell_number, lists_of, HasDraw};
 
 use crate::setting::{Cell, Setting};
@@ -120,6 +120,20 @@ impl Setting<'_> {
         match cell {
             Cell::State(_) => CHANCE,
             Cell::Draws(first) => count_in(self.draws, self.draw_place(first, d) + 1),
+        }
+    }
+
+    /// The reward of a draw of a cell.
+    #[inline]
+    pub(crate) fn reward(&self, cell: Cell, d: u32) -> i32
+        ensures { result ≡ draw_reward self.now.rewards.now (cell_number cell) d }
+    {
+        match cell {
+            Cell::State(_) => 0,
+            Cell::Draws(first) => {
+                let place = first as usize + d as usize;
+                self.rewards.get(place).copied().unwrap_or(0)
+            }
         }
     }
 }

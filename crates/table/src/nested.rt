@@ -1,4 +1,4 @@
-//! Laws on the nested form of a position's states, from which the five lists are made.
+//! Laws on the nested form of a position's states, from which the six lists are made.
 
 ghost use Rattle.std.specs.Prelude.{◌≡◌, List, None, true};
 ghost use Rattle.table.specs.Faults.{do_fit, first_fault, AreOrdered};
@@ -18,8 +18,8 @@ pub fn states_fit()
     ensures { (forms : List StateForm) → are_in_range forms ≡ true → do_fit (lists_of_states forms) ≡ true }
 {}
 
-/// The game of the lists is the one that the states tell: its moves, draws, chances, next states, payoffs and their
-/// range.
+/// The game of the lists is the one that the states tell: its moves, draws, chances, next states, rewards, payoffs, and
+/// what can still be got.
 pub fn states_have_one_game()
     ensures { (forms : List StateForm) → are_in_range forms ≡ true → first_fault (lists_of_states forms) ≡ None
         → IsNestedGame forms (table_game (lists_of_states forms)) }

@@ -26,7 +26,7 @@ fn tell_place(
 }
 
 impl TableError {
-    /// The number of the refusal, 81 to 89.
+    /// The number of the refusal, 81 to 90.
     pub fn number(&self) -> u32
         ensures { result ≡ number_of self.now }
     {
@@ -40,6 +40,7 @@ impl TableError {
             TableError::Weights { .. } => 87,
             TableError::Order { .. } => 88,
             TableError::Turns { .. } => 89,
+            TableError::Total { .. } => 90,
         }
     }
 
@@ -61,13 +62,14 @@ impl TableError {
             }
             TableError::Order { state, row, cell } => tell_place(text, b"order ", state, row, cell),
             TableError::Turns { state } => text.word_number(b"turns ", state),
+            TableError::Total { state } => text.word_number(b"total ", state),
         }
     }
 }
 
 /// The same lists give the same game.
 pub fn position_has_one_game()
-    ensures { (ranks moves values cells draws : List ℤ) (g h : Setting)
-        → IsSettingOf ranks moves values cells draws g → IsSettingOf ranks moves values cells draws h
+    ensures { (ranks moves values cells draws rewards : List ℤ) (g h : Setting)
+        → IsSettingOf ranks moves values cells draws rewards g → IsSettingOf ranks moves values cells draws rewards h
         → lists_of g ≡ lists_of h }
 {}

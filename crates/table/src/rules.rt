@@ -1,10 +1,10 @@
 //! The rules that lists which fit each other keep, tried one by one.
 
 ghost use Rattle.std.specs.Prelude.{◌≡◌, ℕ, ◌<◌, ◌≤◌, length, MatchResult, None, Some};
-ghost use Rattle.table.specs.Faults.{are_moves, are_weights, cell_error, cell_fault, fault_at, is_payoff, is_rank, keeps, leads_on, rule_fault, AreOrdered};
+ghost use Rattle.table.specs.Faults.{are_moves, are_weights, cell_error, cell_fault, fault_at, is_payoff, is_rank, keeps, leads_on, rule_fault, shape_fault, AreOrdered};
 ghost use Rattle.table.specs.Setting.{lists_of};
 ghost use Rattle.table.specs.Lists.{cell_rank, cells_of, draws_at, next_rank, place_at, table_rank, table_state, state_count};
-ghost use Rattle.table.specs.Position.{AreFitting};
+ghost use Rattle.table.specs.Position.{AreFitting, IsTable};
 
 use crate::TableError;
 use crate::setting::{Cell, Setting};
@@ -136,7 +136,7 @@ impl Fitting<'_> {
     }
 
     /// How many cells a state has, and the place of the first.
-    fn cells_of(&self, s: u32) -> (u32, usize)
+    pub(crate) fn cells_of(&self, s: u32) -> (u32, usize)
         requires here { s < state_count (lists_of self.now.setting) }
         requires inner { 1 ≤ table_rank (lists_of self.now.setting) s }
         ensures count { result.0 ≡ cells_of (lists_of self.now.setting) s }
@@ -225,5 +225,46 @@ impl Fitting<'_> {
             }
         }
         Ok(())
+    }
+}
+
+/// Lists that keep all rules but the last.
+#[derive(Clone, Copy)]
+pub(crate) struct Shaped<'a> {
+    pub(crate) setting: Setting<'a>,
+    ghost valid: { IsTable (lists_of setting) },
+}
+
+impl<'a> Shaped<'a> {
+    /// The lists, where they keep all rules but the last, else the first that is broken.
+    pub(crate) fn new(setting: Setting<'a>) -> Result<Shaped<'a>, TableError>
+        ensures { MatchResult result
+            (λ shaped. (shape_fault (lists_of setting.entry) ≡ None) × (shaped.setting ≡ setting.entry))
+            (λ fault. shape_fault (lists_of setting.entry) ≡ Some fault) }
+    {
+        if !setting.do_fit() {
+            return Err(TableError::Lists);
+        }
+        if setting.ranks.is_empty() {
+            return Err(TableError::NoStates);
+        }
+        let lists = Fitting { setting };
+        lists.check(Rule::Payoff)?;
+        lists.check(Rule::Rows)?;
+        lists.check(Rule::Cells)?;
+        lists.check(Rule::Each(CellRule::Draws))?;
+        lists.check(Rule::Each(CellRule::Weights))?;
+        lists.check(Rule::Each(CellRule::Order))?;
+        lists.check(Rule::Turns)?;
+        Ok(Shaped { setting })
+    }
+
+    /// The same lists, which fit each other.
+    pub(crate) fn fitting(&self) -> Fitting<'a>
+        ensures { result.setting ≡ self.now.setting }
+    {
+        Fitting {
+            setting: self.setting,
+        }
     }
 }

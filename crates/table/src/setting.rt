@@ -1,8 +1,8 @@
-//! The five lists of a table, and a cell.
+//! The six lists of a table, and a cell.
 
 ghost use Rattle.std.specs.Prelude.{◌<◌, ◌^◌, length};
 
-/// What a position holds, in five lists; everything is numbered from 0. No number of `ranks`, `moves` and `draws` of a
+/// What a position holds, in six lists; everything is numbered from 0. No number of `ranks`, `moves` and `draws` of a
 /// position is below 0: they are read without their sign.
 #[derive(Clone, Copy, PartialEq, Eq, Debug)]
 pub struct Setting<'a> {
@@ -17,6 +17,8 @@ pub struct Setting<'a> {
     pub cells: &'a [i32],
     /// Of each draw the state and the weight.
     pub draws: &'a [i32],
+    /// Of each draw what One gets by it; empty where no turn pays.
+    pub rewards: &'a [i32],
     ghost few_states: { length ranks.now < 2 ^ 31 },
     ghost few_cells: { length cells.now < 2 ^ 31 },
     ghost few_draws: { length draws.now < 2 ^ 31 },

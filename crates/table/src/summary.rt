@@ -1,15 +1,18 @@
-//! What is known of all states: the range of payoffs, the width, and whether there is chance.
+//! What is known of all states: the range of what can be got, the width, and whether there is chance.
 
 ghost use Rattle.std.specs.Prelude.{◌≡◌};
 ghost use Rattle.table.specs.Setting.{lists_of};
-ghost use Rattle.table.specs.Lists.{table_high, is_chance_free, table_low, table_width};
+ghost use Rattle.sim_game.specs.declared.Side.TheVariants.{One, Two};
+ghost use Rattle.table.specs.Lists.{is_chance_free, table_width};
+ghost use Rattle.table.specs.Totals.{worst_payoff};
 
 use crate::rules::Fitting;
+use sim_game::Side;
 
 impl Fitting<'_> {
     /// The least payoff.
-    pub(crate) fn low(&self) -> i32
-        ensures { result ≡ table_low (lists_of self.now.setting) }
+    fn least_payoff(&self) -> i32
+        ensures { result ≡ worst_payoff (lists_of self.now.setting) One }
     {
         let mut low = 4000;
         for s in 0..self.setting.ranks.len() as u32 {
@@ -21,8 +24,8 @@ impl Fitting<'_> {
     }
 
     /// The greatest payoff.
-    pub(crate) fn high(&self) -> i32
-        ensures { result ≡ table_high (lists_of self.now.setting) }
+    fn greatest_payoff(&self) -> i32
+        ensures { result ≡ worst_payoff (lists_of self.now.setting) Two }
     {
         let mut high = -4000;
         for s in 0..self.setting.ranks.len() as u32 {
@@ -31,6 +34,16 @@ impl Fitting<'_> {
             }
         }
         high
+    }
+
+    /// The least payoff for One, the greatest for Two.
+    pub(crate) fn worst_payoff(&self, side: Side) -> i32
+        ensures { result ≡ worst_payoff (lists_of self.now.setting) side }
+    {
+        match side {
+            Side::One => self.least_payoff(),
+            Side::Two => self.greatest_payoff(),
+        }
     }
 
     /// The greatest number of moves, at least 1.

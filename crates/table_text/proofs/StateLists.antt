@@ -1,21 +1,25 @@
 -- Lists that grow at their end, as cells and states are told.
-use Rattle.std.proofs.Common.{◌≡◌, ℕ, ℤ, pos, negsuc, ◌+◌, ◌<◌, ◌≤◌, ◌≤ℤ◌, List, [], ◌∷◌, ◌++◌, Bool, true, false, cond, ◌&&◌, map, length, take, drop, get_or, refl, ap, sym, ◌∙◌, subst, arith, zero-add, leb, eqb, suc, int_le, append_assoc, ◌⊎◌, inl, inr}
+use Rattle.std.proofs.Common.{◌≡◌, ℕ, ℤ, pos, negsuc, neg_ℤ, ◌+◌, ◌<◌, ◌≤◌, ◌≤ℤ◌, List, [], ◌∷◌, ◌++◌, Bool, true, false, cond, ◌&&◌, map, length, take, drop, get_or, refl, ap, sym, ◌∙◌, subst, arith, zero-add, leb, eqb, suc, int_le, append_assoc, ◌⊎◌, inl, inr}
 use Rattle.std.specs.List.{flat_map, list_all}
 use Rattle.std.proofs.lemmas.Bool.{cond_both, and_parts, leb-true, eq-eqb}
 use Rattle.std.proofs.lemmas.Float.{T_from_true}
 use Rattle.std.proofs.lemmas.Grind.{flat_map-append}
-use Rattle.std.proofs.lemmas.List.{append-nil, flat_map_more, length-map, length-append, take_more, map_more, take-append-drop, take_all}
-use Rattle.std.proofs.lemmas.List.Concat.{flat_map_single}
-use Rattle.std.proofs.lemmas.List.Folds.{flat_map-map, list_all-map, length-flat_map-take}
-use Rattle.std.proofs.lemmas.List.Sums.{AllPass-from_list_all}
+use Rattle.std.proofs.Math.Bool.{and_assoc, and-true}
+use Rattle.std.proofs.lemmas.Int.{ints}
+use Rattle.std.proofs.lemmas.List.{append-nil, flat_map_more, get_or-map, get_or_past, map-append, length-map, length-append, take_more, map_more, take-append-drop, take_all}
+use Rattle.std.proofs.lemmas.List.Concat.{flat_map_single, length-flat_map}
+use Rattle.std.proofs.lemmas.List.Folds.{flat_map-map, list_all-append, list_all-map, length-flat_map-take}
+use Rattle.std.proofs.lemmas.List.Sums.{AllPass-from_list_all, sum-map}
 use Rattle.serde_json.specs.Data.{Data}
 use Rattle.serde_json.specs.View.{view}
 use Rattle.serde_json.specs.declared.value.Value.{Value}
-use Rattle.table.specs.Nested.{CellForm, Follows, Draws, StateForm, End, Rows, is_within, cell_in_range, row_in_range, state_in_range, draws_of_form, draw_count_of, cells_told, draws_told, values_told, moves_told, kept_cells, given_cells, are_in_range, columns_in}
+use Rattle.table.specs.Nested.{CellForm, Follows, Draws, StateForm, End, Rows, is_within, is_reward, names_state, cell_in_range, row_in_range, state_in_range, draws_of_form, draw_count_of, draw_in_range, cells_told, draw_told, reward_told, kept_draws, values_told, moves_told, kept_cells, given_cells, are_in_range, columns_in}
+use Rattle.table.proofs.FormLemmas.{draw_parts}
+use Rattle.table_text.specs.declared.lists.DrawLists.{DrawLists}
 use Rattle.table_text.specs.declared.lists.Cells.{Cells}
 use Rattle.table_text.specs.declared.lists.Lists.{Lists}
 use Rattle.table_text.specs.Elements.{is_whole}
-use Rattle.table_text.specs.States.{elements_of, whole_of, draw_form_of, cell_form_of, row_form_of, state_form_of, AddsCells, AddsState, AreListsOf}
+use Rattle.table_text.specs.States.{elements_of, whole_of, draw_form_of, cell_form_of, row_form_of, state_form_of, are_unpaid, AreDrawsOf, AddsDraws, AddsCells, AddsState, AreListsOf}
 use Rattle.table_text.proofs.StateKinds.{all_elements, few_forms, state_list}
 use Rattle.table_text.proofs.StateCounts.{draw_count_append, map-map, whole_has_none}
 
@@ -35,6 +39,46 @@ values_pass count test form vs d is h = (and_parts (count (length vs)) (list_all
 
 pub forms_are : {F : Type 0} (form : Data → F) (vs : List Value) (d : Data) → map view vs ≡ elements_of d → map (λ v. form (view v)) vs ≡ map form (elements_of d)
 forms_are form vs d is = sym (map-map form view vs) ∙ ap (map form) is
+
+-- ---- the numbers of a draw
+pub read_at : (vs : List Value) (d : Data) (i : ℕ) (v : Value) → map view vs ≡ elements_of d → i < length vs → v ≡ get_or vs i v → whole_of (view v) ≡ get_or (draw_form_of d) i (pos 0)
+read_at vs d i v is below at =
+    ap (λ (w : Value). whole_of (view w)) at ∙ sym (get_or-map (λ (w : Value). whole_of (view w)) vs i v (pos 0) below) ∙ ap (λ (zs : List ℤ). get_or zs i (pos 0)) (forms_are whole_of vs d is)
+
+pub read_past : (vs : List Value) (d : Data) (i : ℕ) → map view vs ≡ elements_of d → length vs ≤ i → pos 0 ≡ get_or (draw_form_of d) i (pos 0)
+read_past vs d i is past =
+    sym (get_or_past (map (λ (w : Value). whole_of (view w)) vs) i (pos 0) (omega (arith, length-map vs (λ (w : Value). whole_of (view w)))))
+    ∙ ap (λ (zs : List ℤ). get_or zs i (pos 0)) (forms_are whole_of vs d is)
+
+pub draw_is : (draw : List ℤ) (count numbers : Bool) → count ≡ (leb 2 (length draw) && leb (length draw) 3)
+    → numbers ≡ (names_state (get_or draw 0 (pos 0)) && names_state (get_or draw 1 (pos 0)) && is_reward (reward_told draw)) → (count && numbers) ≡ draw_in_range draw
+draw_is draw count numbers c n = rw (c, n) refl
+
+pub draw_not : (draw : List ℤ) (count : Bool) → count ≡ (leb 2 (length draw) && leb (length draw) 3) → count ≡ false → count ≡ draw_in_range draw
+draw_not draw count c f =
+    f ∙ sym (ap (λ (b : Bool). b && (names_state (get_or draw 0 (pos 0)) && names_state (get_or draw 1 (pos 0)) && is_reward (reward_told draw))) (sym c ∙ f))
+
+-- each of them is small
+pub record IsSmall (z : ℤ) : Type 0 where
+  pub low : neg_ℤ (pos 2147483648) ≤ℤ z
+  pub high : z ≤ℤ pos 2147483647
+
+small : (low high z : ℤ) → neg_ℤ (pos 2147483648) ≤ℤ low → high ≤ℤ pos 2147483647 → is_within low high z ≡ true → IsSmall z
+small low high z l h is = let both = within low high z is in record { low = omega (arith, ints, both.0); high = omega (arith, ints, both.1) }
+
+pub record IsSmallDraw (draw : List ℤ) : Type 0 where
+  pub state : IsSmall (get_or draw 0 (pos 0))
+  pub weight : IsSmall (get_or draw 1 (pos 0))
+  pub reward : IsSmall (get_or draw 2 (pos 0))
+
+pub small_draw : (draw : List ℤ) → draw_in_range draw ≡ true → IsSmallDraw draw
+small_draw draw h =
+    let parts = draw_parts draw h in
+    record {
+      state = small (pos 0) (pos 1048575) (get_or draw 0 (pos 0)) (omega (arith, ints)) (omega (arith, ints)) parts.0;
+      weight = small (pos 0) (pos 1048575) (get_or draw 1 (pos 0)) (omega (arith, ints)) (omega (arith, ints)) parts.1;
+      reward = small (neg_ℤ (pos 1000000)) (pos 1000000) (get_or draw 2 (pos 0)) (omega (arith, ints)) (omega (arith, ints)) parts.2;
+    }
 
 -- ---- one more
 pub appends_then : {X : Type 0} (a b c x y xy : List X) → b ≡ a ++ x → c ≡ b ++ y → xy ≡ x ++ y → c ≡ a ++ xy
@@ -64,6 +108,53 @@ draws_below {X} part xs i x below is =
     let front = ap draw_count_of (parts_more part xs i x below is) ∙ draw_count_append (flat_map part (take i xs)) (part x) in
     omega (arith, whole, front)
 
+-- ---- draws
+pub draws_none : (lists : DrawLists) → AddsDraws lists lists []
+draws_none lists = record {
+  numbers = sym (append-nil lists.numbers.items);
+  rewards = sym (append-nil lists.rewards.items);
+  unpaid = sym (and-true lists.unpaid);
+}
+
+unpaid_then : (old : Bool) (xs ys : List (List ℤ)) → (old && are_unpaid xs && are_unpaid ys) ≡ (old && are_unpaid (xs ++ ys))
+unpaid_then old xs ys =
+    and_assoc old (are_unpaid xs) (are_unpaid ys) ∙ ap (λ (b : Bool). old && b) (sym (list_all-append (λ (draw : List ℤ). eqb (length draw) 2) xs ys))
+
+pub draws_then : (old mid new : DrawLists) (xs ys : List (List ℤ)) → AddsDraws old mid xs → AddsDraws mid new ys → AddsDraws old new (xs ++ ys)
+draws_then old mid new xs ys first second = record {
+  numbers = appends_then old.numbers.items mid.numbers.items new.numbers.items (flat_map draw_told xs) (flat_map draw_told ys) (flat_map draw_told (xs ++ ys)) first.numbers second.numbers
+      (flat_map-append draw_told xs ys);
+  rewards = appends_then old.rewards.items mid.rewards.items new.rewards.items (map reward_told xs) (map reward_told ys) (map reward_told (xs ++ ys)) first.rewards second.rewards
+      (map-append reward_told xs ys);
+  unpaid = second.unpaid ∙ ap (λ (b : Bool). b && are_unpaid ys) first.unpaid ∙ unpaid_then old.unpaid xs ys;
+}
+
+-- one draw more of those that are read
+pub draws_more : (old mid new : DrawLists) (vs : List Value) (i : ℕ) (v : Value) → i < length vs → v ≡ get_or vs i v → AddsDraws old mid (map (λ v. draw_form_of (view v)) (take i vs))
+    → AddsDraws mid new (draw_form_of (view v) ∷ []) → AddsDraws old new (map (λ v. draw_form_of (view v)) (take (i + 1) vs))
+draws_more old mid new vs i v below is before here =
+    subst (λ (draws : List (List ℤ)). AddsDraws old new draws) (sym (map_more_read (λ (w : Value). draw_form_of (view w)) vs i v below is))
+    (draws_then old mid new (map (λ (w : Value). draw_form_of (view w)) (take i vs)) (draw_form_of (view v) ∷ []) before here)
+
+-- how many there are
+pub draws_counted : (cells : List CellForm) → draw_count_of cells ≡ length (flat_map draws_of_form cells)
+draws_counted cells = sum-map (λ (cell : CellForm). length (draws_of_form cell)) cells ∙ sym (length-flat_map draws_of_form cells)
+
+pub count_more : (old new : DrawLists) (draws : List (List ℤ)) → AddsDraws old new draws → length new.rewards.items ≡ length old.rewards.items + length draws
+count_more old new draws h =
+    ap (λ (zs : List ℤ). length zs) h.rewards ∙ length-append old.rewards.items (map reward_told draws)
+    ∙ ap (λ (n : ℕ). length old.rewards.items + n) (length-map draws reward_told)
+
+pub count_all : (lists : DrawLists) (draws : List (List ℤ)) → AreDrawsOf draws lists → length lists.rewards.items ≡ length draws
+count_all lists draws h = ap (λ (zs : List ℤ). length zs) h.rewards ∙ length-map draws reward_told
+
+pub are_draws_then : (mid new : DrawLists) (xs ys : List (List ℤ)) → AreDrawsOf xs mid → AddsDraws mid new ys → AreDrawsOf (xs ++ ys) new
+are_draws_then mid new xs ys before here = record {
+  numbers = here.numbers ∙ ap (λ (zs : List ℤ). zs ++ flat_map draw_told ys) before.numbers ∙ sym (flat_map-append draw_told xs ys);
+  rewards = here.rewards ∙ ap (λ (zs : List ℤ). zs ++ map reward_told ys) before.rewards ∙ sym (map-append reward_told xs ys);
+  unpaid = here.unpaid ∙ ap (λ (b : Bool). b && are_unpaid ys) before.unpaid ∙ sym (list_all-append (λ (draw : List ℤ). eqb (length draw) 2) xs ys);
+}
+
 -- ---- cells
 cells_told-append : (draws : ℕ) (xs ys : List CellForm) → cells_told draws (xs ++ ys) ≡ cells_told draws xs ++ cells_told (draws + draw_count_of xs) ys
 cells_told-append draws [] ys = let same : draws ≡ draws + 0 = omega arith in ap (λ (n : ℕ). cells_told n ys) same
@@ -80,20 +171,23 @@ length-cells_told draws (Follows state ∷ cells) = ap (λ (n : ℕ). suc n) (le
 length-cells_told draws (Draws more ∷ cells) = ap (λ (n : ℕ). suc n) (length-cells_told (draws + length more) cells)
 
 pub adds_none : (cells : Cells) → AddsCells cells cells []
-adds_none cells = record {
-  numbers = sym (append-nil cells.numbers.items);
-  draws = sym (append-nil cells.draws.items);
-  count = omega arith;
-}
+adds_none cells = record { numbers = sym (append-nil cells.numbers.items); draws = draws_none cells.draws }
+
+-- how many draws there are then
+pub adds_count : (old new : Cells) (cells : List CellForm) → AddsCells old new cells → length new.draws.rewards.items ≡ length old.draws.rewards.items + draw_count_of cells
+adds_count old new cells h =
+    count_more old.draws new.draws (flat_map draws_of_form cells) h.draws ∙ ap (λ (n : ℕ). length old.draws.rewards.items + n) (sym (draws_counted cells))
 
 pub adds_then : (old mid new : Cells) (xs ys : List CellForm) → AddsCells old mid xs → AddsCells mid new ys → AddsCells old new (xs ++ ys)
-adds_then old mid new xs ys first second = record {
-  numbers = appends_then old.numbers.items mid.numbers.items new.numbers.items (cells_told old.count xs) (cells_told mid.count ys) (cells_told old.count (xs ++ ys)) first.numbers second.numbers
-      (cells_told-append old.count xs ys ∙ ap (λ (n : ℕ). cells_told old.count xs ++ cells_told n ys) (sym first.count));
-  draws = appends_then old.draws.items mid.draws.items new.draws.items (flat_map draws_told xs) (flat_map draws_told ys) (flat_map draws_told (xs ++ ys)) first.draws second.draws
-      (flat_map-append draws_told xs ys);
-  count = omega (arith, first.count, second.count, draw_count_append xs ys);
-}
+adds_then old mid new xs ys first second =
+    let count = length old.draws.rewards.items in
+    record {
+      numbers = appends_then old.numbers.items mid.numbers.items new.numbers.items (cells_told count xs) (cells_told (length mid.draws.rewards.items) ys) (cells_told count (xs ++ ys))
+          first.numbers second.numbers
+          (cells_told-append count xs ys ∙ ap (λ (n : ℕ). cells_told count xs ++ cells_told n ys) (sym (adds_count old mid xs first)));
+      draws = subst (λ (draws : List (List ℤ)). AddsDraws old.draws new.draws draws) (sym (flat_map-append draws_of_form xs ys))
+          (draws_then old.draws mid.draws new.draws (flat_map draws_of_form xs) (flat_map draws_of_form ys) first.draws second.draws);
+    }
 
 pub adds_more : {X : Type 0} (part : X → List CellForm) (old mid new : Cells) (xs : List X) (i : ℕ) (x : X) → i < length xs → x ≡ get_or xs i x
     → AddsCells old mid (flat_map part (take i xs)) → AddsCells mid new (part x) → AddsCells old new (flat_map part (take (i + 1) xs))
@@ -105,8 +199,8 @@ adds_all {X} part old new xs i all h = subst (λ (ys : List X). AddsCells old ne
 
 -- room for one more
 pub room_more : {X : Type 0} (part : X → List CellForm) (most : ℕ) (old mid : Cells) (xs : List X) (i : ℕ) (x : X) → i < length xs → x ≡ get_or xs i x
-    → AddsCells old mid (flat_map part (take i xs)) → old.count + draw_count_of (flat_map part xs) ≤ most → mid.count + draw_count_of (part x) ≤ most
-room_more part most old mid xs i x below is before room = omega (arith, before.count, draws_below part xs i x below is)
+    → AddsCells old mid (flat_map part (take i xs)) → length old.draws.rewards.items + draw_count_of (flat_map part xs) ≤ most → length mid.draws.rewards.items + draw_count_of (part x) ≤ most
+room_more part most old mid xs i x below is before room = omega (arith, adds_count old mid (flat_map part (take i xs)) before, draws_below part xs i x below is)
 
 -- ---- the rows that are kept
 pub columns_are : (x : Value) (xs : List Value) (n : ℕ) → n ≡ length (row_form_of (view x))
@@ -137,11 +231,6 @@ kept_is vs d n is count =
 -- the cells of a row
 pub row_cells : (vs : List Value) (d : Data) → map view vs ≡ elements_of d → flat_map (λ v. cell_form_of (view v) ∷ []) vs ≡ row_form_of d
 row_cells vs d is = flat_map_single (λ (v : Value). cell_form_of (view v)) vs ∙ forms_are cell_form_of vs d is
-
--- the draws of a cell
-pub draws_in_cell : (vs : List Value) → flat_map (λ v. draw_form_of (view v)) vs ≡ flat_map draws_told (Draws (map (λ v. draw_form_of (view v)) vs) ∷ [])
-draws_in_cell vs =
-    sym (append-nil (flat_map (λ (draw : List ℤ). draw) (map (λ (v : Value). draw_form_of (view v)) vs)) ∙ flat_map-map (λ (draw : List ℤ). draw) (λ (v : Value). draw_form_of (view v)) vs)
 
 -- ---- the rows of a state
 pub rows_few : (rows : List (List CellForm)) → list_all row_in_range rows ≡ true → columns_in rows ≤ 255
@@ -182,21 +271,22 @@ values_told-append cells (Rows rows ∷ xs) ys =
 
 pub lists_more : (xs : List StateForm) (form : StateForm) (mid new : Lists) → AreListsOf xs mid → AddsState mid new form → AreListsOf (xs ++ form ∷ []) new
 lists_more xs form mid new before here =
-    let count = ap (λ (zs : List ℤ). length zs) before.cells ∙ length-cells_told 0 (flat_map kept_cells xs) in
-    let kept = flat_map-append kept_cells xs (form ∷ []) ∙ ap (λ (cells : List CellForm). flat_map kept_cells xs ++ cells) (append-nil (kept_cells form)) in
-    let told : draw_count_of (flat_map kept_cells xs) ≡ 0 + draw_count_of (flat_map kept_cells xs) = omega arith in
+    let old_cells = flat_map kept_cells xs in
+    let count = ap (λ (zs : List ℤ). length zs) before.cells ∙ length-cells_told 0 old_cells in
+    let kept = flat_map-append kept_cells xs (form ∷ []) ∙ ap (λ (cells : List CellForm). old_cells ++ cells) (append-nil (kept_cells form)) in
+    let told : length mid.cells.draws.rewards.items ≡ 0 + draw_count_of old_cells = omega (arith, count_all mid.cells.draws (kept_draws xs) before.draws, draws_counted old_cells) in
     record {
       moves = here.moves ∙ ap (λ (zs : List ℤ). zs ++ moves_told form) before.moves
           ∙ sym (flat_map-append moves_told xs (form ∷ []) ∙ ap (λ (zs : List ℤ). flat_map moves_told xs ++ zs) (append-nil (moves_told form)));
       values = here.values ∙ ap (λ (zs : List ℤ). zs ++ values_told (length mid.cells.numbers.items) (form ∷ [])) before.values
           ∙ ap (λ (n : ℕ). values_told 0 xs ++ values_told n (form ∷ [])) (count ∙ sym (zero-add _))
           ∙ sym (values_told-append 0 xs (form ∷ []));
-      cells = here.cells.numbers ∙ ap (λ (zs : List ℤ). zs ++ cells_told mid.cells.count (kept_cells form)) before.cells
-          ∙ ap (λ (n : ℕ). cells_told 0 (flat_map kept_cells xs) ++ cells_told n (kept_cells form)) (before.count ∙ told) ∙ sym (cells_told-append 0 (flat_map kept_cells xs) (kept_cells form))
+      cells = here.cells.numbers ∙ ap (λ (zs : List ℤ). zs ++ cells_told (length mid.cells.draws.rewards.items) (kept_cells form)) before.cells
+          ∙ ap (λ (n : ℕ). cells_told 0 old_cells ++ cells_told n (kept_cells form)) told ∙ sym (cells_told-append 0 old_cells (kept_cells form))
           ∙ ap (cells_told 0) (sym kept);
-      draws = here.cells.draws ∙ ap (λ (zs : List ℤ). zs ++ flat_map draws_told (kept_cells form)) before.draws ∙ sym (flat_map-append draws_told (flat_map kept_cells xs) (kept_cells form))
-          ∙ ap (flat_map draws_told) (sym kept);
-      count = omega (arith, here.cells.count, before.count, draw_count_append (flat_map kept_cells xs) (kept_cells form), ap draw_count_of kept);
+      draws = subst (λ (draws : List (List ℤ)). AreDrawsOf draws new.cells.draws)
+          (sym (flat_map-append draws_of_form old_cells (kept_cells form)) ∙ ap (flat_map draws_of_form) (sym kept))
+          (are_draws_then mid.cells.draws new.cells.draws (kept_draws xs) (flat_map draws_of_form (kept_cells form)) before.draws here.cells.draws);
     }
 
 pub moves_are : (vs : List Value) (d : Data) (columns : ℕ) → map view vs ≡ elements_of d → is_whole d ≡ false → columns ≡ columns_in (map (λ v. row_form_of (view v)) vs)
@@ -265,10 +355,18 @@ few_so_far vs i v lists states below before =
     )
 
 pub room_so_far : (vs : List Value) (i : ℕ) (v : Value) (lists : Lists) → AreStates vs → i < length vs → v ≡ get_or vs i v → AreListsOf (map (λ v. state_form_of (view v)) (take i vs)) lists
-    → lists.cells.count + draw_count_of (kept_cells (state_form_of (view v))) ≤ 262144
+    → length lists.cells.draws.rewards.items + draw_count_of (kept_cells (state_form_of (view v))) ≤ 262144
 room_so_far vs i v lists states below is before =
+    let forms = map (λ (v : Value). state_form_of (view v)) (take i vs) in
     let kept = flat_map-map kept_cells (λ (v : Value). state_form_of (view v)) (take i vs) in
-    omega (arith, states.draws, before.count, ap draw_count_of kept, draws_below (λ (v : Value). kept_cells (state_form_of (view v))) vs i v below is)
+    omega (
+      arith,
+      states.draws,
+      count_all lists.cells.draws (kept_draws forms) before.draws,
+      draws_counted (flat_map kept_cells forms),
+      ap draw_count_of kept,
+      draws_below (λ (v : Value). kept_cells (state_form_of (view v))) vs i v below is,
+    )
 
 pub lists_at : (vs : List Value) (i : ℕ) (v : Value) (mid new : Lists) → i < length vs → v ≡ get_or vs i v → AreListsOf (map (λ v. state_form_of (view v)) (take i vs)) mid
     → AddsState mid new (state_form_of (view v)) → AreListsOf (map (λ v. state_form_of (view v)) (take (i + 1) vs)) new

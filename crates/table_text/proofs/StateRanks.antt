@@ -1,5 +1,5 @@
 -- Ranks, from the last state to the first.
-use Rattle.std.proofs.Common.{◌≡◌, ℕ, ℤ, pos, negsuc, zero, suc, ◌+◌, ◌-◌, ◌<◌, ◌≤◌, max, List, [], ◌∷◌, ◌++◌, map, length, get_or, set, drop, replicate, refl, ap, sym, ◌∙◌, subst, arith, add-one, leb, inl, inr, All, unsigned_abs}
+use Rattle.std.proofs.Common.{◌≡◌, ℕ, ℤ, pos, negsuc, zero, suc, ◌+◌, ◌-◌, ◌<◌, ◌≤◌, max, List, [], ◌∷◌, ◌++◌, map, length, get_or, set, drop, replicate, refl, ap, sym, ◌∙◌, subst, arith, add-one, leb, inl, inr, All, unsigned_abs, Bool, true, false, cond, not}
 use Rattle.std.specs.List.{flat_map, fold}
 use Rattle.std.proofs.lemmas.Bool.{cond_both, cases_lt, le-leb, lt-leb}
 use Rattle.std.proofs.lemmas.Grind.{flat_map-append}
@@ -9,8 +9,8 @@ use Rattle.std.proofs.lemmas.List.Elements.{All-nil, All-cons, All-weaker, All-a
 use Rattle.std.proofs.lemmas.List.Folds.{flat_map-map}
 use Rattle.serde_json.specs.View.{view}
 use Rattle.serde_json.specs.declared.value.Value.{Value}
-use Rattle.table.specs.Nested.{CellForm, Draws, StateForm, End, Rows, kept_cells, greatest_in, named_by, rank_behind, rank_told, ranks_told, lists_of_states}
-use Rattle.table_text.specs.States.{draw_form_of, cell_form_of, row_form_of, state_form_of, rank_in, rank_among, AreListsOf, table_text_of}
+use Rattle.table.specs.Nested.{CellForm, Draws, StateForm, End, Rows, kept_cells, kept_draws, draws_of_form, draw_told, draws_told, reward_told, rewards_told, greatest_in, named_by, rank_behind, rank_told, ranks_told, lists_of_states}
+use Rattle.table_text.specs.States.{draw_form_of, cell_form_of, row_form_of, state_form_of, are_unpaid, rank_in, rank_among, AreListsOf, table_text_of}
 use Rattle.table_text.specs.declared.lists.Lists.{Lists}
 use Rattle.fields.specs.declared.positions.PositionText.TheVariants as texts
 use Rattle.table_text.proofs.StateCounts.{map-map}
@@ -181,6 +181,25 @@ ranks_more s left vs v ranks rank step below is h rank_is_among =
           ∙ sym (ap (λ (rest : List Value). ranks_from s (ranks_told s (map (λ w. state_form_of (view w)) rest))) states);
     }
 
-pub table_is : (forms : List StateForm) (lists : Lists) (ranks : List ℤ) → AreListsOf forms lists → ranks ≡ map pos (ranks_told 0 forms)
-    → texts.Table ranks lists.moves.items lists.values.items lists.cells.numbers.items lists.cells.draws.items ≡ table_text_of (lists_of_states forms)
-table_is forms lists ranks are told = λ i. texts.Table (told i) (are.moves i) (are.values i) (are.cells i) (are.draws i)
+-- ---- the text
+flat_draws : (cells : List CellForm) → flat_map draw_told (flat_map draws_of_form cells) ≡ flat_map draws_told cells
+flat_draws [] = refl
+flat_draws (cell ∷ cells) =
+    flat_map-append draw_told (draws_of_form cell) (flat_map draws_of_form cells) ∙ ap (λ (zs : List ℤ). draws_told cell ++ zs) (flat_draws cells)
+
+-- the rewards are left out where no draw tells one
+rewards_are : (forms : List StateForm) (rewards : List ℤ) (unpaid : Bool) → rewards ≡ map reward_told (kept_draws forms) → unpaid ≡ are_unpaid (kept_draws forms)
+    → cond unpaid [] rewards ≡ rewards_told forms
+rewards_are forms rewards unpaid are none = rw (are, none)
+    (elim (are_unpaid (kept_draws forms)) as (λ b. cond b [] (map reward_told (kept_draws forms)) ≡ cond (not b) (map reward_told (kept_draws forms)) []) [
+      | true ↦ refl
+      | false ↦ refl
+    ])
+
+pub table_is : (forms : List StateForm) (lists : Lists) (ranks rewards : List ℤ) → AreListsOf forms lists → ranks ≡ map pos (ranks_told 0 forms)
+    → rewards ≡ cond lists.cells.draws.unpaid [] lists.cells.draws.rewards.items
+    → texts.Table ranks lists.moves.items lists.values.items lists.cells.numbers.items lists.cells.draws.numbers.items rewards ≡ table_text_of (lists_of_states forms)
+table_is forms lists ranks rewards are told rest =
+    let draws = are.draws.numbers ∙ flat_draws (flat_map kept_cells forms) in
+    let paid = rest ∙ rewards_are forms lists.cells.draws.rewards.items lists.cells.draws.unpaid are.draws.rewards are.draws.unpaid in
+    λ i. texts.Table (told i) (are.moves i) (are.values i) (are.cells i) (draws i) (paid i)

@@ -1,14 +1,15 @@
 -- The states that a JSON value tells: first their kinds, then their form.
-use Rattle.std.specs.Prelude.{◌≡◌, ◌+◌, ◌++◌, length, ℕ, suc, ℤ, pos, negsuc, unsigned_abs, slice_index_or, Bool, ◌&&◌, ◌||◌, if◌then◌else◌, List, [], ◌∷◌, map, is_some, Option, Some, None, unwrap_or, option_map, Result, Ok, Err}
+use Rattle.std.specs.Prelude.{◌≡◌, ◌++◌, ◌==◌, length, ℕ, suc, ℤ, pos, negsuc, unsigned_abs, slice_index_or, Bool, ◌&&◌, ◌||◌, if◌then◌else◌, List, [], ◌∷◌, map, is_some, Option, Some, None, unwrap_or, option_map, Result, Ok, Err}
 use Rattle.std.specs.List.{list_all, flat_map}
 use Rattle.serde_json.specs.Data.{Data}
 use Rattle.serde_json.specs.Find.{as_array}
 use Rattle.table.specs.Lists.{Lists as TableLists}
-use Rattle.table.specs.Nested.{CellForm, Follows, Draws, StateForm, End, Rows, are_in_range, lists_of_states, draw_count_of, cells_told, draws_told, moves_told, values_told, kept_cells, greatest_in, named_by}
+use Rattle.table.specs.Nested.{CellForm, Follows, Draws, StateForm, End, Rows, are_in_range, lists_of_states, cells_told, draws_of_form, draw_told, reward_told, moves_told, values_told, kept_cells, kept_draws, greatest_in, named_by}
 use Rattle.fields.specs.declared.positions.PositionText.{PositionText}
 use Rattle.fields.specs.declared.positions.PositionText.TheVariants as texts
 use Rattle.table_text.specs.declared.fault.StatesFault.{StatesFault}
 use Rattle.table_text.specs.declared.fault.StatesFault.TheVariants as faults
+use Rattle.table_text.specs.declared.lists.DrawLists.{DrawLists}
 use Rattle.table_text.specs.declared.lists.Cells.{Cells}
 use Rattle.table_text.specs.declared.lists.Lists.{Lists}
 use Rattle.table_text.specs.Elements.{list_of, whole_in, is_whole}
@@ -62,7 +63,7 @@ forms_in d = if are_state_kinds d then Some (forms_of d) else None
 
 -- ---- the text of the position
 abbrev pub table_text_of : TableLists → PositionText
-table_text_of l = texts.Table l.ranks l.moves l.values l.cells l.draws
+table_text_of l = texts.Table l.ranks l.moves l.values l.cells l.draws l.rewards
 
 abbrev pub text_of_forms : Option (List StateForm) → Result PositionText StatesFault
 text_of_forms None = Err faults.Kind
@@ -81,11 +82,26 @@ Gives view (Ok x) read = read ≡ Ok (view x)
 Gives view (Err e) read = Fails e read
 
 -- ---- the lists so far
+-- none of the draws tells a reward
+abbrev pub are_unpaid : List (List ℤ) → Bool
+are_unpaid draws = list_all (λ (draw : List ℤ). length draw == 2) draws
+
+-- these are the lists of the draws
+pub record AreDrawsOf (draws : List (List ℤ)) (lists : DrawLists) : Type 0 where
+  pub numbers : lists.numbers.items ≡ flat_map draw_told draws
+  pub rewards : lists.rewards.items ≡ map reward_told draws
+  pub unpaid : lists.unpaid ≡ are_unpaid draws
+
+-- the draws stand behind those before
+pub record AddsDraws (old new : DrawLists) (draws : List (List ℤ)) : Type 0 where
+  pub numbers : new.numbers.items ≡ old.numbers.items ++ flat_map draw_told draws
+  pub rewards : new.rewards.items ≡ old.rewards.items ++ map reward_told draws
+  pub unpaid : new.unpaid ≡ (old.unpaid && are_unpaid draws)
+
 -- the cells stand behind those before
 pub record AddsCells (old new : Cells) (cells : List CellForm) : Type 0 where
-  pub numbers : new.numbers.items ≡ old.numbers.items ++ cells_told old.count cells
-  pub draws : new.draws.items ≡ old.draws.items ++ flat_map draws_told cells
-  pub count : new.count ≡ old.count + draw_count_of cells
+  pub numbers : new.numbers.items ≡ old.numbers.items ++ cells_told (length old.draws.rewards.items) cells
+  pub draws : AddsDraws old.draws new.draws (flat_map draws_of_form cells)
 
 -- the state stands behind those before
 pub record AddsState (old new : Lists) (form : StateForm) : Type 0 where
@@ -98,8 +114,7 @@ pub record AreListsOf (forms : List StateForm) (lists : Lists) : Type 0 where
   pub moves : lists.moves.items ≡ flat_map moves_told forms
   pub values : lists.values.items ≡ values_told 0 forms
   pub cells : lists.cells.numbers.items ≡ cells_told 0 (flat_map kept_cells forms)
-  pub draws : lists.cells.draws.items ≡ flat_map draws_told (flat_map kept_cells forms)
-  pub count : lists.cells.count ≡ draw_count_of (flat_map kept_cells forms)
+  pub draws : AreDrawsOf (kept_draws forms) lists.cells.draws
 
 -- ---- ranks
 -- the rank of the state of this number, and 0 where there is none

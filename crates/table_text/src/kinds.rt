@@ -1,10 +1,10 @@
 //! The kinds of what stands in the states of a table.
 
-ghost use Rattle.std.specs.Prelude.{◌≡◌, map};
+ghost use Rattle.std.specs.Prelude.{◌≡◌, pos, map, length, slice_index_or};
 ghost use Rattle.std.specs.List.{list_all};
 ghost use Rattle.serde_json.specs.View.{view};
 ghost use Rattle.table_text.specs.Elements.{is_whole};
-ghost use Rattle.table_text.specs.States.{elements_of, whole_of, is_draw_kind, is_cell_kind, is_row_kind, is_state_kind, are_state_kinds};
+ghost use Rattle.table_text.specs.States.{elements_of, whole_of, draw_form_of, is_draw_kind, is_cell_kind, is_row_kind, is_state_kind, are_state_kinds};
 
 use serde_json::Value;
 
@@ -29,6 +29,25 @@ pub(crate) fn whole(value: &Value) -> i64
     ensures { result ≡ whole_of (view value.now) }
 {
     value.as_i64().unwrap_or(0)
+}
+
+/// The number at the place of a list, and 0 where there is none.
+pub(crate) fn whole_at(value: &Value, place: usize) -> i64
+    ensures { result ≡ slice_index_or (draw_form_of (view value.now)) place (pos 0) }
+{
+    let numbers = elements(value);
+    if place < numbers.len() {
+        whole(&numbers[place])
+    } else {
+        0
+    }
+}
+
+/// How many numbers the draw has.
+pub(crate) fn draw_length(draw: &Value) -> usize
+    ensures { result ≡ length (draw_form_of (view draw.now)) }
+{
+    elements(draw).len()
 }
 
 fn all_whole(values: &[Value]) -> bool

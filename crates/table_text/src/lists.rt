@@ -1,22 +1,32 @@
 //! The lists that states make, but for the ranks.
 
-ghost use Rattle.std.specs.Prelude.{◌≡◌, ◌∷◌, ◌++◌, [], ◌+◌, ◌<◌, ◌≤◌, ◌^◌, ◌==◌, ◌⊎◌, true, false, pos, negsuc, neg_ℤ, ◌≤ℤ◌, map, length, IfOk, OnOk};
+ghost use Rattle.std.specs.Prelude.{◌≡◌, ◌&&◌, ◌∷◌, ◌++◌, [], ◌+◌, ◌<◌, ◌≤◌, ◌^◌, ◌==◌, ◌⊎◌, true, false, pos, negsuc, neg_ℤ, ◌≤ℤ◌, map, length, if◌then◌else◌, IfOk, OnOk};
 ghost use Rattle.std.specs.List.{list_all, flat_map};
 ghost use Rattle.serde_json.specs.View.{view};
-ghost use Rattle.table.specs.Nested.{Draws, End, Rows, names_state, is_within, draw_in_range, cell_in_range, row_in_range, state_in_range, are_in_range, draw_count_of, kept_cells, columns_in};
+ghost use Rattle.table.specs.Nested.{Draws, End, Rows, is_within, draw_in_range, cell_in_range, row_in_range, state_in_range, are_in_range, draw_count_of, kept_cells, columns_in};
 ghost use Rattle.table_text.specs.Elements.{is_whole};
-ghost use Rattle.table_text.specs.States.{elements_of, whole_of, draw_form_of, cell_form_of, row_form_of, state_form_of, AddsCells, AddsState, AreListsOf};
+ghost use Rattle.table_text.specs.States.{elements_of, whole_of, draw_form_of, cell_form_of, row_form_of, state_form_of, are_unpaid, AddsDraws, AddsCells, AddsState, AreListsOf};
 
-use crate::kinds::{elements, is_whole, whole};
+use crate::kinds::{draw_length, elements, is_whole, whole, whole_at};
 use serde_json::Value;
 use std::alloc::{AllocError, Global};
 
-/// Cells so far, their draws, and how many draws there are.
+/// Draws so far.
+#[derive(Drop)]
+pub(crate) struct DrawLists {
+    /// The state and the weight of each.
+    pub(crate) numbers: Vec<i32>,
+    /// The reward of each, 0 where it tells none.
+    pub(crate) rewards: Vec<i32>,
+    /// None of them tells a reward.
+    pub(crate) unpaid: bool,
+}
+
+/// Cells so far, and their draws.
 #[derive(Drop)]
 pub(crate) struct Cells {
     pub(crate) numbers: Vec<i32>,
-    pub(crate) draws: Vec<i32>,
-    count: usize,
+    pub(crate) draws: DrawLists,
 }
 
 /// States so far.
@@ -28,12 +38,12 @@ pub(crate) struct Lists {
 }
 
 /// Adds the whole number.
-fn push_whole(list: &mut Vec<i32>, value: &Value) -> Result<(), AllocError>
-    requires low { neg_ℤ (pos 2147483648) ≤ℤ whole_of (view value.now) }
-    requires high { whole_of (view value.now) ≤ℤ pos 2147483647 }
-    ensures { OnOk result (list.new.items ≡ list.old.items ++ whole_of (view value.now) ∷ []) }
+fn push_whole(list: &mut Vec<i32>, number: i64) -> Result<(), AllocError>
+    requires low { neg_ℤ (pos 2147483648) ≤ℤ number }
+    requires high { number ≤ℤ pos 2147483647 }
+    ensures { OnOk result (list.new.items ≡ list.old.items ++ number ∷ []) }
 {
-    list.push(whole(value) as i32)?;
+    list.push(number as i32)?;
     Ok(())
 }
 
@@ -54,45 +64,62 @@ fn push_first(list: &mut Vec<i32>, count: usize) -> Result<(), AllocError>
     Ok(())
 }
 
-fn push_draw(list: &mut Vec<i32>, draw: &[Value]) -> Result<(), AllocError>
-    requires { list_all (λ v. names_state (whole_of (view v))) draw.now ≡ true }
-    ensures { OnOk result (list.new.items ≡ list.old.items ++ map (λ v. whole_of (view v)) draw.now) }
+/// Whether those before tell no reward, and this one tells none.
+fn are_unpaid(before: bool, draw: &Value) -> bool
+    ensures { result ≡ (before && are_unpaid (draw_form_of (view draw.now) ∷ [])) }
 {
-    for number in draw {
-        push_whole(list, number)?;
-    }
-    Ok(())
+    before && draw_length(draw) == 2
 }
 
-fn push_draws(list: &mut Vec<i32>, draws: &[Value]) -> Result<(), AllocError>
-    requires { list_all (λ v. draw_in_range (draw_form_of (view v))) draws.now ≡ true }
-    ensures { OnOk result (list.new.items ≡ list.old.items ++ flat_map (λ v. draw_form_of (view v)) draws.now) }
-{
-    for draw in draws {
-        push_draw(list, elements(draw))?;
+impl DrawLists {
+    fn push(&mut self, draw: &Value) -> Result<(), AllocError>
+        requires { draw_in_range (draw_form_of (view draw.now)) ≡ true }
+        ensures { OnOk result (AddsDraws self.old self.new (draw_form_of (view draw.now) ∷ [])) }
+    {
+        push_whole(&mut self.numbers, whole_at(draw, 0))?;
+        push_whole(&mut self.numbers, whole_at(draw, 1))?;
+        push_whole(&mut self.rewards, whole_at(draw, 2))?;
+        self.unpaid = are_unpaid(self.unpaid, draw);
+        Ok(())
     }
-    Ok(())
+
+    fn push_all(&mut self, draws: &[Value]) -> Result<(), AllocError>
+        requires { list_all (λ v. draw_in_range (draw_form_of (view v))) draws.now ≡ true }
+        ensures { OnOk result (AddsDraws self.old self.new (map (λ v. draw_form_of (view v)) draws.now)) }
+    {
+        for draw in draws {
+            self.push(draw)?;
+        }
+        Ok(())
+    }
+}
+
+/// The rewards of all draws, and none where no draw tells one.
+pub(crate) fn told_rewards(alloc: Global, rewards: Vec<i32>, unpaid: bool) -> Vec<i32>
+    ensures { result.items ≡ (if unpaid then [] else rewards.items) }
+{
+    if unpaid { Vec::new(alloc) } else { rewards }
 }
 
 impl Cells {
     fn push_draws(&mut self, draws: &[Value]) -> Result<(), AllocError>
         requires range { list_all (λ v. draw_in_range (draw_form_of (view v))) draws.now ≡ true }
-        requires room { self.old.count + length draws.now ≤ 262144 }
+        requires room { length self.old.draws.rewards.items ≤ 262144 }
         ensures { OnOk result (AddsCells self.old self.new (Draws (map (λ v. draw_form_of (view v)) draws.now) ∷ [])) }
     {
-        push_first(&mut self.numbers, self.count)?;
-        push_draws(&mut self.draws, draws)?;
-        self.count += draws.len();
+        push_first(&mut self.numbers, self.draws.rewards.len())?;
+        self.draws.push_all(draws)?;
         Ok(())
     }
 
     fn push_cell(&mut self, cell: &Value) -> Result<(), AllocError>
         requires range { cell_in_range (cell_form_of (view cell.now)) ≡ true }
-        requires room { self.old.count + draw_count_of (cell_form_of (view cell.now) ∷ []) ≤ 262144 }
+        requires room { length self.old.draws.rewards.items
+            + draw_count_of (cell_form_of (view cell.now) ∷ []) ≤ 262144 }
         ensures { OnOk result (AddsCells self.old self.new (cell_form_of (view cell.now) ∷ [])) }
     {
         if is_whole(cell) {
-            push_whole(&mut self.numbers, cell)?;
+            push_whole(&mut self.numbers, whole(cell))?;
         } else {
             self.push_draws(elements(cell))?;
         }
@@ -101,7 +128,8 @@ impl Cells {
 
     fn push_row(&mut self, cells: &[Value]) -> Result<(), AllocError>
         requires range { list_all (λ v. cell_in_range (cell_form_of (view v))) cells.now ≡ true }
-        requires room { self.old.count + draw_count_of (flat_map (λ v. cell_form_of (view v) ∷ []) cells.now) ≤ 262144 }
+        requires room { length self.old.draws.rewards.items
+            + draw_count_of (flat_map (λ v. cell_form_of (view v) ∷ []) cells.now) ≤ 262144 }
         ensures { OnOk result (AddsCells self.old self.new (flat_map (λ v. cell_form_of (view v) ∷ []) cells.now)) }
     {
         for cell in cells {
@@ -112,7 +140,8 @@ impl Cells {
 
     fn push_rows(&mut self, rows: &[Value]) -> Result<(), AllocError>
         requires range { list_all (λ v. row_in_range (row_form_of (view v))) rows.now ≡ true }
-        requires room { self.old.count + draw_count_of (flat_map (λ v. row_form_of (view v)) rows.now) ≤ 262144 }
+        requires room { length self.old.draws.rewards.items
+            + draw_count_of (flat_map (λ v. row_form_of (view v)) rows.now) ≤ 262144 }
         ensures { OnOk result (AddsCells self.old self.new (flat_map (λ v. row_form_of (view v)) rows.now)) }
     {
         for row in rows {
@@ -165,8 +194,11 @@ impl Lists {
             values: Vec::new(alloc),
             cells: Cells {
                 numbers: Vec::new(alloc),
-                draws: Vec::new(alloc),
-                count: 0,
+                draws: DrawLists {
+                    numbers: Vec::new(alloc),
+                    rewards: Vec::new(alloc),
+                    unpaid: true,
+                },
             },
         }
     }
@@ -177,7 +209,7 @@ impl Lists {
     {
         push_count(&mut self.moves, 0)?;
         push_count(&mut self.moves, 0)?;
-        push_whole(&mut self.values, payoff)?;
+        push_whole(&mut self.values, whole(payoff))?;
         Ok(())
     }
 
@@ -185,7 +217,8 @@ impl Lists {
         requires kind { is_whole (view state.now) ≡ false }
         requires range { state_in_range (state_form_of (view state.now)) ≡ true }
         requires few { length self.old.cells.numbers.items ≤ 524288 }
-        requires room { self.old.cells.count + draw_count_of (kept_cells (state_form_of (view state.now))) ≤ 262144 }
+        requires room { length self.old.cells.draws.rewards.items
+            + draw_count_of (kept_cells (state_form_of (view state.now))) ≤ 262144 }
         ensures { OnOk result (AddsState self.old self.new (state_form_of (view state.now))) }
     {
         let rows = elements(state);
@@ -199,7 +232,8 @@ impl Lists {
     fn push_state(&mut self, state: &Value) -> Result<(), AllocError>
         requires range { state_in_range (state_form_of (view state.now)) ≡ true }
         requires few { length self.old.cells.numbers.items ≤ 524288 }
-        requires room { self.old.cells.count + draw_count_of (kept_cells (state_form_of (view state.now))) ≤ 262144 }
+        requires room { length self.old.cells.draws.rewards.items
+            + draw_count_of (kept_cells (state_form_of (view state.now))) ≤ 262144 }
         ensures { OnOk result (AddsState self.old self.new (state_form_of (view state.now))) }
     {
         if is_whole(state) {

@@ -1,12 +1,12 @@
 //! The ranges of what stands in the states of a table.
 
-ghost use Rattle.std.specs.Prelude.{◌≡◌, ◌&&◌, ◌==◌, ◌-◌, ◌^◌, min, map, length, nat_le, pos, neg_ℤ};
+ghost use Rattle.std.specs.Prelude.{◌≡◌, ◌&&◌, ◌==◌, ◌-◌, ◌^◌, min, map, length, nat_le};
 ghost use Rattle.std.specs.List.{list_all, flat_map};
 ghost use Rattle.serde_json.specs.View.{view};
-ghost use Rattle.table.specs.Nested.{names_state, draw_in_range, cell_in_range, row_in_range, state_in_range, are_in_range, given_cells, draws_of_form, draw_count_of, is_within};
-ghost use Rattle.table_text.specs.States.{whole_of, draw_form_of, cell_form_of, row_form_of, state_form_of};
+ghost use Rattle.table.specs.Nested.{names_state, is_reward, draw_in_range, cell_in_range, row_in_range, state_in_range, are_in_range, given_cells, draws_of_form, draw_count_of, is_within};
+ghost use Rattle.table_text.specs.States.{draw_form_of, cell_form_of, row_form_of, state_form_of};
 
-use crate::kinds::{elements, is_whole, whole};
+use crate::kinds::{draw_length, elements, is_whole, whole, whole_at};
 use serde_json::Value;
 
 fn is_within(low: i64, high: i64, number: i64) -> bool
@@ -15,35 +15,37 @@ fn is_within(low: i64, high: i64, number: i64) -> bool
     low <= number && number <= high
 }
 
-fn names_state(value: &Value) -> bool
-    ensures { result ≡ names_state (whole_of (view value.now)) }
+fn names_state(number: i64) -> bool
+    ensures { result ≡ names_state number }
 {
-    is_within(0, 1_048_575, whole(value))
+    is_within(0, 1_048_575, number)
 }
 
-fn is_payoff(value: &Value) -> bool
-    ensures { result ≡ is_within (neg_ℤ (pos 1000000)) (pos 1000000) (whole_of (view value.now)) }
+/// Whether it is a payoff of an end, or a reward, that can be told.
+fn is_payoff(number: i64) -> bool
+    ensures { result ≡ is_reward number }
 {
-    is_within(-1_000_000, 1_000_000, whole(value))
+    is_within(-1_000_000, 1_000_000, number)
 }
 
-fn all_name_states(values: &[Value]) -> bool
-    ensures { result ≡ list_all (λ v. names_state (whole_of (view v))) values.now }
+fn has_draw_length(draw: &Value) -> bool
+    ensures { let count = length (draw_form_of (view draw.now)) in result ≡ (nat_le 2 count && nat_le count 3) }
 {
-    values.iter().all(names_state)
+    2 <= draw_length(draw) && draw_length(draw) <= 3
 }
 
-fn are_two(values: &[Value]) -> bool
-    ensures { result ≡ ((length values.now == 2)
-        && list_all (λ v. names_state (whole_of (view v))) values.now) }
+fn are_draw_numbers(state: i64, weight: i64, reward: i64) -> bool
+    ensures { result ≡ (names_state state && names_state weight && is_reward reward) }
 {
-    values.len() == 2 && all_name_states(values)
+    names_state(state) && names_state(weight) && is_payoff(reward)
 }
 
+/// A draw has a state, a weight and, where it tells one, a reward.
 fn draw_in_range(draw: &Value) -> bool
     ensures { result ≡ draw_in_range (draw_form_of (view draw.now)) }
 {
-    are_two(elements(draw))
+    has_draw_length(draw)
+        && are_draw_numbers(whole_at(draw, 0), whole_at(draw, 1), whole_at(draw, 2))
 }
 
 fn all_draws(values: &[Value]) -> bool
@@ -63,7 +65,7 @@ fn cell_in_range(cell: &Value) -> bool
     ensures { result ≡ cell_in_range (cell_form_of (view cell.now)) }
 {
     if is_whole(cell) {
-        names_state(cell)
+        names_state(whole(cell))
     } else {
         are_draws(elements(cell))
     }
@@ -105,7 +107,7 @@ fn state_in_range(state: &Value) -> bool
     ensures { result ≡ state_in_range (state_form_of (view state.now)) }
 {
     if is_whole(state) {
-        is_payoff(state)
+        is_payoff(whole(state))
     } else {
         are_rows(elements(state))
     }

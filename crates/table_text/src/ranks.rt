@@ -4,21 +4,21 @@ ghost use Rattle.std.specs.Prelude.{◌≡◌, ℤ, pos, ◌≤◌, map, length,
 ghost use Rattle.std.specs.List.{flat_map};
 ghost use Rattle.serde_json.specs.View.{view};
 ghost use Rattle.table.specs.Nested.{Draws, named_by, greatest_in, ranks_told};
-ghost use Rattle.table_text.specs.States.{whole_of, draw_form_of, cell_form_of, row_form_of, state_form_of, rank_in, rank_among};
+ghost use Rattle.table_text.specs.States.{draw_form_of, cell_form_of, row_form_of, state_form_of, rank_in, rank_among};
 
-use crate::kinds::{elements, is_whole, whole};
+use crate::kinds::{elements, is_whole, whole, whole_at};
 use crate::lists::kept_rows;
 use serde_json::Value;
 use std::alloc::{AllocError, Global};
 
 /// The rank at the number, and 0 where there is none.
-fn rank_at(number: &i64, ranks: &[i32]) -> u32
-    ensures { result ≡ rank_in ranks.now number.now }
+fn rank_at(number: i64, ranks: &[i32]) -> u32
+    ensures { result ≡ rank_in ranks.now number }
 {
-    if *number < 0 {
+    if number < 0 {
         return 0;
     }
-    let place = *number as usize;
+    let place = number as usize;
     if place < ranks.len() {
         ranks[place].unsigned_abs()
     } else {
@@ -26,20 +26,11 @@ fn rank_at(number: &i64, ranks: &[i32]) -> u32
     }
 }
 
-fn first_rank(numbers: &[Value], ranks: &[i32]) -> u32
-    ensures { result ≡ rank_in ranks.now (slice_index_or (map (λ v. whole_of (view v)) numbers.now) 0 (pos 0)) }
-{
-    match numbers {
-        [] => rank_at(&0, ranks),
-        [state, ..] => rank_at(&whole(state), ranks),
-    }
-}
-
 /// The rank of the state that the draw names.
 fn draw_rank(draw: &Value, ranks: &[i32]) -> u32
     ensures { result ≡ rank_in ranks.now (slice_index_or (draw_form_of (view draw.now)) 0 (pos 0)) }
 {
-    first_rank(elements(draw), ranks)
+    rank_at(whole_at(draw, 0), ranks)
 }
 
 /// The greatest rank of the states that the draws name.
@@ -56,7 +47,7 @@ fn cell_rank(cell: &Value, ranks: &[i32]) -> u32
     ensures { result ≡ greatest_in (map (rank_in ranks.now) (named_by (cell_form_of (view cell.now)))) }
 {
     if is_whole(cell) {
-        rank_at(&whole(cell), ranks)
+        rank_at(whole(cell), ranks)
     } else {
         draws_rank(elements(cell), ranks)
     }

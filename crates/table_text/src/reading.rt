@@ -8,7 +8,7 @@ ghost use Rattle.table_text.specs.States.{Gives, state_form_of, table_text_of, t
 
 use crate::StatesFault;
 use crate::kinds::{are_state_kinds, elements};
-use crate::lists::Lists;
+use crate::lists::{Lists, told_rewards};
 use crate::ranges::are_in_range;
 use crate::ranks::ranks;
 use fields::PositionText;
@@ -24,12 +24,15 @@ fn text_of_states(alloc: Global, states: &[Value]) -> Result<PositionText, Alloc
 {
     let lists = Lists::of_states(alloc, states)?;
     let ranks = ranks(alloc, states)?;
+    let cells = lists.cells;
+    let draws = cells.draws;
     Ok(PositionText::Table {
         ranks: Seq::from_vec(ranks),
         moves: Seq::from_vec(lists.moves),
         values: Seq::from_vec(lists.values),
-        cells: Seq::from_vec(lists.cells.numbers),
-        draws: Seq::from_vec(lists.cells.draws),
+        cells: Seq::from_vec(cells.numbers),
+        draws: Seq::from_vec(draws.numbers),
+        rewards: Seq::from_vec(told_rewards(alloc, draws.rewards, draws.unpaid)),
     })
 }
 

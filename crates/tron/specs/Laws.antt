@@ -244,8 +244,12 @@ module _ (g : Setting) (p : IsPosition g) where
     moves_high = λ side s r. ways_few (is_over (arena_of g s)) (directions_of (arena_of g s) side) 4 (few_directions (arena_of g s) (head_of side (arena_of g s)));
     rank_high = λ s r. rank_high s (tron_sound s r);
     rank_falls = λ s t r turn. rank_falls s t (tron_sound s r) turn;
+    least_low = λ s r. omega (arith, ints);
+    most_high = λ s r. omega (arith, ints);
     payoff_low = λ s r h. (payoff_small (eqb s.one s.two) (is_shut (arena_of g s) One && is_shut (arena_of g s) Two) (is_shut (arena_of g s) One)).0;
     payoff_high = λ s r h. (payoff_small (eqb s.one s.two) (is_shut (arena_of g s) One && is_shut (arena_of g s) Two) (is_shut (arena_of g s) One)).1;
+    reward_low = λ s t r turn. omega (arith, ints);
+    reward_high = λ s t r turn. omega (arith, ints);
     same_key = λ s t r r' e. equal_keys s t (tron_sound s r) (tron_sound t r') e;
     key_high = λ s r. omega (arith, tron_key_is s (tron_sound s r), cells_in_bits s r);
     draws_low = λ s a b r h h'. omega arith;

@@ -128,6 +128,9 @@ tron_game g = record {
   chance = λ s one two draw. whole_chance;
   drawn = λ s one two draw. moved s (entered (arena_of g s) One one) (entered (arena_of g s) Two two);
   payoff = λ s. tron_payoff (arena_of g s);
+  reward = λ s one two draw. pos 0;
+  least = λ s. neg_ℤ (pos 1);
+  most = λ s. pos 1;
   rank = λ s. tron_rank (arena_of g s);
   key = λ s. tron_key (arena_of g s);
   label = λ side s i. number_of (slice_index_or (ways_of (arena_of g s) side) i North);
@@ -156,6 +159,8 @@ pub record KeepsRules (g : Setting) : Type 0 where
   pub label : (side : Side) (s : State) (t : Trails) (i : ℕ) → StandsFor s t → (tron_game g).label side s i ≡ number_of (slice_index_or (ways_of (arena_of_trails g t) side) i North)
   pub ends : (s : State) (t : Trails) → Reachable (tron_game g) s → StandsFor s t → IsEnd (tron_game g) s ↔ (is_over (arena_of_trails g t) ≡ true)
   pub payoff : (s : State) (t : Trails) → StandsFor s t → (tron_game g).payoff s ≡ tron_payoff (arena_of_trails g t)
+  -- all is paid at the end
+  pub reward : (s : State) (one two draw : ℕ) → (tron_game g).reward s one two draw ≡ pos 0
   pub rank : (s : State) (t : Trails) → StandsFor s t → (tron_game g).rank s ≡ tron_rank (arena_of_trails g t)
   pub key : (s : State) (t : Trails) → StandsFor s t → (tron_game g).key s ≡ tron_key (arena_of_trails g t)
   pub low : (tron_game g).low ≡ neg_ℤ (pos 1)

@@ -42,6 +42,18 @@ impl Game for OneInThree {
         }
     }
 
+    fn reward(&self, _s: Place, _a: u32, _b: u32, _d: u32) -> i32 {
+        0
+    }
+
+    fn least(&self, _s: Place) -> i32 {
+        0
+    }
+
+    fn most(&self, _s: Place) -> i32 {
+        1
+    }
+
     fn rank(&self, s: Place) -> u32 {
         match s {
             Place::Root => 1,

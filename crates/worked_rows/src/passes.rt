@@ -10,7 +10,7 @@ use bounds_board::Bounds;
 use plan_book::Entry;
 use seq::Seq;
 use shared_board::{Board, Desk, Kept, Pass};
-use sim_game::{Game, Side, end_bound, opening_bound};
+use sim_game::{Game, Side, end_bound, state_bound};
 use std::alloc::{AllocError, Global};
 use std::process::Abort;
 use std::test::Fail;
@@ -30,7 +30,7 @@ fn new_desk<'a, G: Game>(rt: &impl Abort, board: &'a Board<G>, lead: &mut Pass<G
     Desk::new(board, pass)
 }
 
-// Posts a lower bound at the root of a game that ends after the one move of each side and its one draw.
+// Posts a lower bound at the root of a game that ends after the one move of each side and its one draw, which pays nothing.
 fn post_root<G: Game, B: Bounds<G>>(rt: &impl Abort, alloc: Global, bound: i64, board: &mut B)
     ensures { IsLater (B.view board.old) (B.view board.new) }
 {
@@ -40,10 +40,11 @@ fn post_root<G: Game, B: Bounds<G>>(rt: &impl Abort, alloc: Global, bound: i64, 
     assert!(rt; g.moves(Side::One, root) == 1);
     assert!(rt; g.moves(Side::Two, root) == 1);
     assert!(rt; g.draws(root, 0, 0) == 1);
+    assert!(rt; g.reward(root, 0, 0, 0) == 0);
     let end = after(g, root, 0, 0);
     assert!(rt; g.rank(end) == 0);
     let payoff = end_bound(g, end);
-    assert!(rt; opening_bound(g, Side::One) <= bound);
+    assert!(rt; state_bound(g, Side::One, root) <= bound);
     assert!(rt; bound <= payoff);
     let weights = vec![in alloc; board.total()].expect(rt, "memory");
     let reads = vec![in alloc; payoff].expect(rt, "memory");

@@ -1,5 +1,6 @@
 //! Worst cases of sheets.
-ghost use Rattle.std.specs.Prelude.{◌≡◌, []};
+ghost use Rattle.std.specs.Prelude.{◌≡◌, ◌≤◌, [], map};
+ghost use Rattle.std.specs.List.Sorted.{IsStrictlyIncreasing};
 
 use crate::chance::OneInThree;
 use crate::games::two_cards;
@@ -32,25 +33,32 @@ fn expect_case(rt: &impl Abort, found: Result<WorstCase, WorstError>) -> WorstCa
     }
 }
 
-// Each plan printed is worth minus half a prize, and comes to five states that are no ends.
+// The sheet's plan is worth minus half a prize, and comes to five states that are no ends.
+fn expect_half_a_prize(rt: &impl Abort, alloc: Global, sheet: &Sheet)
+    requires low { 1 ≤ sheet.now.total }
+    requires high { sheet.now.total ≤ 1048576 }
+    requires rising { IsStrictlyIncreasing (map (λ r. r.key) sheet.now.rows) }
+{
+    let case = expect_case(rt, worst(alloc, two_cards(rt), sheet, 5));
+    let want = Worth::Exact {
+        sum: -2147483648,
+        base: 65536,
+        power: 2,
+    };
+    assert_eq!(rt; case.worth, want);
+    assert_eq!(rt; case.reply.len(), 5);
+    match worst(alloc, two_cards(rt), sheet, 4) {
+        Err(e) => assert_eq!(rt; e, WorstError::TooMany { limit: 4 }),
+        Ok(_) => panic!(rt; "five states are more than four"),
+    }
+}
+
 #[test]
 fn mixed_sheets_have_an_exact_worst_case(rt: HostRuntime) -> Result<(), Fail> {
     let alloc = rt.alloc();
     let report = read(alloc, CARDS.as_bytes())?;
-    for sheet in [&report.one, &report.two] {
-        let case = expect_case(&rt, worst(alloc, two_cards(&rt), sheet, 5));
-        let want = Worth::Exact {
-            sum: -2147483648,
-            base: 65536,
-            power: 2,
-        };
-        assert_eq!(rt; case.worth, want);
-        assert_eq!(rt; case.reply.len(), 5);
-        match worst(alloc, two_cards(&rt), sheet, 4) {
-            Err(e) => assert_eq!(rt; e, WorstError::TooMany { limit: 4 }),
-            Ok(_) => panic!(rt; "five states are more than four"),
-        }
-    }
+    expect_half_a_prize(&rt, alloc, &report.one);
+    expect_half_a_prize(&rt, alloc, &report.two);
     Ok(())
 }
 

@@ -1,5 +1,5 @@
 //! Positions and reports that are read, and the first thing wrong with others.
-use certificate::{StageMethod, TextError, read};
+use certificate::{Pay, PositionText, StageMethod, TextError, read};
 use position::{AnyGame, position};
 use std::test::Fail;
 
@@ -8,6 +8,13 @@ const PUSH: &str =
 
 const LINEAR: &str =
     "{\"game\":\"oshi_zumo\",\"size\":1,\"one\":2,\"two\":1,\"least\":1,\"place\":0,\"gap\":0,\"weight\":8192,\"turns\":0,\"visits\":0,\"rows\":1,\"workers\":1,\"stages\":\"linear\"}";
+
+const PRIZES: &str =
+    "{\"game\":\"goofspiel\",\"one\":[1,3],\"two\":[2,3],\"prizes\":[1,1],\"score\":0,\"pay\":\"prizes\",\
+         \"gap\":0,\"weight\":8192,\"turns\":0,\"visits\":0,\"rows\":1,\"workers\":1}";
+
+const PAID_TURN: &str = "{\"game\":\"table\",\"states\":[[[[[1,360360,2]],1],[1,1]],0],\
+         \"gap\":0,\"weight\":8192,\"turns\":0,\"visits\":0,\"rows\":1,\"workers\":1}";
 
 // Where nothing is said of the stages, they are solved by regret matching.
 #[test]
@@ -18,6 +25,24 @@ fn reads_what_is_asked(rt: HostRuntime) -> Result<(), Fail> {
     assert_eq!(rt; regret.ask.stages, StageMethod::Regret);
     let linear = position(rt.alloc(), LINEAR.as_bytes())?;
     assert_eq!(rt; linear.ask.stages, StageMethod::Linear);
+    Ok(())
+}
+
+#[test]
+fn reads_what_is_paid_on_the_way(rt: HostRuntime) -> Result<(), Fail> {
+    let prizes = position(rt.alloc(), PRIZES.as_bytes())?;
+    assert!(rt;
+        matches!(
+            prizes.text,
+            PositionText::Goofspiel {
+                pay: Pay::Prizes,
+                ..
+            }
+        )
+    );
+    let table = position(rt.alloc(), PAID_TURN.as_bytes())?;
+    assert!(rt; matches!(table.game(), AnyGame::Table(_)));
+    assert_eq!(rt; table.totals.as_slice(), [0, 2, 0, 0].as_slice());
     Ok(())
 }
 
@@ -33,6 +58,13 @@ fn tells_the_first_refusal(rt: HostRuntime) {
         ("{\"game\":\"tron\",\"height\":256}", 15),
         ("{\"game\":\"goofspiel\",\"one\":[256,1.0]}", 14),
         ("{\"game\":\"chess\"}", 16),
+        ("{\"game\":\"table\",\"states\":[[[[[1,1,1,1]]]]]}", 15),
+        ("{\"game\":\"table\",\"states\":[[[[[1,1,1000001]]]]]}", 15),
+        (
+            "{\"game\":\"table\",\"states\":[[[[[1,360360,4001]]]],0],\
+                 \"gap\":0,\"weight\":8192,\"turns\":0,\"visits\":0,\"rows\":1,\"workers\":1}",
+            90,
+        ),
         (
             "{\"game\":\"oshi_zumo\",\"size\":9,\"one\":32,\"two\":1,\"least\":1,\"place\":0,\"gap\":0,\"weight\":8192,\"turns\":0,\"visits\":0,\"rows\":1,\"workers\":1}",
             31,

@@ -23,11 +23,13 @@ const GAMES: &str = "turn 1 2 0\nturn 3 3 0\npayoff -1\ngames 2 sum -2 least -1 
 // What a call of the sink takes at most.
 const CHUNK: u32 = 40;
 
-/// The words of a command, its input, and the status and the text of its answer.
+/// The words of a command, its input and how many calls read it, and the status and the text of its answer.
 #[derive(Clone, Copy)]
 struct Case<'a> {
     words: &'a [&'a str],
     input: &'a str,
+    // The end of the input takes a call of its own, and so does the first line of a report.
+    reads: u32,
     status: u8,
     text: &'a str,
 }
@@ -54,13 +56,13 @@ fn compare<'a, R: Threads + Abort + Sync>(
     Ok(())
 }
 
-// The plain run reads the input in one call and its end in another, and writes its text in as many as that needs.
+// Fails each call in turn that the plain run makes, and then the calls behind its last ones, which it does not make.
 fn fail_each_call<'a, R: Threads + Abort + Sync>(
     rt: &R,
     alloc: Global,
     case: Case<'a>,
 ) -> Result<(), Fail> {
-    for call in 0..2 {
+    for call in 0..case.reads {
         compare(rt, alloc, case, (&[call], &[]), (6, &[]))?;
     }
     let text = case.text.as_bytes();
@@ -76,7 +78,13 @@ fn fail_each_call<'a, R: Threads + Abort + Sync>(
             (7, moved(text, CHUNK, call)),
         )?;
     }
-    compare(rt, alloc, case, (&[2], &[writes]), (case.status, text))
+    compare(
+        rt,
+        alloc,
+        case,
+        (&[case.reads], &[writes]),
+        (case.status, text),
+    )
 }
 
 #[test]
@@ -84,6 +92,7 @@ fn solve_over_failing_devices(rt: HostRuntime) -> Result<(), Fail> {
     let case = Case {
         words: &["solve"],
         input: POSITION,
+        reads: 2,
         status: 0,
         text: REPORT,
     };
@@ -95,6 +104,7 @@ fn check_over_failing_devices(rt: HostRuntime) -> Result<(), Fail> {
     let case = Case {
         words: &["check"],
         input: REPORT,
+        reads: 3,
         status: 0,
         text: VERDICT,
     };
@@ -106,6 +116,7 @@ fn exploit_over_failing_devices(rt: HostRuntime) -> Result<(), Fail> {
     let case = Case {
         words: &["exploit", "one"],
         input: REPORT,
+        reads: 3,
         status: 0,
         text: WORST,
     };
@@ -117,6 +128,7 @@ fn play_over_failing_devices(rt: HostRuntime) -> Result<(), Fail> {
     let case = Case {
         words: &["play", "2", "7"],
         input: REPORT,
+        reads: 3,
         status: 0,
         text: GAMES,
     };
@@ -131,14 +143,15 @@ fn an_end_in_the_middle_of_a_number(rt: HostRuntime) -> Result<(), Fail> {
     ) else {
         panic!(rt; "both numbers are there");
     };
-    for (command, input, status, text) in [
-        ("solve", position, 2, "input 10 not json\n"),
-        ("bounds", position, 2, "input 10 not json\n"),
-        ("check", report, 9, "report short\n"),
+    for (command, input, reads, status, text) in [
+        ("solve", position, 2, 2, "input 10 not json\n"),
+        ("bounds", position, 2, 2, "input 10 not json\n"),
+        ("check", report, 3, 9, "report short\n"),
     ] {
         let case = Case {
             words: &[command],
             input,
+            reads,
             status,
             text,
         };

@@ -15,6 +15,8 @@ from .. import (
 _PRIZES: Final = {
     "margin": "A payoff is the prizes that One has won, less those of Two.",
     "win": "A payoff is 1 where One ends with more prizes, −1 where Two does, 0 if equal.",
+    "prizes": "A payoff is the prizes that One wins, less those of Two; each is paid when it is "
+              "won, so that bounds are of what is still to come.",
 }
 
 _MEANINGS: Final = {
@@ -26,6 +28,8 @@ _MEANINGS: Final = {
 }
 
 _ANY: Final = "A payoff is what One gets; Two gets the negative."
+
+_PAID: Final = " Turns pay too, and are summed; bounds are of what is still to come."
 
 
 @dataclass
@@ -45,9 +49,9 @@ class Pool:
 
 
 def turn_payoff(state: State, one: Move, two: Move, draw: int) -> int:
-    """What One gets by a turn itself. Each game of this package pays at its ends alone; all that
-    a page shows and sums of turns that pay comes from here."""
-    return 0
+    """What One gets by a turn itself; all that a page shows and sums of turns that pay comes from
+    here."""
+    return state.rewards(one, two)[draw] if state.game.has_rewards else 0
 
 
 def title(report: Report) -> str:
@@ -73,7 +77,7 @@ def meaning(report: Report) -> str:
     game = report.game
     if game.name in ("goofspiel", "goofspiel_drawn"):
         return _PRIZES.get(game.record()["pay"], _ANY)
-    return _MEANINGS.get(game.name, _ANY)
+    return _MEANINGS.get(game.name, _ANY) + (_PAID if game.has_rewards else "")
 
 
 def settings(report: Report) -> dict[str, object]:

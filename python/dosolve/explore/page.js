@@ -131,11 +131,13 @@ const TEXTS = {
     : `One at node ${one}, Two at node ${two}; ${count(rounds, "round")} left`,
   table: ({picture: [number, name]}) => name || `state ${number}`,
 };
+// Where each prize is paid when it is won, the score is no part of what is told.
+const SCORES = D.settings.pay !== "prizes";
 function cardText(found, between) {
-  const [score, prize, coming] = found.picture;
-  if (found.end) return `all cards played, score ${signed(score)}`;
+  const [score, prize, coming] = found.picture, told = SCORES ? `score ${signed(score)}` : "";
+  if (found.end) return `all cards played${told && ", "}${told}`;
   return `One ${list(found.names[0])}; Two ${list(found.names[1])}; prize ${prize}` +
-    (P[coming].length ? `, then ${P[coming].join(between)}` : "") + `; score ${signed(score)}`;
+    (P[coming].length ? `, then ${P[coming].join(between)}` : "") + `${told && "; "}${told}`;
 }
 const described = found => (TEXTS[D.game] || (() => String(found.picture[0])))(found);
 
@@ -310,7 +312,8 @@ function drawCards(found) {
     found.end ? null : labelled("Prize", card(prize, "prize")),
     P[coming].length ? labelled(order, el("div", {class: "cards"},
       P[coming].map(number => card(number, "coming")))) : null,
-    labelled("Score (One less Two)", el("div", {class: "score num"}, signed(score))));
+    SCORES ? labelled("Score (One less Two)", el("div", {class: "score num"}, signed(score)))
+      : null);
   return el("div", {class: "board"}, hand(found, 0), middle, hand(found, 1));
 }
 
@@ -482,8 +485,9 @@ function paidSoFar() {
 function endPanel(found) {
   const wins = found.payoff > 0 ? "One wins." : found.payoff < 0 ? "Two wins." : "A draw.";
   return el("section", {class: "bounds"}, el("h2", {}, "The game is over"),
-    el("p", {}, "One gets ", el("b", {class: "num"}, exact(found.payoff * D.unscaled)),
-      ", Two the negative. ", D.game === "table" ? "" : wins), paidSoFar(),
+    el("p", {}, PAYS ? "The end pays One " : "One gets ",
+      el("b", {class: "num"}, exact(found.payoff * D.unscaled)),
+      ", Two the negative. ", D.game === "table" || PAYS ? "" : wins), paidSoFar(),
     el("p", {class: "small dim"}, D.meaning));
 }
 function boundsPanel(found) {

@@ -4,7 +4,8 @@ A game is a frozen dataclass of its settings, in the order in which positions an
 them. Its constructor refuses what the program refuses, by the same text. A state belongs to its
 game, and never changes. Moves are numbered from 0 (`Move`); what a player sees of a move is its
 label, `state.moves(side)[move]`. `state.play(one=.., two=..)` takes labels, `state.after(..)`
-numbers. Payoffs are whole numbers, what One gets; Two gets the negative. Bounds, elsewhere, are
+numbers. Payoffs are whole numbers, what One gets; Two gets the negative. An end pays, and in some
+games a turn pays too (`state.rewards(..)`): what a play pays is the sum. Bounds, elsewhere, are
 millionths of a payoff.
 """
 from __future__ import annotations
@@ -12,13 +13,13 @@ from __future__ import annotations
 import math
 from abc import ABC, abstractmethod
 from collections.abc import Collection, Iterable, Iterator, Sequence, Set
-from dataclasses import dataclass
+from dataclasses import dataclass, replace
 from fractions import Fraction
 from typing import Any, ClassVar, Final, Generic, Literal, NewType, Self, TypeVar, cast
 
 from ..errors import InputRefusedError, InvalidError
-from ..limits import MOST_KEY, MOST_ROWS
-from ..values import Record, as_field, is_whole, shorten
+from ..limits import MOST_KEY, MOST_ROWS, NEWEST_VERSION
+from ..values import Record, as_field, as_points, is_whole, shorten
 
 Side = Literal["one", "two"]
 SIDES: Final[tuple[Side, Side]] = ("one", "two")
@@ -51,7 +52,9 @@ class Field:
     """A field of a position: a whole number in its range, or a list of at most `most` of them, or
     one of `choices`.
 
-    An optional field has in `absent` the value that it stands for where it is left out.
+    An optional field has in `absent` the value that it stands for where it is left out. `late` has
+    the choices that reports have in the newest version alone. A list that is `optional` is left out
+    of a line where it is empty.
     """
 
     name: str
@@ -61,21 +64,30 @@ class Field:
     choices: tuple[str, ...] = ()
     absent: str | int | None = None
     about: str = ""
+    late: tuple[str, ...] = ()
+    optional: bool = False
 
     def refuse(self, value: object) -> None:
         """Refuses a value of another kind, then one out of range."""
-        kind, good = False, False
-        if self.choices:
-            kind, good = isinstance(value, str), value in self.choices
-        elif self.most is None:
-            kind, good = is_whole(value), is_whole(value) and self.low <= value <= self.high
-        elif isinstance(value, (list, tuple)):
-            kind = all(is_whole(number) for number in value)
-            good = kind and len(value) <= self.most and all(map(self._is_in, value))
+        kind, good = self._judged(value)
         if not good:
             fault = "range" if kind else "kind"
             raise InputRefusedError(f"input {15 if kind else 14} {fault} of {self.name}",
                                     self.told(value))
+
+    def takes(self, value: object) -> bool:
+        """Whether a value is of the field's kind and in its range."""
+        return self._judged(value)[1]
+
+    def _judged(self, value: object) -> tuple[bool, bool]:
+        """Whether a value is of the field's kind, and whether it is in its range too."""
+        if self.choices:
+            return isinstance(value, str), value in self.choices
+        if self.most is None:
+            return is_whole(value), is_whole(value) and self.low <= value <= self.high
+        if not isinstance(value, (list, tuple)) or not all(map(is_whole, value)):
+            return False, False
+        return True, len(value) <= self.most and all(map(self._is_in, value))
 
     def _is_in(self, number: int) -> bool:
         return self.low <= number <= self.high
@@ -161,6 +173,20 @@ class State(ABC):
             raise InvalidError(f"the game is not over in {self}, so it pays nothing")
         return self._payoff()
 
+    @property
+    def least(self) -> int:
+        """At most what One still gets from here on, in turns and at the end together."""
+        return self.game.low
+
+    @property
+    def most(self) -> int:
+        """At least what One still gets from here on, in turns and at the end together."""
+        return self.game.high
+
+    def opening(self, side: Side) -> int:
+        """The bound that each plan of the side guarantees from here on, in millionths."""
+        return SCALE * (self.least if side_of(side) == "one" else self.most)
+
     def moves(self, side: Side) -> tuple[int, ...]:
         """The labels of the player's moves, in the order of their numbers; none at an end."""
         return () if self.is_end else self._moves(side_of(side))
@@ -200,6 +226,17 @@ class State(ABC):
         """The chance of each draw after these moves (numbers), in parts of `CHANCE`."""
         return self._chances(*self._in_range(one, two))
 
+    def rewards(self, one: Move, two: Move) -> tuple[int, ...]:
+        """What One gets by the turn of these moves (numbers) itself, with each draw; all 0 in a
+        game that pays at its ends alone."""
+        return self.rewards_of_labels(*self._in_range(one, two))
+
+    def draw_names(self, one: Move, two: Move) -> tuple[str, ...]:
+        """A name for each draw after these moves (numbers); none where there is but one."""
+        labels = self._in_range(one, two)
+        count = len(self._chances(*labels))
+        return self._draw_names(*labels) if count > 1 else ()
+
     def after(self, one: Move, two: Move, draw: int = 0) -> Self:
         """The state after the moves with these numbers, and this draw, all from 0; `play` takes
         labels."""
@@ -223,6 +260,10 @@ class State(ABC):
         return [(chance, self.after_labels(one, two, draw))
                 for draw, chance in enumerate(self._chances(one, two))]
 
+    def rewards_of_labels(self, one: int, two: int) -> tuple[int, ...]:
+        """What `rewards` gives, of moves with these labels, which have to be there."""
+        return self._rewards(one, two)
+
     def _in_range(self, one: int, two: int) -> tuple[int, int]:
         """The labels of both moves."""
         mine, yours = self.moves("one"), self.moves("two")
@@ -236,6 +277,14 @@ class State(ABC):
     def _chances(self, one: int, two: int) -> tuple[int, ...]:
         """The chance of each draw after the moves with these labels."""
         return (CHANCE,)
+
+    def _rewards(self, one: int, two: int) -> tuple[int, ...]:
+        """What each draw after the moves with these labels pays One."""
+        return (0,) * len(self._chances(one, two))
+
+    def _draw_names(self, one: int, two: int) -> tuple[str, ...]:
+        """A name for each of several draws after the moves with these labels."""
+        return tuple(f"draw {draw}" for draw in range(len(self._chances(one, two))))
 
     @abstractmethod
     def _payoff(self) -> int:
@@ -259,11 +308,9 @@ class Game(ABC, Generic[S_co]):
 
     name: ClassVar[str]
     version: ClassVar[int] = 1
-    """The version of reports on this game."""
+    """The first version of reports that has this game."""
     settings: ClassVar[tuple[Field, ...]]
     """The fields of a position."""
-    line_settings: ClassVar[tuple[Field, ...]] = ()
-    """The fields of a report's second line, where they are others."""
 
     def __post_init__(self) -> None:
         for field in self.settings:
@@ -277,6 +324,21 @@ class Game(ABC, Generic[S_co]):
     @abstractmethod
     def _fault(self) -> tuple[str, str] | None:
         """The first rule that the settings break: its number and words, and what is wrong."""
+
+    @classmethod
+    def line_settings(cls, version: int) -> tuple[Field, ...]:
+        """The fields of the second line of a report of this version."""
+        return tuple(field if version >= NEWEST_VERSION or not field.late else
+                     replace(field, choices=tuple(word for word in field.choices
+                                                  if word not in field.late))
+                     for field in cls.settings)
+
+    @classmethod
+    def is_new(cls, values: Sequence[object]) -> bool:
+        """Whether only a report of the newest version can have these fields in its second line."""
+        before = cls.line_settings(NEWEST_VERSION - 1)
+        return len(values) > len(before) or not all(
+            field.takes(value) for field, value in zip(before, values))
 
     @classmethod
     def of_line(cls, *values: Any) -> Self:
@@ -299,13 +361,26 @@ class Game(ABC, Generic[S_co]):
 
     @property
     def low(self) -> int:
-        """The least payoff of the game."""
+        """At most what One still gets from any state on; the least payoff where ends alone pay."""
         return -1
 
     @property
     def high(self) -> int:
-        """The greatest payoff of the game."""
+        """At least what One still gets from any state on; the greatest payoff where ends alone
+        pay."""
         return 1
+
+    @property
+    def span(self) -> tuple[int, int]:
+        """The least and the greatest payoff of a whole play, as far as they are told by the
+        root."""
+        root = self.root()
+        return root.least, root.most
+
+    @property
+    def has_rewards(self) -> bool:
+        """Whether turns may pay, beside ends."""
+        return False
 
     @property
     @abstractmethod
@@ -317,6 +392,28 @@ class Game(ABC, Generic[S_co]):
         """At least the number of states that are no ends, where that is known without a walk;
         else the rows that a board can have."""
         return MOST_ROWS
+
+    def count_states(self) -> int | None:
+        """The number of states with moves that play can reach, where the game counts them without
+        a walk; `MOST_ROWS + 1` where they are more than a board has room for. None where it does
+        not count them."""
+        return None
+
+    def fits(self) -> bool | None:
+        """Whether a board has room for all states with moves; None where that is not known."""
+        if self.most_states < MOST_ROWS:
+            return True
+        count = self.count_states()
+        return None if count is None else count <= MOST_ROWS
+
+    def starting_at(self, state: State) -> AnyGame:
+        """The game that begins in a state of this one."""
+        raise InvalidError(f"{type(self).__name__} has no game that begins in another state")
+
+    def _own(self, state: State) -> None:
+        """Refuses a state of another game."""
+        if state.game != self:
+            raise InvalidError(f"a state of {state.game.title()} is none of {self.title()}")
 
     def state(self, key: int) -> S_co:
         """The state with this key, as reports name it."""
@@ -355,8 +452,8 @@ class Game(ABC, Generic[S_co]):
         return state
 
     def opening(self, side: Side) -> int:
-        """The bound that each plan of the side guarantees, in millionths: the least payoff for
-        One, the greatest for Two."""
+        """The bound that each plan of the side guarantees from any state on, in millionths: `low`
+        for One, `high` for Two. `state.opening(side)` is that of one state."""
         return SCALE * (self.low if side_of(side) == "one" else self.high)
 
     def resolution(self, weight: int) -> int:
@@ -368,9 +465,23 @@ class Game(ABC, Generic[S_co]):
         least += least * least < quotient
         return self.root().rank * (least + 1 + (not self.chance_free))
 
-    def unscaled(self, bound: int) -> Fraction:
+    def unscaled(self, bound: int | Fraction) -> Fraction:
         """A bound, in millionths, as a payoff of the rules, before `scale`."""
-        return Fraction(bound, SCALE) / self.scale
+        return Fraction(bound) / SCALE / self.scale
+
+    def of_rules(self, payoff: int | Fraction) -> Fraction:
+        """A payoff as one of the rules, before `scale`."""
+        return Fraction(payoff) / self.scale
+
+    def shown(self, bound: int, up: bool = False) -> str:
+        """A bound or gap, in millionths, as a payoff of the rules with 6 digits behind the point,
+        rounded down, or up."""
+        exact = bound / self.scale
+        return as_points(math.ceil(exact) if up else math.floor(exact))
+
+    def line_values(self) -> tuple[object, ...]:
+        """The fields of a report's second line."""
+        return tuple(self.values())
 
     def values(self) -> Iterator[object]:
         """The settings in the order of their fields."""
@@ -383,7 +494,7 @@ class Game(ABC, Generic[S_co]):
     def line(self) -> str:
         """The game as a report's second line has it, without `game`."""
         lists = (",".join(map(str, value)) or "-" if isinstance(value, tuple) else str(value)
-                 for value in self.values())
+                 for value in self.line_values())
         return " ".join([self.name, *lists])
 
     def title(self) -> str:

@@ -2,9 +2,10 @@
 from __future__ import annotations
 
 from dataclasses import dataclass, field
+from functools import lru_cache
 
 from ..limits import MOST_COINS, MOST_SIZE
-from .game import Field, Game, Side, State, packed, sign, unpacked
+from .game import AnyGame, Field, Game, Side, State, packed, sign, unpacked
 
 
 @dataclass(frozen=True)
@@ -80,6 +81,14 @@ class OshiZumo(Game[OshiZumoState]):
     def most_states(self) -> int:
         return (2 * self.size + 1) * (self.one + 1) * (self.two + 1)
 
+    def count_states(self) -> int:
+        return _reached(self)
+
+    def starting_at(self, state: State) -> AnyGame:
+        self._own(state)
+        assert isinstance(state, OshiZumoState)
+        return OshiZumo(self.size, state.one, state.two, self.least, state.place)
+
     def root(self) -> OshiZumoState:
         return OshiZumoState(self, self.place, self.one, self.two)
 
@@ -88,3 +97,24 @@ class OshiZumo(Game[OshiZumoState]):
         found = OshiZumoState(self, place - 16, one, two)
         known = abs(found.place) <= self.size + 1 and one <= self.one and two <= self.two
         return found if known else None
+
+
+@lru_cache(64)
+def _reached(game: OshiZumo) -> int:
+    """How many states with moves play can reach. For each pair of purses, richer ones first, the
+    places where the wrestler can stand, as bits."""
+    within = (1 << 2 * game.size + 1) - 1
+    places = {(game.one, game.two): 1 << game.place + game.size}
+    count = 0
+    for one in range(game.one, -1, -1):
+        for two in range(game.two, -1, -1):
+            stands = places.get((one, two), 0)
+            if not stands or max(one, two) < game.least:
+                continue
+            count += stands.bit_count()
+            steps = stands << 1 & within, stands, stands >> 1
+            for bid in range(game.least, one + 1) or (0,):
+                for reply in range(game.least, two + 1) or (0,):
+                    key = one - bid, two - reply
+                    places[key] = places.get(key, 0) | steps[1 - sign(bid - reply)]
+    return count

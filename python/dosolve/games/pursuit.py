@@ -3,11 +3,11 @@ from __future__ import annotations
 
 from collections.abc import Iterable, Sequence
 from dataclasses import dataclass, field
-from functools import cached_property
+from functools import cached_property, lru_cache
 
 from ..limits import MOST_NODES, MOST_ROUNDS
 from ..values import as_field
-from .game import Field, Game, Side, State, packed, unpacked
+from .game import AnyGame, Field, Game, Side, State, packed, unpacked
 
 
 @dataclass(frozen=True)
@@ -121,6 +121,14 @@ class Pursuit(Game[PursuitState]):
     def most_states(self) -> int:
         return self.nodes * self.nodes * self.rounds
 
+    def count_states(self) -> int:
+        return _reached(self)
+
+    def starting_at(self, state: State) -> AnyGame:
+        self._own(state)
+        assert isinstance(state, PursuitState)
+        return Pursuit(self.nodes, self.edges, state.one, state.two, state.rounds)
+
     def root(self) -> PursuitState:
         return PursuitState(self, self.one == self.two, self.rounds, self.one, self.two)
 
@@ -128,6 +136,21 @@ class Pursuit(Game[PursuitState]):
         caught, rounds, one, two = unpacked(key, 1, 5, 5, 5)
         known = rounds <= self.rounds and max(one, two) < self.nodes
         return PursuitState(self, bool(caught), rounds, one, two) if known else None
+
+
+@lru_cache(64)
+def _reached(game: Pursuit) -> int:
+    """How many states with moves play can reach: for each round the pairs of nodes. Who may stay
+    reaches no fewer pairs with each round, so a round adds only what new pairs lead to."""
+    pairs = new = {(game.one, game.two)} if game.one != game.two else set()
+    count = 0
+    for _ in range(game.rounds):
+        count += len(pairs)
+        met = {(one, two) for at, to in new for one in game.near[at] for two in game.near[to]
+               if one != two and (one, two) != (to, at)}
+        new = met - pairs
+        pairs = pairs | new
+    return count
 
 
 def _is_pair(value: object) -> bool:

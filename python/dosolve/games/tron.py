@@ -7,7 +7,7 @@ from dataclasses import dataclass
 from functools import cached_property
 
 from ..limits import MOST_GRID
-from .game import Field, Game, Side, State, members, packed, side_of, unpacked
+from .game import AnyGame, Field, Game, Side, State, members, packed, side_of, unpacked
 
 DIRECTIONS = ("north", "east", "south", "west")
 """What the labels 0 to 3 stand for."""
@@ -108,6 +108,12 @@ class Tron(Game[TronState]):
         steps = ((row - 1, column), (row, column + 1), (row + 1, column), (row, column - 1))
         return {direction: r * self.width + c for direction, (r, c) in enumerate(steps)
                 if 0 <= r < self.height and 0 <= c < self.width}
+
+    def starting_at(self, state: State) -> AnyGame:
+        self._own(state)
+        assert isinstance(state, TronState)
+        walls = sorted(state.taken - {state.one, state.two})
+        return Tron(self.height, self.width, walls, state.one, state.two)
 
     def root(self) -> TronState:
         return TronState(self, frozenset((*self.walls, self.one, self.two)), self.one, self.two)

@@ -23,7 +23,9 @@ HistoryPlay = Callable[[Side, Any, Sequence[Turn]], object]
 @dataclass(frozen=True)
 class HistoryPlayer:
     """A player whose move may depend on the turns that were played, and on anything else, as
-    chance: `play(side, state, history)`. It can play matches; it has no plan."""
+    chance: `play(side, state, history)`, where `history` is a tuple with a `Turn` for each turn so
+    far, the first one first: its `one` and `two` are labels of moves, its `draw` is a number. It
+    can play matches; it has no plan."""
 
     play: HistoryPlay
 
@@ -96,14 +98,16 @@ def _asking(player: Contender, side: Side) -> Ask:
 
 def _one_game(game: AnyGame, asks: Sequence[Ask],
               source: random.Random) -> tuple[tuple[Turn, ...], int]:
-    """The turns and the payoff of one game."""
+    """The turns of one game, and what they and its end pay."""
     state = game.root()
     turns: list[Turn] = []
+    paid = 0
     while not state.is_end:
         weights = [ask(state, tuple(turns)) for ask in asks]
         one, two = (Move(source.choices(range(len(each)), each)[0]) for each in weights)
         chances = state.chances(one, two)
         draw = source.choices(range(len(chances)), chances)[0]
+        paid += state.rewards(one, two)[draw] if game.has_rewards else 0
         turns.append(Turn(state.moves("one")[one], state.moves("two")[two], draw))
         state = state.after(one, two, draw)
-    return tuple(turns), state.payoff
+    return tuple(turns), paid + state.payoff

@@ -38,7 +38,8 @@ def load_table(path: FilePath) -> Table:
     except DosolveError:
         raise
     except (Exception, SystemExit) as fault:
-        raise InvalidError(f"table() of {path} raised {type(fault).__name__}: {fault}"
+        where = "".join(f" {note}" for note in getattr(fault, "__notes__", ()))
+        raise InvalidError(f"table() of {path} raised {type(fault).__name__}: {fault}{where}"
                            f"{fault_place(fault)}") from fault
     if not isinstance(made, Table):
         raise InvalidError(f"table() of {path} gives {shorten(made)}, and has to give a Table")

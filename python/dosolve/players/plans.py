@@ -77,8 +77,19 @@ def _listed(values: object, labels: Sequence[int] | None,
     if isinstance(values, Set):
         raise InvalidError(f"{shorten(values)} has no order, so it is no list of weights")
     if isinstance(values, (str, bytes)) or not isinstance(values, Iterable):
-        raise InvalidError(f"{shorten(values)} is no list of weights")
+        advice = _advice(values, labels, names)
+        raise InvalidError(f"{shorten(values)} is no list of weights{advice}")
     return list(values)
+
+
+def _advice(value: object, labels: Sequence[int] | None, names: Sequence[str]) -> str:
+    """What to return in place of a move alone, or of nothing."""
+    if value is None:
+        return ": the player has to return one weight for each move, or a dict {move: weight}"
+    known = value in names if isinstance(value, str) else value in (labels or ())
+    if known:
+        return f": return {{{value!r}: 1}} to play that move, or one weight for each move"
+    return ": return one weight for each move, or a dict such as {move: 1}"
 
 
 def _ratio(move: int, number: object) -> tuple[int, int]:
@@ -143,6 +154,15 @@ def _require_choice(choose: object) -> None:
 def chosen(choose: Choice, state: State, side: Side, weight: int,
            watched: bool = False) -> tuple[int, ...]:
     """What a player answers in a state, as whole weights; the message of a fault names both."""
+    try:
+        return _chosen(choose, state, side, weight, watched)
+    except PlayerError as fault:
+        fault.side = side
+        raise
+
+
+def _chosen(choose: Choice, state: State, side: Side, weight: int,
+            watched: bool) -> tuple[int, ...]:
     before = random.getstate() if watched else None
     try:
         answer = choose(state)

@@ -12,9 +12,9 @@ from typing import Protocol
 from ..errors import InvalidError
 from ..games.game import SCALE, AnyGame, Move, Side, State, side_of
 from ..limits import (
-    LEAST_WEIGHT, MOST_BOUND, MOST_KEY, MOST_MOVES, MOST_ROWS, MOST_WEIGHT,
+    LEAST_WEIGHT, MOST_BOUND, MOST_KEY, MOST_OWN_MOVES, MOST_WEIGHT, MOST_WIDE_ROWS,
 )
-from ..values import Record, as_points, cut, html_table, require_range, shorten
+from ..values import Record, cut, html_table, require_range, shorten
 
 SHOWN = 10
 """How many states of a plan a notebook shows."""
@@ -32,7 +32,8 @@ class Source(Protocol):
 @dataclass(frozen=True)
 class Row:
     """What a plan plays in one state: the state's key, the bound in millionths that the plan
-    guarantees from there on, and a weight for each of the player's moves."""
+    guarantees from there on, and a weight for each of the player's moves. In a report there are at
+    most 64; a game that is written in Python can have more."""
 
     key: int
     bound: int
@@ -42,9 +43,9 @@ class Row:
         require_range("the key of a row", self.key, 0, MOST_KEY)
         require_range(f"the bound of the row {self.key}", self.bound, -MOST_BOUND, MOST_BOUND)
         object.__setattr__(self, "weights", tuple(self.weights))
-        if not 1 <= len(self.weights) <= MOST_MOVES:
+        if not 1 <= len(self.weights) <= MOST_OWN_MOVES:
             raise InvalidError(f"the row {self.key} has {len(self.weights)} weights, and has to "
-                               f"have 1 to {MOST_MOVES}")
+                               f"have 1 to {MOST_OWN_MOVES}")
         for move, weight in enumerate(self.weights):
             require_range(f"weight {move} of the row {self.key}", weight, 0, MOST_WEIGHT)
 
@@ -68,8 +69,8 @@ class Sheet:
         side_of(self.side)
         require_range("the total of a sheet", self.total, LEAST_WEIGHT, MOST_WEIGHT)
         object.__setattr__(self, "rows", tuple(self.rows))
-        if len(self.rows) > MOST_ROWS:
-            raise InvalidError(f"a sheet has at most {MOST_ROWS} rows, not {len(self.rows)}")
+        if len(self.rows) > MOST_WIDE_ROWS:
+            raise InvalidError(f"a sheet has at most {MOST_WIDE_ROWS} rows, not {len(self.rows)}")
         for before, row in zip(self.rows, self.rows[1:]):
             if before.key >= row.key:
                 raise InvalidError(f"the keys of a sheet rise, but {row.key} follows {before.key}")
@@ -107,14 +108,27 @@ class Sheet:
     def unplayed(self) -> Iterator[State]:
         """The states whose rows are not played, since they have not one weight for each move, or
         another sum than the total."""
+        return iter(self._odd[0])
+
+    def strangers(self) -> list[int]:
+        """The keys of rows that are of no state of the game."""
+        return self._odd[1]
+
+    @cached_property
+    def _odd(self) -> tuple[list[State], list[int]]:
+        """The states whose rows are not played, and the keys that are of no state."""
+        unplayed: list[State] = []
+        strangers: list[int] = []
         for row in self.rows:
             try:
                 state = self.game.state(row.key)
             except InvalidError:
+                strangers.append(row.key)
                 continue
             count = len(state.moves(self.side))
             if count and (len(row.weights) != count or sum(row.weights) != self.total):
-                yield state
+                unplayed.append(state)
+        return unplayed, strangers
 
     def probabilities(self, state: State) -> dict[int, Fraction]:
         """What the plan plays in a state that is no end: the probability of each label."""
@@ -153,7 +167,7 @@ class Sheet:
 
     def table(self) -> list[Record]:
         """The rows as records, one for each move of each state, as `pandas.DataFrame` takes them:
-        key, bound (a payoff), label, its name, weight and probability."""
+        key, bound (a payoff of the rules), label, its name, weight and probability."""
         records = []
         for row in self.rows:
             state = self.game.state(row.key)
@@ -161,7 +175,8 @@ class Sheet:
             for label, name, weight in moves:
                 records.append({
                     "side": self.side, "key": row.key, "state": repr(state),
-                    "bound": row.bound / SCALE, "label": label, "name": name, "weight": weight,
+                    "bound": float(self.game.unscaled(row.bound)), "label": label,
+                    "name": name, "weight": weight,
                     "probability": weight / self.total,
                 })
         return records
@@ -176,7 +191,8 @@ class Sheet:
             if not state.is_end:
                 moves = [f"{name} {100 * float(share):.1f}%"
                          for name, share in self.named(state).items() if share]
-                lines.append((state, as_points(self.bound(state)), ", ".join(moves)))
+                bound = self.game.shown(self.bound(state), self.side == "two")
+                lines.append((state, bound, ", ".join(moves)))
         table = html_table(("state", "bound", "moves"), lines)
         return f"<p>{html.escape(repr(self))}</p>{table}"
 
@@ -186,9 +202,9 @@ class Sheet:
         return self.bound(self.game.root())
 
     def bound(self, state: State) -> int:
-        """The bound of the state's row; without one the payoff of an end, else the worst payoff of
-        the game; millionths."""
+        """The bound of the state's row; without one the payoff of an end, else the worst that the
+        side can still get from the state on; millionths."""
         row = self.row(state)
         if row is not None:
             return row.bound
-        return state.payoff * SCALE if state.is_end else self.game.opening(self.side)
+        return state.payoff * SCALE if state.is_end else state.opening(self.side)

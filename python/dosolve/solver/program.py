@@ -21,7 +21,7 @@ from ..limits import MOST_GAMES, MOST_SEED
 from ..players.sheets import Sheet
 from ..positions import Position, require_position
 from ..reports import Report, explained
-from ..values import FilePath, as_field, cut, require_range, shorten
+from ..values import FilePath, as_field, as_number, cut, require_range, shorten
 from .library import find_library
 from .process import GROUP, run
 from .progress import Bar, Follower, Listener
@@ -90,7 +90,8 @@ class WorstCase:
 
 @dataclass(frozen=True)
 class Turn:
-    """One turn of a game: the labels of both moves, and the number of the draw."""
+    """One turn of a game: the labels of both moves, and the number of the draw, 0 where there is
+    no chance. The `history` of a player has one for each turn so far, the first turn first."""
 
     one: int
     two: int
@@ -100,7 +101,8 @@ class Turn:
 @dataclass(frozen=True)
 class Match:
     """Games between two plans: the turns and the payoff of the first, and of all games their
-    number, the sum of payoffs, the least and the greatest. Payoffs are whole, and One's.
+    number, the sum of payoffs, the least and the greatest. Payoffs are whole, and One's: what the
+    turns and the end of a game pay, summed.
 
     `error` is the standard error of the mean, None where the games came of one seed: `match` has
     it, `play` has not.
@@ -120,15 +122,18 @@ class Match:
         return Fraction(self.sum, self.games)
 
     def told(self, game: AnyGame) -> list[str]:
-        """The turns of the first game in words: the state, both moves by their names, and the
-        draw where there are several."""
+        """The turns of the first game in words: the state, both moves by their names, the draw
+        where there are several, and what the turn pays where it does."""
         state = game.root()
         lines = []
         for turn in self.turns:
             one, two = state.move_labelled("one", turn.one), state.move_labelled("two", turn.two)
-            drawn = f", draw {turn.draw}" if len(state.chances(one, two)) > 1 else ""
+            draws = state.draw_names(one, two)
+            drawn = f", {draws[turn.draw]}" if draws else ""
             names = state.names("one")[one], state.names("two")[two]
-            lines.append(f"{state}: {names[0]} - {names[1]}{drawn}")
+            reward = game.of_rules(state.rewards(one, two)[turn.draw])
+            paid = f", pays {as_number(reward):g}" if reward else ""
+            lines.append(f"{state}: {names[0]} - {names[1]}{drawn}{paid}")
             state = state.after(one, two, turn.draw)
         return lines
 
@@ -153,7 +158,7 @@ class Solver:
         (`Progress`) about once a second, or True for a line on the terminal.
         """
         require_position(position, "solve")
-        bar = Bar(most=position.turns if position.turns < 10**9 else None)
+        bar = Bar(None, position.turns if position.turns < 10**9 else None, position.game.scale)
         listener = bar if progress is True else progress or None
         try:
             if seconds is None:
@@ -195,7 +200,7 @@ class Solver:
             follower = Follower(listener, since, bounds)
         text = self._answer(["solve"], position.text(), {0, 3, 4, 5}, follower, timeout)
         try:
-            return Report.read(text, position.game)
+            return replace(Report.read(text, position.game), board=position.rows)
         except ReportRefusedError as refusal:
             raise self._unexpected(f"no report ({refusal.text})", text) from None
 
@@ -224,6 +229,10 @@ class Solver:
             exact = Fraction(SCALE * int(found[1]), int(found[2]) ** int(found[3]))
             return WorstCase(side, exact, exact)
         return WorstCase(side, Fraction(int(found[4])), Fraction(int(found[5])))
+
+    def worst_case(self, report: Report | bytes | str, side: Side) -> WorstCase:
+        """The same as `exploit`."""
+        return self.exploit(report, side)
 
     def play(self, report: Report | bytes | str, games: int = 1000, seed: int = 0) -> Match:
         """Games (1 to 100000) between both plans of a report; one seed (0 to 2^64 - 1) makes the
@@ -298,6 +307,10 @@ class Solver:
             if text == "input 13 unknown field" and b'"stages":' in given:
                 return InputRefusedError(text, "the program is older than this package, and has no "
                                                "field `stages`: ask stages='regret'")
+            if text in ("input 15 range of pay", "input 15 range of states"):
+                # The package has refused what no program takes.
+                return InputRefusedError(text, "the program is older than this package, and does "
+                                               "not know turns that pay")
             if text == "input 16 game name":
                 return InputRefusedError(text, "the program is older than this package, and does "
                                                "not know the game")

@@ -1,11 +1,13 @@
 """How far a search is, as the program prints it while it works."""
 from __future__ import annotations
 
+import math
 import re
 import sys
 import time
 from collections.abc import Callable, Iterable
-from dataclasses import dataclass
+from dataclasses import dataclass, replace
+from fractions import Fraction
 from typing import TextIO
 
 from ..values import as_points
@@ -30,6 +32,13 @@ class Progress:
         if self.lower is None or self.upper is None:
             return None
         return self.upper - self.lower
+
+    def of_rules(self, scale: Fraction) -> Progress:
+        """The same with the bounds of the rules, where payoffs were multiplied by this number;
+        rounded to the safe side."""
+        lower = None if self.lower is None else math.floor(self.lower / scale)
+        upper = None if self.upper is None else math.ceil(self.upper / scale)
+        return replace(self, lower=lower, upper=upper)
 
     def __str__(self) -> str:
         found = f"{self.seconds:.0f} s, {self.turns} turns"
@@ -129,14 +138,18 @@ def read_progress(lines: Iterable[str]) -> list[Progress]:
 class Bar:
     """Shows progress on one line of a terminal, and nothing where there is none."""
 
-    def __init__(self, stream: TextIO | None = None, most: int | None = None) -> None:
+    def __init__(self, stream: TextIO | None = None, most: int | None = None,
+                 scale: Fraction = Fraction(1)) -> None:
         self.stream = stream or sys.stderr
         self.most = most
+        self.scale = scale
         self.shown = 0
 
-    def __call__(self, step: Progress | PlanProgress) -> None:
+    def __call__(self, step: object) -> None:
         if not self.stream.isatty():
             return
+        if isinstance(step, Progress):
+            step = step.of_rules(self.scale)
         share = ""
         if self.most and isinstance(step, Progress):
             share = f" ({100 * step.turns / self.most:.0f}% of the turns)"

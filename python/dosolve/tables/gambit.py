@@ -3,6 +3,7 @@ writes extensive forms."""
 from __future__ import annotations
 
 import re
+from bisect import bisect
 from collections.abc import Callable
 from dataclasses import dataclass, field
 from fractions import Fraction
@@ -10,10 +11,11 @@ from pathlib import Path
 from typing import Any
 
 from ..errors import InvalidError, NoTableError
-from ..games.game import CHANCE, SIDES, AnyGame, Move, State
+from ..exact import steps
+from ..games.game import CHANCE, SIDES, AnyGame, State
 from ..values import FilePath, cut, shorten
-from .building import ONLY, Built, Deal, End, Outcomes, Turn, build, exact, merged, of_matrix
-from .building import unique
+from .building import ONLY, Built, Deal, End, Outcome, Outcomes, Turn, build, exact, merged
+from .building import of_matrix, unique
 
 MOST_NODES = 200_000
 """The nodes of an extensive form that is written."""
@@ -30,15 +32,18 @@ Made = tuple[Built, Callable[[Any], str]]
 def of_gambit(text: str) -> Made:
     """The table of the text of a file of Gambit."""
     words = _Words(text)
-    kind = words.take("NFG or EFG")
-    words.take("a version")
-    words.take("R or D")
-    words.quoted("a title")
-    if kind == "NFG":
-        return _strategic(words)
-    if kind == "EFG":
-        return _extensive(words)
-    raise NoTableError(f"a file of Gambit begins with NFG or EFG, not {shorten(kind)}")
+    kind = words.peek()
+    if kind not in ("NFG", "EFG"):
+        raise NoTableError(f"this is no file of Gambit, which begins with NFG or EFG: it "
+                           f"{f'begins with {shorten(kind)}' if kind else 'is empty'}")
+    try:
+        words.take("NFG or EFG")
+        words.take("a version")
+        words.take("R or D")
+        words.quoted("a title")
+        return _strategic(words) if kind == "NFG" else _extensive(words)
+    except NoTableError as fault:
+        raise NoTableError(f"line {words.fault or words.line}: {fault}") from None
 
 
 class _Text(str):
@@ -49,9 +54,19 @@ class _Words:
     """The words of a file, one after the other."""
 
     def __init__(self, text: str) -> None:
+        tokens = list(_TOKEN.finditer(text))
         self.words = [_Text(found[1].replace('\\"', '"')) if found[1] is not None else found[0]
-                      for found in _TOKEN.finditer(text)]
+                      for found in tokens]
+        ends = [place for place, letter in enumerate(text) if letter == "\n"]
+        self.lines = [1 + bisect(ends, found.start()) for found in tokens]
         self.at = 0
+        self.fault = 0
+        """The line of a fault that is found when all was read."""
+
+    @property
+    def line(self) -> int:
+        """The line of the word that was taken last."""
+        return self.lines[max(0, min(self.at, len(self.lines)) - 1)] if self.lines else 1
 
     def peek(self) -> str:
         """The next word, empty at the end."""
@@ -60,7 +75,7 @@ class _Words:
     def take(self, what: str) -> str:
         """The next word."""
         if self.at >= len(self.words):
-            raise NoTableError(f"the file ends where {what} has to stand")
+            raise NoTableError(f"expected {what}, and the file ends")
         self.at += 1
         return self.words[self.at - 1]
 
@@ -68,15 +83,14 @@ class _Words:
         """The next word, which has to stand in quotation marks."""
         word = self.take(what)
         if not isinstance(word, _Text):
-            raise NoTableError(f"{shorten(word)} stands where {what} in quotation marks has to "
-                               f"stand")
+            raise NoTableError(f"expected {what} in quotation marks, not {shorten(word)}")
         return str(word)
 
     def number(self, what: str) -> int:
         """The next word, a whole number."""
         word = self.take(what)
         if isinstance(word, _Text) or not re.fullmatch(r"-?\d+", word):
-            raise NoTableError(f"{shorten(word)} stands where {what}, a whole number, has to stand")
+            raise NoTableError(f"expected {what}, a whole number, not {shorten(word)}")
         return int(word)
 
     def is_next(self, word: str) -> bool:
@@ -86,7 +100,8 @@ class _Words:
     def group(self, what: str) -> Group:
         """What stands between braces, groups in it as lists."""
         if not self.is_next("{"):
-            raise NoTableError(f"{shorten(self.peek())} stands where {what} in braces has to stand")
+            there = f"not {shorten(self.peek())}" if self.peek() else "and the file ends"
+            raise NoTableError(f"expected {what} in braces, {there}")
         self.take(what)
         found: Group = []
         while not self.is_next("}"):
@@ -124,10 +139,10 @@ def _strategic(words: _Words) -> Made:
         pairs = [_pair([words.take("a payoff"), words.take("a payoff")]) for _ in range(count)]
     if words.peek():
         raise NoTableError(f"{shorten(words.peek())} stands behind the end of the game")
-    _require_sum(pairs)
+    _require_sum(words, pairs, [words.line] * len(pairs))
     matrix = [[pairs[row + len(one) * column][0] for column in range(len(two))]
               for row in range(len(one))]
-    return of_matrix(matrix, one, two, None), lambda node: "root"
+    return of_matrix(matrix, one, two), lambda node: "root"
 
 
 def _pair(words: Group) -> tuple[Fraction, Fraction]:
@@ -138,25 +153,32 @@ def _pair(words: Group) -> tuple[Fraction, Fraction]:
     return one, two
 
 
-def _require_sum(pairs: list[tuple[Fraction, Fraction]]) -> None:
-    """Refuses payoffs of different sums."""
-    sums = sorted({one + two for one, two in pairs})
-    if len(sums) > 1:
-        raise NoTableError(f"the game is not zero-sum: payoffs sum to {sums[0]} and to {sums[-1]}")
+def _require_sum(words: _Words, pairs: list[tuple[Fraction, Fraction]], lines: list[int]) -> None:
+    """Refuses payoffs of different sums; the lines are those where they stand."""
+    sums = [one + two for one, two in pairs]
+    for line, each in zip(lines, sums):
+        if each != sums[0]:
+            words.fault = line
+            raise NoTableError(f"the game is not zero-sum: payoffs sum to {each} here, and to "
+                               f"{sums[0]} before")
 
 
 @dataclass
 class _Node:
     """A node of an extensive form: whose it is (0 chance, 1 or 2 a player, -1 nobody's), its
-    information set, the payoffs of both on the way to it, and its actions with what follows."""
+    information set, what One gets on coming to it, the payoffs of both on the whole way to it, and
+    its actions with what follows."""
 
     name: str
     player: int
     group: int = 0
+    reward: Fraction = Fraction(0)
     paid: tuple[Fraction, Fraction] = (Fraction(0), Fraction(0))
     actions: list[str] = field(default_factory=list)
     chances: list[Fraction] = field(default_factory=list)
     after: list[int] = field(default_factory=list)
+    line: int = 0
+    drawn: str = ""
 
 
 class _Tree:
@@ -188,8 +210,11 @@ class _Tree:
         """Reads one node."""
         kind = self.words.take("a node")
         if kind not in ("c", "p", "t") or isinstance(kind, _Text):
-            raise NoTableError(f"{shorten(kind)} stands where a node (c, p or t) has to stand")
-        node = _Node(self.words.quoted("the name of a node"), -1 if kind == "t" else 0)
+            raise NoTableError(f"expected a node (c, p or t), not {shorten(kind)}")
+        line = self.words.line
+        node = _Node(self.words.quoted("the name of a node"), -1 if kind == "t" else 0, line=line)
+        if above is not None and above.player == 0:
+            node.drawn = above.actions[len(above.after)]
         if kind == "p":
             node.player = self.words.number("the number of a player")
             if node.player not in (1, 2):
@@ -198,6 +223,7 @@ class _Tree:
             self.read_actions(node)
         paid = self.paid()
         before = above.paid if above is not None else self.outcomes[0]
+        node.reward = paid[0]
         node.paid = before[0] + paid[0], before[1] + paid[1]
         return node
 
@@ -231,16 +257,21 @@ class _Tree:
         return self.outcomes[number]
 
     def name(self, number: int) -> str:
-        """The name of a node, its number where it has none."""
-        return self.nodes[number].name or f"node {number}"
+        """The name of a node; where it has none, that of the draw that leads to it, or its
+        number."""
+        return self.nodes[number].name or self.nodes[number].drawn or f"node {number}"
 
-    def behind(self, number: int) -> Outcomes:
-        """A node, or the nodes behind its draws."""
+    def behind(self, number: int, paid: Fraction = Fraction(0)) -> Outcomes:
+        """A node, or the nodes behind its draws, with what is paid on the way there, behind what
+        was paid before; an end pays its own outcome itself."""
         node = self.nodes[number]
+        if not node.actions:
+            return [Outcome(number, Fraction(1), paid)]
+        paid += node.reward
         if node.player:
-            return [(number, Fraction(1))]
-        return [(after, chance * inner) for at, chance in zip(node.after, node.chances)
-                for after, inner in self.behind(at)]
+            return [Outcome(number, Fraction(1), paid)]
+        return [each._replace(chance=chance * each.chance)
+                for at, chance in zip(node.after, node.chances) for each in self.behind(at, paid)]
 
     def is_alone(self, number: int) -> bool:
         """Whether a player tells a node from each other."""
@@ -252,19 +283,24 @@ class _Tree:
         not see the first one's."""
         node = self.nodes[number]
         if not node.actions:
-            return End(node.paid[0])
+            return End(node.reward)
         if not self.is_alone(number):
+            self.words.fault = node.line
             raise NoTableError(f"player {node.player} does not tell {self.name(number)!r} from "
                                f"other nodes: a table shows the state to both players, so such a "
                                f"game is one only as a matrix of whole strategies (.nfg)")
         below = [self.nodes[after] for after in node.after]
         members = self.groups.get((below[0].player, below[0].group), [])
         names = unique(node.actions)
+        # What the first node pays is paid by its turn, since no turn leads there.
+        before = node.reward if number == 0 else Fraction(0)
         if below[0].player == 3 - node.player and members == node.after and len(members) > 1:
-            rows = [[self.behind(after) for after in each.after] for each in below]
+            rows = [[self.behind(after, before + each.reward) for after in each.after]
+                    for each in below]
             both = names, unique(below[0].actions)
         else:
-            rows, both = [[self.behind(after)] for after in node.after], (names, (ONLY,))
+            rows = [[self.behind(after, before)] for after in node.after]
+            both = names, (ONLY,)
         if node.player == 1:
             return Turn(rows, both)
         return Turn([list(column) for column in zip(*rows)], (both[1], both[0]))
@@ -276,10 +312,11 @@ def _extensive(words: _Words) -> Made:
     if isinstance(words.peek(), _Text):
         words.take("a comment")
     tree = _Tree(words)
-    _require_sum([node.paid for node in tree.nodes if not node.actions])
-    first = tree.behind(0)
-    root = first[0][0] if len(first) == 1 else Deal(tuple(merged(first)))
-    return build(root, tree.expand), tree.name
+    ends = [node for node in tree.nodes if not node.actions]
+    _require_sum(words, [node.paid for node in ends], [node.line for node in ends])
+    first = [Outcome(0)] if tree.nodes[0].player else tree.behind(0)
+    plain = len(first) == 1 and not first[0].reward
+    return build(first[0].node if plain else Deal(tuple(merged(first))), tree.expand), tree.name
 
 
 def save_gambit(game: AnyGame, path: FilePath) -> None:
@@ -296,6 +333,7 @@ class _Writer:
         self.lines = [f'EFG 2 R {_quoted(cut(game.title(), 200))} {{ "One" "Two" }}']
         self.groups = [0, 0, 0]
         self.outcomes: dict[int, int] = {}
+        """The numbers of outcomes by what they pay One."""
 
     def text(self) -> str:
         """The file."""
@@ -313,31 +351,43 @@ class _Writer:
         self.groups[player] += 1
         return self.groups[player]
 
-    def add_state(self, state: State) -> None:
-        """A state and all that follows it. Who has one move alone has no node."""
+    def outcome(self, paid: int) -> str:
+        """An outcome that pays this, as a node that is no end has it."""
+        return self.end(paid) if paid else "0"
+
+    def end(self, paid: int) -> str:
+        """An outcome that pays this."""
+        number = self.outcomes.setdefault(paid, len(self.outcomes) + 1)
+        payoff = paid / self.game.scale
+        return f'{number} "" {{ {payoff} {-payoff} }}'
+
+    def add_state(self, state: State, paid: int = 0) -> None:
+        """A state and all that follows it, at whose first node this is paid. Who has one move alone
+        has no node."""
         if state.is_end:
-            number = self.outcomes.setdefault(state.payoff, len(self.outcomes) + 1)
-            payoff = state.payoff / self.game.scale
-            self.add(f't "" {number} "" {{ {payoff} {-payoff} }}')
+            self.add(f't "" {self.end(paid + state.payoff)}')
             return
         name, of_two = _quoted(cut(str(state), 100)), self.group(2)
         one, two = state.names("one"), state.names("two")
         if len(one) > 1:
-            self.add(f'p {name} 1 {self.group(1)} "" {_actions(one)} 0')
-        for move in range(len(one)):
+            self.add(f'p {name} 1 {self.group(1)} "" {_actions(one)} {self.outcome(paid)}')
+            paid = 0
+        for mine in state.moves("one"):
             if len(two) > 1:
-                self.add(f'p {name} 2 {of_two} "" {_actions(two)} 0')
-            for reply in range(len(two)):
-                self.add_outcomes(state.outcomes(Move(move), Move(reply)))
+                self.add(f'p {name} 2 {of_two} "" {_actions(two)} {self.outcome(paid)}')
+            left = paid if len(two) == 1 else 0
+            for yours in state.moves("two"):
+                self.add_outcomes(list(steps(state, mine, yours)), left)
 
-    def add_outcomes(self, outcomes: list[tuple[int, State]]) -> None:
-        """What follows a pair of moves."""
+    def add_outcomes(self, outcomes: list[tuple[int, State, int]], paid: int) -> None:
+        """What follows a pair of moves, behind what is yet to be paid."""
         if len(outcomes) > 1:
             draws = " ".join(f'"{draw}" {Fraction(chance, CHANCE)}'
-                             for draw, (chance, _) in enumerate(outcomes))
-            self.add(f'c "" {self.group(0)} "" {{ {draws} }} 0')
-        for _, after in outcomes:
-            self.add_state(after)
+                             for draw, (chance, _, _) in enumerate(outcomes))
+            self.add(f'c "" {self.group(0)} "" {{ {draws} }} {self.outcome(paid)}')
+            paid = 0
+        for _, after, reward in outcomes:
+            self.add_state(after, paid + reward)
 
 
 def _quoted(text: str) -> str:

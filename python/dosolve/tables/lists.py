@@ -1,4 +1,4 @@
-"""The five lists of a table's line in a report, and the rules that a playable table keeps.
+"""The lists of a table's line in a report, five or six, and the rules that a playable table keeps.
 
 `listing` is a table as a position has it: ends, and lists of rows of cells.
 """
@@ -9,7 +9,9 @@ from dataclasses import dataclass
 from itertools import accumulate
 
 from ..games.game import CHANCE, Field
-from ..limits import MOST_DRAWS, MOST_MOVES, MOST_PAYOFF, MOST_RANK, MOST_STATES
+from ..limits import (
+    MOST_DRAWS, MOST_MOVES, MOST_PAYOFF, MOST_RANK, MOST_REWARD, MOST_STATES, MOST_WIDE_STATES,
+)
 from ..values import shorten
 
 MOST_WIDTH = 255
@@ -19,6 +21,9 @@ MOST_END = 1_000_000
 MOST_NUMBER = 1_048_575
 """The greatest size of an end and of any other number in a text."""
 
+MOST_WIDE_NUMBER = 16_777_215
+"""The greatest number of a state, and the greatest weight, in a report of the newest version."""
+
 LINE = (
     Field("ranks", 0, MOST_STATES, most=MOST_STATES),
     Field("moves", 0, MOST_WIDTH, most=2 * MOST_STATES),
@@ -26,16 +31,26 @@ LINE = (
     Field("cells", -MOST_NUMBER - 1, MOST_NUMBER, most=MOST_STATES),
     Field("draws", 0, MOST_NUMBER, most=MOST_STATES),
 )
-"""The fields of a report's line."""
+"""The fields of the line of a report below the newest version."""
+
+WIDE_LINE = (
+    Field("ranks", 0, MOST_WIDE_STATES, most=MOST_WIDE_STATES),
+    Field("moves", 0, MOST_WIDTH, most=2 * MOST_WIDE_STATES),
+    Field("values", -MOST_END, MOST_WIDE_STATES, most=MOST_WIDE_STATES),
+    Field("cells", -MOST_WIDE_NUMBER - 1, MOST_WIDE_NUMBER, most=MOST_WIDE_STATES),
+    Field("draws", 0, MOST_WIDE_NUMBER, most=2 * MOST_WIDE_STATES),
+    Field("rewards", -MOST_REWARD, MOST_REWARD, most=MOST_WIDE_STATES, optional=True),
+)
+"""The fields of the line of a report of the newest version."""
 
 Fault = tuple[str, str]
 """The number and the words of a refusal, and what is wrong."""
 
-Draws = list[tuple[int, int]]
-"""The states that can follow, with their weights."""
+Draws = list[tuple[int, int, int]]
+"""The states that can follow, with their weights, and what One gets by the turn."""
 
 Cell = int | Sequence[Sequence[int]]
-"""The state that follows, or draws."""
+"""The state that follows, or draws, each a state and a weight, or these and what it pays."""
 
 Listed = int | Sequence[Sequence[Cell]]
 """A state: the payoff of an end, or rows of cells."""
@@ -49,13 +64,20 @@ _LIST = (list, tuple)
 @dataclass(frozen=True)
 class Lists:
     """The lists of a table: for each state its rank, the moves of both sides, and the payoff of an
-    end or the place of the first cell; the cells of all states; and the draws, two numbers each."""
+    end or the place of the first cell; the cells of all states; the draws, two numbers each; and
+    what each draw pays, where any turn of the table may pay."""
 
     ranks: Sequence[int]
     moves: Sequence[int]
     values: Sequence[int]
     cells: Sequence[int]
     draws: Sequence[int]
+    rewards: Sequence[int] = ()
+
+    def told(self) -> tuple[Sequence[int], ...]:
+        """The lists as a line has them, without rewards where there are none."""
+        five = self.ranks, self.moves, self.values, self.cells, self.draws
+        return (*five, self.rewards) if self.rewards else five
 
     @property
     def inner(self) -> Iterator[int]:
@@ -76,8 +98,9 @@ class Lists:
         """The draws of each cell that has any, by its place in `cells`."""
         drawn = [(at, -1 - cell) for at, cell in enumerate(self.cells) if cell < 0]
         ends = [first for _, first in drawn[1:]] + [len(self.draws) // 2]
-        pairs = list(zip(self.draws[::2], self.draws[1::2]))
-        return {at: pairs[first:end] for (at, first), end in zip(drawn, ends)}
+        rewards = self.rewards or [0] * (len(self.draws) // 2)
+        found = list(zip(self.draws[::2], self.draws[1::2], rewards))
+        return {at: found[first:end] for (at, first), end in zip(drawn, ends)}
 
 
 def kind_fault(listing: object) -> str | None:
@@ -109,8 +132,9 @@ def _draw_kinds(place: tuple[int, ...], cell: object) -> Iterator[str]:
         return
     for number, draw in enumerate(cell):
         if not isinstance(draw, _LIST) or not all(type(each) is int for each in draw):
-            yield _told((*place, number), draw, "a list of two whole numbers, a state and its "
-                                                f"weight out of {CHANCE}")
+            yield _told((*place, number), draw, "a list of whole numbers, a state, its weight out "
+                                                f"of {CHANCE} and, where the turn pays, what "
+                                                "One gets")
 
 
 def range_fault(listing: Listing) -> str | None:
@@ -146,8 +170,11 @@ def _draw_ranges(place: tuple[int, ...], cell: Sequence[Sequence[int]]) -> Itera
     if len(cell) > MOST_WIDTH:
         yield f"{_at(place)} has to have at most {MOST_WIDTH} draws"
     for number, draw in enumerate(cell):
-        if len(draw) != 2 or not all(0 <= each <= MOST_NUMBER for each in draw):
-            yield _told((*place, number), draw, f"two numbers from 0 to {MOST_NUMBER}")
+        if len(draw) not in (2, 3) or not all(0 <= each <= MOST_NUMBER for each in draw[:2]):
+            yield _told((*place, number), draw, f"two numbers from 0 to {MOST_NUMBER}, and a third "
+                                                f"where the turn pays")
+        elif abs(sum(draw[2:])) > MOST_REWARD:
+            yield _told((*place, number, 2), draw[2], f"from -{MOST_REWARD} to {MOST_REWARD}")
 
 
 def _at(place: tuple[int, ...]) -> str:
@@ -165,6 +192,8 @@ def listed(listing: Listing) -> Lists:
     values: list[int] = []
     cells: list[int] = []
     draws: list[int] = []
+    rewards: list[int] = []
+    pays = False
     after: list[list[int]] = []
     for state in listing:
         after.append([])
@@ -181,9 +210,34 @@ def listed(listing: Listing) -> Lists:
                 after[-1].append(cell)
             else:
                 cells.append(-1 - len(draws) // 2)
-                draws += [number for draw in cell for number in draw]
+                draws += [number for draw in cell for number in draw[:2]]
+                rewards += [sum(draw[2:]) for draw in cell]
+                pays = pays or any(len(draw) > 2 for draw in cell)
                 after[-1] += [draw[0] for draw in cell]
-    return Lists(_ranks(listing, after), moves, values, cells, draws)
+    return Lists(_ranks(listing, after), moves, values, cells, draws, rewards if pays else [])
+
+
+def spelled(listing: Listing) -> Listing:
+    """The same table with one spelling of rewards: where any draw pays, a draw that does not has
+    two numbers; where none does, and one has three numbers, all have."""
+    thirds = [draw[2] for state in listing if not isinstance(state, int) for row in state
+              for cell in row if not isinstance(cell, int) for draw in cell if len(draw) > 2]
+    if not thirds:
+        return listing
+    none = not any(thirds)
+
+    def told(cell: Cell) -> Cell:
+        if isinstance(cell, int):
+            return cell
+        return tuple(_draw(draw[0], draw[1], sum(draw[2:]), none) for draw in cell)
+
+    return tuple(state if isinstance(state, int) else tuple(tuple(map(told, row)) for row in state)
+                 for state in listing)
+
+
+def _draw(state: int, weight: int, reward: int, third: bool) -> tuple[int, ...]:
+    """A draw, with a third number where it pays or is to have one."""
+    return (state, weight, reward) if reward or third else (state, weight)
 
 
 def _ranks(listing: Listing, after: list[list[int]]) -> list[int]:
@@ -198,14 +252,16 @@ def _ranks(listing: Listing, after: list[list[int]]) -> list[int]:
 
 def nested(lists: Lists) -> tuple[Listed, ...]:
     """The listing of the lists of a playable table."""
-    draws = lists.draws_of()
+    third = bool(lists.rewards) and not any(lists.rewards)
+    draws = {at: tuple(_draw(*draw, third) for draw in cell)
+             for at, cell in lists.draws_of().items()}
     listing: list[Listed] = []
     for state, rank in enumerate(lists.ranks):
         if not rank:
             listing.append(lists.values[state])
             continue
         twos = lists.moves[2 * state + 1]
-        cells: list[Cell] = [tuple(draws[at]) if at in draws else lists.cells[at]
+        cells: list[Cell] = [draws[at] if at in draws else lists.cells[at]
                              for at in lists.cells_of(state)]
         listing.append(tuple(tuple(cells[at:at + twos]) for at in range(0, len(cells), twos)))
     return tuple(listing)
@@ -214,7 +270,7 @@ def nested(lists: Lists) -> tuple[Listed, ...]:
 def fault_of(lists: Lists) -> Fault | None:
     """The first rule that the lists break."""
     if not _fit(lists):
-        return "81 lists", "the five lists of the line do not fit each other"
+        return "81 lists", "the lists of the line do not fit each other"
     if not lists.ranks:
         return "82 no states", "a table has at least one state, its root"
     return next(_faults(lists), None)
@@ -224,6 +280,8 @@ def _fit(lists: Lists) -> bool:
     """Whether the lists are those of some listing."""
     count = len(lists.ranks)
     if (len(lists.moves), len(lists.values), len(lists.draws) % 2) != (2 * count, count, 0):
+        return False
+    if lists.rewards and 2 * len(lists.rewards) != len(lists.draws):
         return False
     if any(lists.moves[2 * state] or lists.moves[2 * state + 1]
            for state, rank in enumerate(lists.ranks) if not rank):
@@ -264,6 +322,7 @@ def _faults(lists: Lists) -> Iterator[Fault]:
                         "88 order", f"leads to the state {after}, and has to lead to one that "
                         f"stands behind {state}, of the {len(lists.ranks)} that there are"))
     yield from _rank_faults(lists, draws)
+    yield from _total_faults(lists)
 
 
 def _of_cell(lists: Lists, at: int, fault: Fault) -> Fault:
@@ -274,7 +333,7 @@ def _of_cell(lists: Lists, at: int, fault: Fault) -> Fault:
 
 def _after(lists: Lists, draws: Mapping[int, Draws], at: int) -> Sequence[int]:
     """The states that a cell leads to."""
-    return [after for after, _ in draws[at]] if at in draws else (lists.cells[at],)
+    return [draw[0] for draw in draws[at]] if at in draws else (lists.cells[at],)
 
 
 def _count_fault(draws: Draws) -> Fault | None:
@@ -284,7 +343,7 @@ def _count_fault(draws: Draws) -> Fault | None:
 
 
 def _weight_fault(draws: Draws) -> Fault | None:
-    weights = [weight for _, weight in draws]
+    weights = [draw[1] for draw in draws]
     if all(weights) and sum(weights) == CHANCE:
         return None
     return "87 weights", (f"has the weights {shorten(weights)}, and needs weights from 1 that sum "
@@ -299,3 +358,29 @@ def _rank_faults(lists: Lists, draws: Mapping[int, Draws]) -> Iterator[Fault]:
         if rank > MOST_RANK or rank != 1 + after:
             yield (f"89 turns {state}", f"the longest way from the state {state} takes "
                    f"{1 + after} turns, its rank is {rank}, and at most {MOST_RANK} are possible")
+
+
+def _total_faults(lists: Lists) -> Iterator[Fault]:
+    for state, (least, most) in enumerate(totals(lists)):
+        if least < -MOST_PAYOFF or most > MOST_PAYOFF:
+            yield (f"90 total {state}", f"from the state {state} on One can get from {least} to "
+                   f"{most}, and has to get from -{MOST_PAYOFF} to {MOST_PAYOFF}")
+
+
+def totals(lists: Lists) -> list[tuple[int, int]]:
+    """For each state of a table whose turns may pay the least and the greatest sum that One can
+    still get from it on; none where no turn may pay. Cells have to lead to states behind their
+    own."""
+    if not lists.rewards:
+        return []
+    draws = lists.draws_of()
+    found = [(0, 0)] * len(lists.ranks)
+    for state in reversed(range(len(lists.ranks))):
+        if not lists.ranks[state]:
+            found[state] = lists.values[state], lists.values[state]
+            continue
+        steps = [draw for at in lists.cells_of(state)
+                 for draw in draws.get(at) or [(lists.cells[at], CHANCE, 0)]]
+        found[state] = (min(reward + found[after][0] for after, _, reward in steps),
+                        max(reward + found[after][1] for after, _, reward in steps))
+    return found

@@ -42,7 +42,8 @@ def _are_names(text: bytes) -> bool:
         found = json.loads(text or b"{}")
     except ValueError:
         return False
-    return isinstance(found, dict) and found.keys() <= {"table", "scale", "states", "moves"}
+    known = {"table", "scale", "error", "states", "moves"}
+    return isinstance(found, dict) and found.keys() <= known
 
 
 def with_names(game: AnyGame, path: FilePath) -> AnyGame:

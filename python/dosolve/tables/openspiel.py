@@ -8,8 +8,11 @@ from typing import Any, Protocol, cast
 
 from ..errors import NoTableError
 from ..games.game import SIDES
+from ..limits import SUM_ERROR
 from ..values import shorten
-from .building import ONLY, Built, Deal, End, Outcomes, Turn, build, exact, merged, unique
+from .building import ONLY, Built, Deal, End, Outcome, Outcomes, Turn, build, exact, merged
+from .building import unique
+from .making import TableListener
 
 Key = Callable[[Any], Hashable]
 """A function that tells states apart."""
@@ -17,8 +20,8 @@ Key = Callable[[Any], Hashable]
 
 class OpenSpielState(Protocol):
     """The calls of OpenSpiel's `State` that make a table. `clone`, `action_to_string`,
-    `num_players` and `get_game` are used where they are there; `apply_actions` where both players
-    move at once, and the calls of chance nodes where there are any."""
+    `num_players`, `get_game` and `rewards` are used where they are there; `apply_actions` where
+    both players move at once, and the calls of chance nodes where there are any."""
 
     def is_terminal(self) -> bool:
         """Whether the game is over."""
@@ -59,17 +62,27 @@ Reached = list[tuple[OpenSpielState, Fraction]]
 """States with their chances."""
 
 
-def of_openspiel(game: OpenSpielGame | OpenSpielState, key: Key | None, rounded: bool,
-                 trust: bool) -> tuple[Built, list[OpenSpielState | None]]:
+def of_openspiel(game: OpenSpielGame | OpenSpielState, key: Key | None, rounded: bool, trust: bool,
+                 progress: TableListener | bool = False
+                 ) -> tuple[Built, list[OpenSpielState | None]]:
     """The table of the game that begins at a state or at the root of a game; and its states."""
     state = cast(OpenSpielState, game) if hasattr(game, "is_terminal") else _root(game)
     _require_calls(state)
     _require_known(state, trust)
-    walker = _Walker(key)
-    first = walker.behind(state, 0)
-    root = first[0][0] if len(first) == 1 else Deal(tuple(merged(first)))
-    built = build(root, walker.expand, rounded)
+    walker = _Walker(key, rounded, _has_rewards(state))
+    first = walker.behind(state, 0, Fraction(0))
+    root = first[0].node if len(first) == 1 else Deal(tuple(merged(first, rounded)))
+    built = build(root, walker.expand, rounded, progress=progress)
     return built, [None if node is None else walker.states[node] for node in built.nodes]
+
+
+def _has_rewards(state: object) -> bool:
+    """Whether a state tells what the turn before it paid: where its game says so, or does not say
+    that its ends alone pay."""
+    of_game = getattr(state, "get_game", lambda: None)()
+    kind = getattr(of_game, "get_type", lambda: None)()
+    ends_alone = "TERMINAL" in str(getattr(kind, "reward_model", ""))
+    return callable(getattr(state, "rewards", None)) and not ends_alone
 
 
 def _root(game: object) -> OpenSpielState:
@@ -105,45 +118,71 @@ def _require_known(state: object, trust: bool) -> None:
 class _Walker:
     """The states that a walk has met, one for each key, with the turns before each.
 
-    Without a function `key`, states of one text are the same where as many turns were played.
+    Without a function `key`, states of one text are the same where as many turns were played. With
+    `rewards`, a turn pays what the state behind it and its draws says; what the last turn pays the
+    end pays, which has this beside its key. `paid` has what was paid on the way to a state, and
+    `before` what was paid before the first one.
     """
 
-    def __init__(self, key: Key | None) -> None:
+    def __init__(self, key: Key | None, rounded: bool, rewards: bool) -> None:
         self.own_key = key
+        self.rounded = rounded
+        self.rewards = rewards
         self.states: dict[Hashable, OpenSpielState] = {}
         self.turns: dict[Hashable, int] = {}
+        self.paid: dict[Hashable, Fraction] = {}
         self.compared: set[Hashable] = set()
         self.sum: Fraction | None = None
+        self.before: Fraction | None = None
 
     def key(self, state: OpenSpielState, turns: int) -> Hashable:
         """What tells a state apart."""
-        return (turns, str(state)) if self.own_key is None else self.own_key(state)
+        key = (turns, str(state)) if self.own_key is None else self.own_key(state)
+        if self.rewards and state.is_terminal():
+            return key, self.reward(state)
+        return key
 
-    def node(self, state: OpenSpielState, turns: int) -> Hashable:
-        """The state's key. Of the states that share one, each has to have the moves of the first,
-        and the second also what follows them."""
+    def reward(self, state: OpenSpielState) -> Fraction:
+        """What One got by the turn that led to a state; both rewards sum to 0."""
+        told: Sequence[float] = getattr(state, "rewards")()
+        one, two = (exact(each, "reward", self.rounded) for each in told)
+        if one + two:
+            raise NoTableError(f"the game is not zero-sum: rewards sum to {one + two}")
+        return one
+
+    def node(self, state: OpenSpielState, turns: int, before: Fraction) -> Outcome:
+        """A certain outcome: the state's key, and what the turn to it pays. Of the states that
+        share a key, each has to have the moves of the first, and the second also what follows
+        them. `before` is what was paid before that turn."""
         key = self.key(state, turns)
+        reward = self.reward(state) if self.rewards and turns else Fraction(0)
+        paid = Fraction(0) if state.is_terminal() else reward
         first = self.states.setdefault(key, state)
         if first is state:
-            self.turns[key] = turns
-            return key
-        same = _moves(first) == _moves(state)
+            self.turns[key], self.paid[key] = turns, before + reward
+            return Outcome(key, Fraction(1), paid)
+        same = _moves(first, self.rewards) == _moves(state, self.rewards)
         if same and key not in self.compared and not state.is_terminal():
             self.compared.add(key)
             same = self.followers(first, turns + 1) == self.followers(state, turns + 1)
         if not same:
             raise NoTableError(f"the key {shorten(key)} stands for states that go on differently; "
                                f"hand over another function `key`")
-        return key
+        return Outcome(key, Fraction(1), paid)
 
-    def followers(self, state: OpenSpielState, turns: int) -> list[list[tuple[Hashable, Fraction]]]:
-        """The keys of what each pair of moves leads to, with chances."""
-        return [[(self.key(after, turns), chance) for after, chance in outcomes]
-                for row in self.rows(state) for outcomes in row]
+    def followers(self, state: OpenSpielState, turns: int) -> list[list[tuple[object, ...]]]:
+        """The keys of what each pair of moves leads to, with chances and rewards."""
+        return [[(self.key(after, turns), chance, self.rewards and self.reward(after))
+                 for after, chance in outcomes] for row in self.rows(state) for outcomes in row]
 
-    def behind(self, state: OpenSpielState, turns: int) -> Outcomes:
+    def behind(self, state: OpenSpielState, turns: int, before: Fraction) -> Outcomes:
         """The nodes of a state that was reached, behind draws where these come first."""
-        return [(self.node(after, turns), chance) for after, chance in _drawn(state)]
+        return self.outcomes(_drawn(state), turns, before)
+
+    def outcomes(self, reached: Reached, turns: int, before: Fraction) -> Outcomes:
+        """States that were reached as outcomes."""
+        return [self.node(after, turns, before)._replace(chance=chance)
+                for after, chance in reached]
 
     def rows(self, state: OpenSpielState) -> list[list[Reached]]:
         """The states that each pair of moves leads to, behind draws."""
@@ -158,28 +197,38 @@ class _Walker:
         """What the state of a key is."""
         state = self.states[key]
         if state.is_terminal():
-            return End(self.payoff(state))
-        turns = self.turns[key] + 1
-        rows = [[[(self.node(after, turns), chance) for after, chance in outcomes]
-                 for outcomes in row] for row in self.rows(state)]
+            return End(self.payoff(state, key))
+        turns, paid = self.turns[key] + 1, self.paid[key]
+        rows = [[self.outcomes(reached, turns, paid) for reached in row]
+                for row in self.rows(state)]
         one, two = (_names(state, player) for player in (0, 1))
         return Turn(rows, (one, two))
 
-    def payoff(self, state: OpenSpielState) -> Fraction:
-        """The first return of an end; both returns have the same sum at each end."""
-        one, two = map(exact, state.returns())
+    def payoff(self, state: OpenSpielState, key: Hashable) -> Fraction:
+        """The first return of an end, or what its last turn paid; both returns have the same sum at
+        each end."""
+        one, two = (exact(each, rounded=self.rounded) for each in state.returns())
         if self.sum is None:
             self.sum = one + two
         if one + two != self.sum:
             raise NoTableError(f"the game is not zero-sum: returns sum to {self.sum} and to "
                                f"{one + two}")
-        return one
+        if not self.rewards or not self.turns[key]:
+            return one
+        before = one - self.paid[key]
+        if self.before is None:
+            self.before = before
+        if abs(before - self.before) > (SUM_ERROR if self.rounded else 0):
+            raise NoTableError(f"the returns are not the sums of the rewards: in "
+                               f"{shorten(str(state))} the first is {one}, and the rewards on the "
+                               f"way there sum to {self.paid[key]}")
+        return self.reward(state)
 
 
-def _moves(state: OpenSpielState) -> tuple[object, ...]:
+def _moves(state: OpenSpielState, rewards: bool) -> tuple[object, ...]:
     """What can be told at once of how a state goes on."""
     if state.is_terminal():
-        return "end", *state.returns()
+        return ("end",) if rewards else ("end", *state.returns())
     if state.is_simultaneous_node():
         return _actions(state, 0), _actions(state, 1)
     player = state.current_player()

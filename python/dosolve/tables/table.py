@@ -5,8 +5,9 @@
 
 A table is a list of states, numbered from 0; state 0 is the root. A state is an end, its payoff to
 One; or a list of rows, one for each move of One. A row is a list of cells, one for each move of
-Two. A cell is the number of the state that follows, or a list of draws, each a pair of a state and
-its weight, which sum to 360360. A cell leads only to states that stand behind its own.
+Two. A cell is the number of the state that follows, or a list of draws, each a state and its
+weight, which sum to 360360; and where the turn pays, behind them what One gets by it. A cell leads
+only to states that stand behind its own.
 
 Both players know the state before each move. The classmethods make tables of matrices, of
 functions, of games of this package, and of those of OpenSpiel and Gambit; a game that cannot be a
@@ -16,8 +17,8 @@ from __future__ import annotations
 
 import hashlib
 import json
-from collections.abc import Callable, Hashable, Iterator, Sequence
-from dataclasses import dataclass, field, replace
+from collections.abc import Callable, Hashable, Iterator, Mapping, Sequence
+from dataclasses import dataclass, field, fields, replace
 from fractions import Fraction
 from functools import cached_property
 from pathlib import Path
@@ -25,11 +26,19 @@ from typing import Any, Self, cast
 
 from ..errors import InputRefusedError, InvalidError, NoTableError
 from ..games.game import CHANCE, AnyGame, Field, Game, Side, State, side_of
+from ..limits import NEWEST_VERSION
 from ..values import FilePath, as_field, cut, shorten
-from .building import BothMoves, Built, Node, of_functions, of_game, of_matrix
+from .building import (
+    BothMoves, Built, MoveLists, Node, Rewarding, of_functions, of_game, of_matrix, of_rounds,
+    of_stages,
+)
 from .csv_matrices import read_csv
 from .gambit import of_gambit, save_gambit
-from .lists import LINE, Cell, Listing, Lists, fault_of, kind_fault, listed, nested, range_fault
+from .lists import (
+    LINE, WIDE_LINE, Cell, Listing, Lists, fault_of, kind_fault, listed, nested, range_fault,
+    spelled, totals,
+)
+from .making import TableListener
 from .openspiel import Key, OpenSpielGame, OpenSpielState, of_openspiel
 
 _DEALT = "chance"
@@ -95,6 +104,14 @@ class TableState(State):
         one, two = self.game.move_names[self.number]
         return tuple(one if side_of(side) == "one" else two)
 
+    @property
+    def least(self) -> int:
+        return self.game.totals[self.number][0] if self.game.has_rewards else self.game.low
+
+    @property
+    def most(self) -> int:
+        return self.game.totals[self.number][1] if self.game.has_rewards else self.game.high
+
     def _payoff(self) -> int:
         return self.game.lists.values[self.number]
 
@@ -102,12 +119,20 @@ class TableState(State):
         return tuple(range(self.game.lists.moves[2 * self.number + (side == "two")]))
 
     def _draws(self, one: int, two: int) -> Sequence[Sequence[int]]:
-        """The states that can follow, with their weights."""
+        """The states that can follow, with their weights, and what the turn pays where it may."""
         cell: Cell = self.game.listing[self.number][one][two]
         return ((cell, CHANCE),) if isinstance(cell, int) else cell
 
     def _chances(self, one: int, two: int) -> tuple[int, ...]:
-        return tuple(weight for _, weight in self._draws(one, two))
+        return tuple(draw[1] for draw in self._draws(one, two))
+
+    def _rewards(self, one: int, two: int) -> tuple[int, ...]:
+        return tuple(sum(draw[2:]) for draw in self._draws(one, two))
+
+    def _draw_names(self, one: int, two: int) -> tuple[str, ...]:
+        if not self.game.state_names:
+            return super()._draw_names(one, two)
+        return tuple(self.game.state_names[draw[0]] for draw in self._draws(one, two))
 
     def _after(self, one: int, two: int, draw: int) -> TableState:
         return TableState(self.game, self._draws(one, two)[draw][0])
@@ -124,17 +149,19 @@ class Table(Game[TableState]):
       into a file beside theirs that ends with `.names`, and `load` reads them there.
     - `nodes`: what each state was made of.
     - `scale`: what the payoffs of the rules were multiplied by.
+    - `error`: how far the value of the table can be from that of the game that it was made of, in
+      payoffs of the rules; more than 0 only where something was rounded.
     """
 
     name = "table"
     version = 2
     settings = (_States("states"),)
-    line_settings = LINE
     listing: Sequence[Any]
     state_names: Sequence[str] = ()
     move_names: Sequence[MoveNames] = ()
     nodes: Sequence[Any] = field(default=(), repr=False)
     scale: Fraction = Fraction(1)
+    error: Fraction = Fraction(0)
 
     def __post_init__(self) -> None:
         object.__setattr__(self, "listing", _frozen(self.listing))
@@ -166,40 +193,65 @@ class Table(Game[TableState]):
         if self.listing is not other.listing and self.listing == other.listing:
             # From now on both share one list, so that they are told to be equal at once.
             object.__setattr__(other, "listing", self.listing)
-        return self.listing is other.listing
+        return self.listing is other.listing or self._spelled == other._spelled
 
     def __hash__(self) -> int:
         return self._hash
 
     @cached_property
     def _hash(self) -> int:
-        return hash(self.listing)
+        return hash(self._spelled)
+
+    @cached_property
+    def _spelled(self) -> Listing:
+        """The states with one spelling of what turns pay."""
+        return spelled(self.listing)
 
     def __repr__(self) -> str:
         return f"<Table: {self.title().removeprefix('table of ')}>"
 
     @cached_property
     def lists(self) -> Lists:
-        """The five lists of a report's line."""
+        """The lists of a report's line."""
         return listed(self.listing)
+
+    @cached_property
+    def totals(self) -> list[tuple[int, int]]:
+        """For each state the least and the greatest sum that One can still get from it on, where
+        turns pay; else none."""
+        return totals(self.lists)
+
+    @property
+    def has_rewards(self) -> bool:
+        return bool(self.lists.rewards)
+
+    @classmethod
+    def line_settings(cls, version: int) -> tuple[Field, ...]:
+        return WIDE_LINE if version >= NEWEST_VERSION else LINE
+
+    def line_values(self) -> tuple[object, ...]:
+        return self.lists.told()
 
     @classmethod
     def of_line(cls, *values: Any) -> Self:
-        """The table of the five lists of a report's line."""
+        """The table of the lists of a report's line."""
         lists = Lists(*values)
         fault = fault_of(lists)
         if fault is not None:
             raise InputRefusedError(f"input {fault[0]}", fault[1])
-        return cls(nested(lists))
+        # Not by the constructor, whose ranges are those of positions.
+        made = object.__new__(cls)
+        for each in fields(cls):
+            object.__setattr__(made, each.name, each.default)
+        object.__setattr__(made, "listing", nested(lists))
+        return made
 
     def values(self) -> Iterator[object]:
         yield self.listing
 
     @cached_property
     def _line(self) -> str:
-        lists = self.lists
-        shown = (",".join(map(str, numbers)) or "-" for numbers in
-                 (lists.ranks, lists.moves, lists.values, lists.cells, lists.draws))
+        shown = (",".join(map(str, numbers)) or "-" for numbers in self.lists.told())
         return " ".join([self.name, *shown])
 
     def line(self) -> str:
@@ -232,13 +284,19 @@ class Table(Game[TableState]):
     def _payoffs(self) -> list[int]:
         return [value for value, rank in zip(self.lists.values, self.lists.ranks) if not rank]
 
+    @cached_property
+    def _range(self) -> tuple[int, int]:
+        """The least and the greatest of what One can still get in the states of the list."""
+        leasts, mosts = zip(*self.totals) if self.has_rewards else (self._payoffs, self._payoffs)
+        return min(leasts), max(mosts)
+
     @property
     def low(self) -> int:
-        return min(self._payoffs)
+        return self._range[0]
 
     @property
     def high(self) -> int:
-        return max(self._payoffs)
+        return self._range[1]
 
     @cached_property
     def _width(self) -> int:
@@ -257,6 +315,40 @@ class Table(Game[TableState]):
     def most_states(self) -> int:
         return sum(map(bool, self.lists.ranks))
 
+    def count_states(self) -> int:
+        return self.most_states
+
+    def starting_at(self, state: State) -> Table:
+        self._own(state)
+        assert isinstance(state, TableState)
+        kept = sorted(self._behind(state.number))
+        place = {number: at for at, number in enumerate(kept)}
+
+        def moved(cell: Cell) -> Cell:
+            if isinstance(cell, int):
+                return place[cell]
+            return tuple((place[draw[0]], *draw[1:]) for draw in cell)
+
+        listing = [told if isinstance(told, int) else
+                   tuple(tuple(map(moved, row)) for row in told)
+                   for told in (self.listing[number] for number in kept)]
+        names, moves, nodes = ([given[number] for number in kept] if given else ()
+                               for given in (self.state_names, self.move_names, self.nodes))
+        return Table(listing, names, moves, nodes, self.scale, self.error)
+
+    def _behind(self, first: int) -> set[int]:
+        """A state and all that can follow it."""
+        found, waiting = {first}, [first]
+        while waiting:
+            told = self.listing[waiting.pop()]
+            cells = [] if isinstance(told, int) else [cell for row in told for cell in row]
+            for cell in cells:
+                for after in (cell,) if isinstance(cell, int) else [draw[0] for draw in cell]:
+                    if after not in found:
+                        found.add(after)
+                        waiting.append(after)
+        return found
+
     @property
     def chance_free(self) -> bool:
         return not self._drawn
@@ -264,26 +356,29 @@ class Table(Game[TableState]):
     @property
     def has_names(self) -> bool:
         """Whether there is anything to be kept beside the numbers."""
-        return bool(self.state_names or self.move_names) or self.scale != 1
+        return bool(self.state_names or self.move_names) or self.scale != 1 or self.error > 0
 
     def names_text(self) -> str:
         """The names as a line of JSON, with what tells which table they are of."""
         moves = [[list(one), list(two)] for one, two in self.move_names]
-        return json.dumps({"table": self._digest, "scale": str(self.scale),
-                           "states": list(self.state_names), "moves": moves}) + "\n"
+        found = {"table": self._digest, "scale": str(self.scale)}
+        found |= {"error": str(self.error)} if self.error else {}
+        return json.dumps(found | {"states": list(self.state_names), "moves": moves}) + "\n"
 
     def named(self, text: str) -> Table:
         """The same table with names that `names_text` gave."""
         try:
             found = json.loads(text)
             digest, scale = found["table"], Fraction(found["scale"])
+            error = Fraction(found.get("error", 0))
             states, moves = map(str, found["states"]), found["moves"]
             pairs = [(tuple(map(str, one)), tuple(map(str, two))) for one, two in moves]
-        except (ValueError, KeyError, TypeError) as fault:
+        except (ValueError, KeyError, TypeError, AttributeError, ZeroDivisionError) as fault:
             raise InvalidError(f"these are no names of a table: {fault}") from None
         if digest != self._digest:
             raise InvalidError("these are names of another table")
-        return replace(self, state_names=tuple(states), move_names=tuple(pairs), scale=scale)
+        return replace(self, state_names=tuple(states), move_names=tuple(pairs), scale=scale,
+                       error=error)
 
     @property
     def _digest(self) -> str:
@@ -297,28 +392,52 @@ class Table(Game[TableState]):
         names = [f"payoff {state / built.scale}" if isinstance(state, int) else
                  _DEALT if number in built.deals else name(node)
                  for number, (state, node) in enumerate(zip(built.listing, kept))]
-        return cls(built.listing, tuple(names), built.names, tuple(kept), built.scale)
+        return cls(built.listing, tuple(names), built.names, tuple(kept), built.scale, built.error)
 
     @classmethod
     def from_matrix(cls, payoffs: object, one: Sequence[object] | None = None,
-                    two: Sequence[object] | None = None) -> Table:
+                    two: Sequence[object] | None = None, rounded: bool = False) -> Table:
         """A game of one turn: One's payoffs, a row for each move of One, with the names of both
-        players' moves. A payoff can also be a list of pairs, of a payoff and its chance."""
-        return cls._of(of_matrix(payoffs, one, two, None), lambda node: "root")
+        players' moves. A payoff can also be a list of pairs, of a payoff and its chance. With
+        `rounded` payoffs of any size and number of digits are taken, and rounded where they have
+        to be; `error` of the table says how wrong that makes its value at most."""
+        return cls._of(of_matrix(payoffs, one, two, rounded), lambda node: "root")
 
     @classmethod
     def repeated(cls, payoffs: object, rounds: int, one: Sequence[object] | None = None,
-                 two: Sequence[object] | None = None) -> Table:
-        """A matrix that is played for some rounds (1 to 31), and pays the sum."""
-        return cls._of(of_matrix(payoffs, one, two, rounds),
-                       lambda node: f"{node[0]} round{'s' if node[0] > 1 else ''} left, sum "
-                                    f"{node[1]}")
+                 two: Sequence[object] | None = None, rounded: bool = False) -> Table:
+        """A matrix that is played for some rounds (1 to 31), each of which pays; `rounded` as in
+        `from_matrix`. A node is the number of rounds that are left."""
+        return cls._of(of_rounds(payoffs, rounds, one, two, rounded), _left)
+
+    @classmethod
+    def markov(cls, stages: Mapping[Any, object] | Sequence[object],
+               transitions: Mapping[Any, object] | Sequence[object], rounds: int,
+               start: Hashable = None, one: MoveLists = None, two: MoveLists = None,
+               rounded: bool = False, progress: TableListener | bool = False) -> Table:
+        """A Markov game of some rounds (1 to 31): in each round both play the matrix of the stage
+        in which they are, which pays at once.
+
+        - `stages`: a dict from stages, any hashable values, to matrices as `from_matrix` takes
+          them; or a list, whose stages are 0, 1, ..
+        - `transitions`: for each stage what follows each pair of moves, by rows of One's moves: a
+          stage, a dict (or list of pairs) of stages with their chances, or None where the game
+          ends.
+        - `start`: the stage of the first round; left out, the first one.
+        - `one`, `two`: the names of a player's moves, a list for all stages or a dict of lists.
+
+        A node is a pair of the rounds that are left and the stage.
+        """
+        built = of_stages(stages, transitions, rounds, start, one, two, rounded, progress)
+        return cls._of(built, lambda node: f"{node[1]}, {_left(node[0])}")
 
     @classmethod
     def from_functions(cls, root: Node, moves: Callable[[Node], BothMoves],
                        after: Callable[[Node, Any, Any], object],
-                       payoff: Callable[[Node], object], name: Callable[[Node], str] = str,
-                       rounded: bool = False) -> Table:
+                       payoff: Callable[[Node], object] | None = None,
+                       name: Callable[[Node], str] = str, rounded: bool = False,
+                       progress: TableListener | bool = False,
+                       reward: Rewarding | None = None) -> Table:
         """The game that begins at a node, any hashable value, told by functions:
 
         - `moves(node)`: the moves of One and those of Two, two lists of any values; a player who
@@ -326,46 +445,64 @@ class Table(Game[TableState]):
           game is over.
         - `after(node, one, two)`: the node that follows, or a dict (or list of pairs) of nodes
           with their chances.
-        - `payoff(node)`: what One gets where the game is over.
+        - `payoff(node)`: what One gets where the game is over; left out, nothing.
+        - `reward(node, one, two)`: what One gets by a turn; or `reward(node, one, two, after)`,
+          where `after` is the node that follows, which a draw can decide. Left out, nothing.
+
+        What a play pays is the sum. A sum that turns pay need not be in the node, so that there are
+        fewer states than where the end pays it.
 
         Equal nodes are one state, so a node has to have all that the rest of the game depends on,
         and to count the turns where the game could come back to it. `name` names states, and
-        `str` the moves. Payoffs and chances are numbers, fractions too. Chances that cannot be
-        dealt out exactly are refused, or with `rounded` rounded to parts of 360360.
+        `str` the moves. Payoffs and chances are numbers, fractions too. Payoffs that are not whole
+        at one scale, and chances that cannot be dealt out exactly, are refused, or with `rounded`
+        rounded; `error` of the table says how wrong that makes its value at most. `progress` is a
+        function that is called about once a second (`TableProgress`), or True for a line on the
+        terminal.
         """
-        return cls._of(of_functions(root, moves, after, payoff, rounded), name)
+        built = of_functions(root, moves, after, payoff, reward, rounded, progress)
+        return cls._of(built, name)
 
     @classmethod
     def from_openspiel(cls, game: OpenSpielGame | OpenSpielState, key: Key | None = None,
-                       rounded: bool = False, trust: bool = False) -> Table:
+                       rounded: bool = False, trust: bool = False,
+                       progress: TableListener | bool = False) -> Table:
         """The game that begins at a state, or the root of a game, with OpenSpiel's calls: moves at
         once or in turns, and draws in the open.
 
         States of one text (`str`) after equally many turns are one state of the table. A function
         `key` tells states apart otherwise: `key=str` also joins those of different turns, where
-        the text has all that the rest of the game depends on. A game that says that its players do
-        not see the whole state is refused unless `trust` is set.
+        the text has all that the rest of the game depends on. A turn pays what `rewards()` says
+        behind it and its draws, where states have that call and their game does not say that ends
+        alone pay. A game that says that its players do not see the whole state is refused unless
+        `trust` is set.
         """
-        built, states = of_openspiel(game, key, rounded, trust)
+        built, states = of_openspiel(game, key, rounded, trust, progress)
         return cls._of(built, str, states)
 
     @classmethod
-    def from_game(cls, game: AnyGame) -> Table:
-        """Any game of this package, also a subclass of `Game` of your own, with the same order of
-        moves and draws."""
-        built, states = of_game(game)
+    def from_game(cls, game: AnyGame, progress: TableListener | bool = False) -> Table:
+        """Any game of this package, also a `PythonGame` of your own, with the same order of moves
+        and draws."""
+        built, states = of_game(game, progress)
         return cls._of(built, str, states)
 
     @classmethod
     def from_gambit(cls, path: FilePath) -> Table:
         """The game of a file of Gambit: a strategic form (.nfg), or an extensive form (.efg) whose
-        players see each other's earlier moves."""
+        players see each other's earlier moves. An outcome on the way is what the turn that leads
+        there pays."""
         return cls._of(*of_gambit(Path(path).read_text(encoding="utf-8-sig")))
 
     def to_gambit(self, path: FilePath) -> None:
         """Writes the table as an extensive form of Gambit (.efg), with the payoffs of its rules;
         see `save_gambit`."""
         save_gambit(self, path)
+
+
+def _left(rounds: int) -> str:
+    """How many rounds are left, in words."""
+    return f"{rounds} round{'s' if rounds > 1 else ''} left"
 
 
 def _frozen(value: object) -> Any:

@@ -1,6 +1,6 @@
 use Rattle.std.proofs.Common.{ℕ, take, length, refl, ap, ◌∙◌}
 use Rattle.std.proofs.lemmas.List.{nil_from_length}
-use Rattle.goofspiel.specs.DealLaws.{same_hands, is_deal}
+use Rattle.goofspiel.specs.DealLaws.{same_hands, near_same, is_deal}
 use Rattle.goofspiel.specs.Laws.{gone, goofspiel_sound, bids_for, goofspiel_is_game}
 use Rattle.goofspiel.specs.Rules.{deal_of}
 use Rattle.goofspiel.proofs.HandLemmas.{array_prizes}
@@ -22,6 +22,10 @@ returns c =
       rank = λ s. refl;
       ends = λ s. (nil_from_length (deal_of s).one, ap length);
       payoff = λ s. refl;
+      reward = λ s one two draw. refl;
+      least = λ s. refl;
+      most = λ s. refl;
+      same_score = λ s prizes r. near_same g.pay g.score s.score (gone g s) prizes (goofspiel_sound g p s r).near;
       key = λ s. refl;
       low = refl;
       high = refl;

@@ -1,5 +1,5 @@
 use Rattle.std.proofs.Common.{rules, ℕ, ◌+◌, ◌<◌, pos, Some, Err, length, w64, refl, sym, ap, ◌∙◌, arith, below_more}
-use Rattle.std.proofs.lemmas.Int.{ints, to_z-of_z}
+use Rattle.std.proofs.lemmas.Int.{to_z-of_z}
 use Rattle.std.proofs.lemmas.Result.{IfOk-weaker}
 use Rattle.std.proofs.lemmas.List.Elements.{All-get_or, All-contains}
 use Rattle.matrix_game.specs.Budget.{Budget, left_of}
@@ -10,7 +10,7 @@ use Rattle.oracle_search.specs.Workers.{WorkerView, at_work}
 use Rattle.oracle_search.specs.Searches.{IsBoardFull, IsWorked, IsDone, AreDone, TakesAtMost, HasVisitsBelow, IsPureTight}
 use Rattle.oracle_search.proofs.+search.Given as given
 use Rattle.oracle_search.proofs.+search.Goals as goal
-use Rattle.oracle_search.proofs.BetterLemmas.{gap_closed, serial_closed}
+use Rattle.oracle_search.proofs.BetterLemmas.{within_met, gap_closed, serial_closed}
 use Rattle.oracle_search.proofs.GrowLemmas.{IsSearching, IsGrowing, searching_none, searching_read, searching_more, searching_stopped, child_done, child_stopped, stop_full, stop_kept}
 use Rattle.oracle_search.proofs.GrowLemmas.{stopped_ended, stopped_ends, early_ends, early_reached, growing_none, growing_stopped, growing_passed, growing_turn, growing_more, close_after}
 use Rattle.oracle_search.proofs.KeyLemmas.{close_later, done_later, are_done_later, key_done, not_added}
@@ -357,8 +357,7 @@ state::search_row-returns-then-gap_at-eq0-clause-ended g t c =
     let m = g.G.Game.model c.args.setup.now.game in
     let met = gap_closed m (g.met.G.Game.lawful c.args.setup.now.game) c.args.s (g.B.Bounds.view c.gap_at.new.board) c.gap_at.result c.gap_at.ensures.enclosed c.gap_at.ensures.gap
     c.if-gap_at-eq0.true in
-    let target = c.requires.target in
-    bounded_early (λ _. omega (arith, ints)) refl refl
+    bounded_early (λ _. within_met _ _ _ met c.requires.target) refl refl
 
 pub state::search_row-returns-then-gap_at-eq0-clause-pure : goal.state::search_row-returns-then-gap_at-eq0-clause-pure
 state::search_row-returns-then-gap_at-eq0-clause-pure g t c = record {

@@ -41,6 +41,7 @@ returns c =
       chance = λ s one two draw. refl;
       ends = λ s. (ended g s c.args._game.now.valid, end_rank g s);
       payoff = λ s. refl;
+      reward = λ s one two draw. refl;
       rank = λ s. refl;
       key = λ s. refl;
       low = refl;

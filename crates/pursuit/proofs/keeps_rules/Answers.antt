@@ -30,6 +30,7 @@ returns c =
       chance = λ s one two draw. refl;
       ends = λ s. rank_ends s.caught s.rounds;
       payoff = λ s. refl;
+      reward = λ s one two draw. refl;
       rank = λ s. refl;
       key = λ s. refl;
       low = refl;

@@ -22,6 +22,7 @@ returns c =
         λ over. ap tron_rank (same_arena g s t stands) ∙ ap (λ (b : Bool). cond b 0 ((free_cells (arena_of_trails g t) + 1) / 2)) over,
       );
       payoff = λ s t stands. ap tron_payoff (same_arena g s t stands);
+      reward = λ s one two draw. refl;
       rank = λ s t stands. ap tron_rank (same_arena g s t stands);
       key = λ s t stands. ap tron_key (same_arena g s t stands);
       low = refl;

@@ -12,7 +12,7 @@ returns c =
     let last = (codes "end" ∷ []) ∷ [] in
     let two = sheet_lines (codes "two") c.args.r.now.two.rows in
     on_ok_weaker c.word.result (λ added.
-    then (rw c.version_of.ensures at c.in_ok-named.ensures) (then c.in_ok-add_position.ensures (
+    then (rw c.version.ensures at c.in_ok-named.ensures) (then c.in_ok-add_position.ensures (
     then c.in_ok-named-2.ensures (then c.in_ok-named-3.ensures (then c.in_ok-named-4.ensures (then c.in_ok-named-5.ensures (
     then c.in_ok-add_outcome.ensures (then c.in_ok-named-6.ensures (then c.in_ok-named-7.ensures (then (rw c.as_slice.ensures at c.in_ok-add_spent.ensures) (
     as_text (sym (flat_map-append line_text (sheet_lines (codes "one") c.args.r.now.one.rows) (two ++ last))) (then (rw c.as_slice-2.ensures at c.in_ok-add_sheet.ensures) (

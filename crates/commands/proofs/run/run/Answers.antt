@@ -19,7 +19,7 @@ pub returns-in-Ok : goal.returns-in-Ok
 returns-in-Ok g c =
     let command = c.in-Some-Reading.command in
     let bytes = c.in-Ok.bytes.items in
-    let within = rw c.limit_of.ensures at c.in-Ok.ensures.within in
+    let within = c.in-Ok.ensures.within in
     let calm = c.in-Ok.ensures.calm (λ e. absurd (cc)) in
     rw (sym c.command_of.ensures.is ∙ c.in-Some-Reading.is ∙ ap Some c.in-Some-Reading.field-0-is)
     (run_of (Some (Reading command)) _ _ _ _ bytes c.answer_to.result c.respond-in-Ok.result
@@ -29,22 +29,22 @@ returns-in-Ok g c =
 pub returns-in-Err-TooLong : goal.returns-in-Err-TooLong
 returns-in-Err-TooLong g c =
     let command = c.in-Some-Reading.command in
-    let long = rw c.limit_of.ensures at (c.in-Err-TooLong.ensures.too_long (ap Err c.in-Err-TooLong.field-0-is)) in
+    let long = c.in-Err-TooLong.ensures.too_long (ap Err c.in-Err-TooLong.field-0-is) in
     let bytes = long.0 in
     let calm = c.in-Err-TooLong.ensures.calm (λ e. cc (e, c.in-Err-TooLong.field-0-is)) in
     rw (sym c.command_of.ensures.is ∙ c.in-Some-Reading.is ∙ ap Some c.in-Some-Reading.field-0-is)
     (run_of (Some (Reading command)) _ _ _ _ bytes c.too_long.result c.respond-in-Err-TooLong.result
     (record { taken = long.1; whole = inr long.2; calm = calm }) ((bytes, long.1, omega (arith, long.2)), calm)
-    (λ a e. subst (λ f. IfOk f (λ a. (bytes : List ℕ) → length bytes ≡ limit_of command + 1 → IsAnswer (Some (Reading command)) bytes a.status a.text)) e c.too_long.ensures bytes long.2)
+    (λ a e. subst (λ f. IfOk f (λ a. (bytes : List ℕ) → length bytes ≡ limit_of command bytes + 1 → IsAnswer (Some (Reading command)) bytes a.status a.text)) e c.too_long.ensures bytes long.2)
     c.respond-in-Err-TooLong.ensures)
 
 pub returns-in-Err-Failed : goal.returns-in-Err-Failed
 returns-in-Err-Failed g c =
     IsRun.unread c.in-Some-Reading.command (sym c.command_of.ensures.is ∙ c.in-Some-Reading.is ∙ ap Some c.in-Some-Reading.field-0-is)
-    (rw c.limit_of.ensures at (c.in-Err-Failed.ensures.others (λ e. cc (e, c.in-Err-Failed.field-0-is)))) (c.in-Err-Failed.ensures.failed (ap Err c.in-Err-Failed.field-0-is)) refl
+    (c.in-Err-Failed.ensures.others (λ e. cc (e, c.in-Err-Failed.field-0-is))) (c.in-Err-Failed.ensures.failed (ap Err c.in-Err-Failed.field-0-is)) refl
 
 pub returns-in-Err-NoMemory : goal.returns-in-Err-NoMemory
 returns-in-Err-NoMemory g c =
-    let part = rw c.limit_of.ensures at (c.in-Err-NoMemory.ensures.others (λ e. cc (e, c.in-Err-NoMemory.field-0-is))) in
+    let part = c.in-Err-NoMemory.ensures.others (λ e. cc (e, c.in-Err-NoMemory.field-0-is)) in
     rw (sym c.command_of.ensures.is ∙ c.in-Some-Reading.is ∙ ap Some c.in-Some-Reading.field-0-is)
     (IsRun.no_memory ((part.0, part.1, omega (arith, part.2)), c.in-Err-NoMemory.ensures.calm (λ e. cc (e, c.in-Err-NoMemory.field-0-is))) refl)

@@ -13,11 +13,11 @@ use Rattle.commands.proofs.run.too_long.Goals as goal
 
 pub returns-in-Solve : goal.returns-in-Solve
 returns-in-Solve c =
-    rw c.in-Solve.is (long_as IsSolved _ 1048576 2 (input_text errors.TooLong) c.refused.result (λ bytes long. IsSolved.refused errors.TooLong (too_long bytes long)) c.refused.ensures)
+    rw c.in-Solve.is (long_as IsSolved _ (λ _. 1048576) 2 (input_text errors.TooLong) c.refused.result (λ bytes long. IsSolved.refused errors.TooLong (too_long bytes long)) c.refused.ensures)
 
 pub returns-in-Bounds : goal.returns-in-Bounds
 returns-in-Bounds c =
-    rw c.in-Bounds.is (long_as IsBounded _ 1048576 2 (input_text errors.TooLong) c.refused-in-Bounds.result
+    rw c.in-Bounds.is (long_as IsBounded _ (λ _. 1048576) 2 (input_text errors.TooLong) c.refused-in-Bounds.result
     (λ bytes long. IsBounded.refused errors.TooLong (too_long bytes long)) c.refused-in-Bounds.ensures)
 
 pub returns-in-Check : goal.returns-in-Check

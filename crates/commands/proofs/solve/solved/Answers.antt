@@ -8,7 +8,7 @@ pub returns-in-Ok : goal.returns-in-Ok
 returns-in-Ok g c =
     let r = c.in-Ok.report in let found = c.in-Ok.ensures.found in
     answers_where (IsSolved c.args.bytes.now) _ (status_of r.outcome) (report_text r) c.reported.result
-    (λ again. IsSolved.reported found.task r found.is_task found.solution again) c.reported.ensures
+    (λ again. IsSolved.reported found.task r found.is_task found.asked found.solution again) c.reported.ensures
 
 pub returns-in-Err : goal.returns-in-Err
 returns-in-Err g c =

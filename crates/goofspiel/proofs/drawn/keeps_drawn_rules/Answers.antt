@@ -4,7 +4,7 @@ use Rattle.std.proofs.lemmas.List.Elements.{All-from_get_or}
 use Rattle.std.specs.List.{range_with_len}
 use Rattle.goofspiel.specs.Cards.{places}
 use Rattle.goofspiel.specs.CardLaws.{members_increase}
-use Rattle.goofspiel.specs.DealLaws.{same_hands, is_deal}
+use Rattle.goofspiel.specs.DealLaws.{same_hands, near_same, is_deal}
 use Rattle.goofspiel.specs.DrawnLaws.{root_undrawn, drawn_sound, drawn_share, drawn_follows, drawn_is_game, same_drawn_deal}
 use Rattle.goofspiel.specs.DrawnRules.{drawn_deal_of}
 use Rattle.goofspiel.proofs.HandLemmas.{array_prizes}
@@ -34,6 +34,10 @@ returns c =
       rank = λ s. refl;
       ends = λ s. (nil_from_length (drawn_deal_of s).hands.one, ap length);
       payoff = λ s. refl;
+      reward = λ s one two draw. refl;
+      least = λ s. refl;
+      most = λ s. refl;
+      same_score = λ s prizes r. let here = drawn_sound g p s r in near_same g.pay g.score s.hands.score here.spent prizes here.hands.near;
       key = λ s. refl;
       low = refl;
       high = refl;

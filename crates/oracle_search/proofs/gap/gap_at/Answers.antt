@@ -1,9 +1,12 @@
-use Rattle.oracle_search.proofs.BetterLemmas.{gap_read}
+use Rattle.oracle_search.proofs.BetterLemmas.{enclosure_known, gap_known}
 use Rattle.oracle_search.proofs.gap.gap_at.Goals as goal
 
 pub returns-clause-gap : goal.returns-clause-gap
 returns-clause-gap g c =
-    let m = g.G.Game.model c.args.g in
-    let both = rw c.requires.game at (c.read-enclosure.ensures.backed c.args.s) in
-    gap_read m (g.met.G.Game.lawful c.args.g) c.args.s (g.B.Bounds.view c.read-enclosure.new.self) c.read-enclosure.result.lower c.read-enclosure.result.upper
-    (both c.requires.reachable c.requires.row) (c.read-enclosure.ensures.seen (m.key c.args.s) c.requires.row)
+    gap_known (g.G.Game.model c.args.g) (g.met.G.Game.lawful c.args.g) c.args.s (g.B.Bounds.view c.known_bounds-enclosure.new.board) c.known_bounds-enclosure.result
+    c.known_bounds-enclosure.ensures.enclosed c.known_bounds-enclosure.ensures.known
+
+pub returns-clause-enclosed : goal.returns-clause-enclosed
+returns-clause-enclosed g c =
+    enclosure_known (g.G.Game.model c.args.g) (g.met.G.Game.lawful c.args.g) c.args.s (g.B.Bounds.view c.known_bounds-enclosure.new.board) c.known_bounds-enclosure.result
+    c.known_bounds-enclosure.ensures.enclosed c.known_bounds-enclosure.ensures.known

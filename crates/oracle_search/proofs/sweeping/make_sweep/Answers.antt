@@ -40,7 +40,7 @@ returns-else-is_within_told-clause-ended g c =
     let v = g.B.Bounds.view c.sweep_state.new.board in
     let t = g.B.Bounds.view c.is_within_told.new.board in
     let fits : SFits w64 c.args.target = search rules in
-    let beyond : IsBeyond t (m.key c.args.s) c.args.target = rw (to_z-of_z w64 c.args.target fits) at c.if-is_within_told.ensures.within in
+    let beyond : IsBeyond m t c.args.s c.args.target = rw (to_z-of_z w64 c.args.target fits) at c.if-is_within_told.ensures.within in
     let end = rw c.in-Ok-None.field-0-is at c.in-Ok-None.ensures.ended in
     let spent : c.begin_sweep.new.self.turns.spent ≡ c.args.worker.now.turns.spent = ap (λ (w : WorkerView). w.turns.spent) c.begin_sweep.ensures in
     record {
@@ -49,7 +49,7 @@ returns-else-is_within_told-clause-ended g c =
       owed = owed_sweep c.args.worker.now c.begin_sweep.ensures (omega arith) c.is_within_told.ensures.later c.sweep_state.ensures.swept.kept end.1;
       turned = λ last. ⊎_elim
           (λ (took : c.begin_sweep.new.self.turns.spent + 1 ≤ c.sweep_state.new.worker.turns.spent). omega arith)
-          (λ (met : IsWithin v (m.key c.args.s) (pos 0)). absurd (met_not_beyond v t (m.key c.args.s) c.args.target c.requires.target c.is_within_told.ensures.later met beyond))
+          (λ (met : IsWithin m v c.args.s (pos 0)). absurd (met_not_beyond m v t c.args.s c.args.target c.requires.target c.is_within_told.ensures.later met beyond))
           (c.sweep_state.ensures.turned (c.in-Ok-None.is ∙ ap Ok c.in-Ok-None.field-0-is) last);
     }
 
@@ -63,13 +63,13 @@ returns-in-Ok-Some-clause-ended g c =
     let v = g.B.Bounds.view c.sweep_state.new.board in
     let t = g.B.Bounds.view c.stopped.new.board in
     let fits : SFits w64 c.args.target = search rules in
-    let stopped : IsStoppedAs t (m.key c.args.s) c.args.target c.in-Ok-Some.stop c.stopped.result = rw (to_z-of_z w64 c.args.target fits) at c.stopped.ensures.end in
+    let stopped : IsStoppedAs m t c.args.s c.args.target c.in-Ok-Some.stop c.stopped.result = rw (to_z-of_z w64 c.args.target fits) at c.stopped.ensures.end in
     let end = rw c.in-Ok-Some.field-0-is at c.in-Ok-Some.ensures.ended in
     record {
       ends = stopped_ends m c.args.s c.requires.here.has_row.goes_on (at_work t c.sweep_state.new.worker) c.args.target c.in-Ok-Some.stop c.stopped.result
           (stop_kept m c.args.s v t c.sweep_state.new.worker c.in-Ok-Some.stop c.stopped.ensures.later end.0) stopped;
       owed = owed_sweep c.args.worker.now c.begin_sweep.ensures (omega arith) c.stopped.ensures.later c.sweep_state.ensures.swept.kept end.1;
-      turned = λ is. absurd (stopped_unsettled t (m.key c.args.s) c.args.target c.in-Ok-Some.stop c.stopped.result stopped is);
+      turned = λ is. absurd (stopped_unsettled m t c.args.s c.args.target c.in-Ok-Some.stop c.stopped.result stopped is);
     }
 
 pub returns-in-Err-clause-worked : goal.returns-in-Err-clause-worked

@@ -1,6 +1,7 @@
 use Rattle.std.proofs.Common.{◌≡◌, ◌⊎◌, inl, inr}
 use Rattle.sim_game.specs.declared.Side.TheVariants.{One, Two}
 use Rattle.sim_game.proofs.SideLemmas.{looser_trans}
+use Rattle.bounds_board.proofs.KnownLemmas.{known_later}
 use Rattle.bounds_board.proofs.ViewLemmas.{later_trans}
 use Rattle.plan_book.specs.declared.Entry.{Entry}
 use Rattle.restricted_game.specs.Tables.{side_entry}
@@ -33,8 +34,9 @@ returns-clause-posted g c =
       between = (g.B.Bounds.view c.post_plan.new.board).entries;
       one_posted = c.in_ok-post_plan.ensures.posted;
       two_posted = posted_earlier _ _ _ _ _ c.post_plan.ensures.later c.in_ok-post_plan-2.ensures.posted;
-      one_seen = looser_trans One _ _ _ c.in_ok-post_plan.ensures.seen (c.post_plan-2.ensures.later.seen One (m.key c.args.node.state));
-      two_seen = c.in_ok-post_plan-2.ensures.seen;
+      one_known = looser_trans One _ _ _ c.in_ok-post_plan.ensures.known
+          (known_later m (g.B.Bounds.view c.post_plan.new.board) (g.B.Bounds.view c.post_plan-2.new.board) One c.args.node.state c.post_plan-2.ensures.later);
+      two_known = c.in_ok-post_plan-2.ensures.known;
     }
 
 pub returns-in_err-post_plan-clause-only : goal.returns-in_err-post_plan-clause-only
@@ -61,3 +63,6 @@ returns-clause-only g c =
     grows_after (λ (e : Entry). e ≡ one ⊎ e ≡ two) _ _ _
     (grows_weaker (λ (e : Entry). e ≡ one) (λ (e : Entry). e ≡ one ⊎ e ≡ two) _ _ (λ e is. inl is) c.post_plan.ensures.only)
     (grows_weaker (λ (e : Entry). e ≡ two) (λ (e : Entry). e ≡ one ⊎ e ≡ two) _ _ (λ e is. inr is) c.post_plan-2.ensures.only)
+
+pub post_plan-requires-2-clause-row : goal.post_plan-requires-2-clause-row
+post_plan-requires-2-clause-row g c = c.post_plan.ensures.later.keys c.args.node.row _ c.requires.row

@@ -1,5 +1,6 @@
 use Rattle.std.proofs.Common.{rules, w64, SFits}
 use Rattle.std.proofs.lemmas.Int.{to_z-of_z}
+use Rattle.sim_game.proofs.ReachLemmas.{reachable_root}
 use Rattle.serial_ab.proofs.RootLemmas.{whole_wide, root_ends}
 use Rattle.serial_ab.proofs.SearchLemmas.{whole_window}
 use Rattle.serial_ab.proofs.roots.search_root.Goals as goal
@@ -10,7 +11,7 @@ search_state-requires-clause-window g c =
     let worse : SFits w64 c.opening_bound.result = search rules in
     let better : SFits w64 c.opening_bound-2.result = search rules in
     rw (to_z-of_z w64 c.opening_bound.result worse, to_z-of_z w64 c.opening_bound-2.result better, c.opening_bound.ensures, c.opening_bound-2.ensures, c.other.ensures)
-    (whole_window m c.args.side (whole_wide m c.args.side c.requires.searched))
+    (whole_window m (g.met.G.Game.lawful c.args.g) c.args.side c.root.result (rw c.root.ensures (reachable_root m)) (whole_wide m (g.met.G.Game.lawful c.args.g) c.args.side c.requires.searched))
 
 pub returns-clause-ends : goal.returns-clause-ends
 returns-clause-ends g c =

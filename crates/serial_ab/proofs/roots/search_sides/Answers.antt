@@ -1,5 +1,5 @@
 use Rattle.std.proofs.Common.{◌∙◌, arith}
-use Rattle.sim_game.specs.declared.Side.TheVariants.{One, Two}
+use Rattle.sim_game.specs.declared.Side.TheVariants.{Two}
 use Rattle.sim_game.specs.Model.{LeadsTo}
 use Rattle.plan_book.specs.Serial.{tree_size}
 use Rattle.serial_ab.proofs.RootLemmas.{cut_before, no_room}

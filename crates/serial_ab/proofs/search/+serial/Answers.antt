@@ -1,28 +1,30 @@
-use Rattle.std.proofs.Common.{rules, length, Err, ◌≡◌, ◌-◌, ◌<◌, ◌≤◌, ℕ, [], ◌∷◌, ◌++◌, w64, pos, ◌*ℤ◌, to_z, of_z, SFits, append-nil, refl, sym, ap, subst, ◌∙◌, arith}
+use Rattle.std.proofs.Common.{rules, length, Err, Some, ◌≡◌, ◌-◌, ◌<◌, ◌≤◌, ℕ, [], ◌∷◌, ◌++◌, w64, ℤ, pos, ◌+ℤ◌, ◌-ℤ◌, ◌*ℤ◌, to_z, of_z, SFits, append-nil, refl, sym, ap, subst, ◌∙◌, arith}
 use Rattle.std.proofs.lemmas.Int.{ints, to_z-of_z}
 use Rattle.std.proofs.lemmas.Grind.{common_steps}
 use Rattle.sums.specs.Sums.{sum_below, count_below}
-use Rattle.sim_game.specs.Model.{Reachable, LeadsTo}
-use Rattle.sim_game.specs.Sides.{other_side, draws_of, child_of, chance_of, better}
+use Rattle.sim_game.specs.Model.{IsTurn, Reachable, LeadsTo}
+use Rattle.sim_game.specs.Sides.{other_side, opening_bound, turn_of, draws_of, child_of, chance_of, better, turn_reward, after_reward}
+use Rattle.sim_game.proofs.RewardLemmas.{reward_small}
+use Rattle.sim_game.proofs.SideLemmas.{add_less, side_turn}
 use Rattle.plan_book.specs.Entries.{concat_below}
-use Rattle.plan_book.specs.Serial.{tree_size, serial_bound}
+use Rattle.plan_book.specs.Serial.{tree_size}
 use Rattle.plan_book.specs.Steps.{rounded}
 use Rattle.bounds_board.specs.Views.{WasFull}
 use Rattle.serial_ab.specs.Counts.{IsCut}
 use Rattle.serial_ab.specs.Transpositions.{AreRemembered}
-use Rattle.serial_ab.specs.Values.{pair_value, pair_nodes, move_nodes, inner_nodes}
+use Rattle.serial_ab.specs.Values.{turn_value, pair_value, pair_nodes, move_nodes, inner_nodes}
 use Rattle.serial_ab.specs.Searches.{IsSerialKept, IsWindow, IsReplied, IsFound, IsMoveFound, IsPairFound, IsGoodNumber}
 use Rattle.serial_ab.proofs.CountLemmas.{counts_none, counts_after, cut_after}
 use Rattle.serial_ab.proofs.DrawLemmas.{product_fits, added_fits, added_is, listed_more, good_more, sum_low}
 use Rattle.serial_ab.proofs.KeptLemmas.{kept_none, kept_after, kept_counted, kept_quiet, kept_posted, part_kept, part_more, part_cut, stops_below, stops_more, ends_more, ok_more}
 use Rattle.serial_ab.proofs.SearchLemmas.{MovesSoFar, RepliesSoFar, moves_start, move_window, pair_window, moves_stop, moves_more, moves_end, replies_start}
-use Rattle.serial_ab.proofs.SearchLemmas.{replies_stop, replies_more, replies_end, part_of, pair_one, pair_several, whole_window, whole_range}
+use Rattle.serial_ab.proofs.SearchLemmas.{replies_stop, replies_more, replies_end, part_of, pair_one, pair_several, whole_window, whole_range, turn_window, range_small, found_end}
 use Rattle.serial_ab.proofs.TableLemmas.{remembered_later, remembered_more, recall_ends, cut_more}
 use Rattle.serial_ab.proofs.ValueLemmas.{tree_moves, child_is, child_lower, some_draws, full_below}
 use Rattle.serial_ab.proofs.search.+serial.Given as given
 use Rattle.serial_ab.proofs.search.+serial.Goals as goal
-use Rattle.serial_ab.proofs.search.+serial.Goals.{search_draws-After-drawn-child, search_draws-After-chance, search_move-After-is_tighter}
-use Rattle.serial_ab.proofs.search.+serial.Goals.{search_moves-After-is_tighter, search_pair-After-drawn-child, search_inner-After-recall}
+use Rattle.serial_ab.proofs.search.+serial.Goals.{search_draws-After-drawn-child, search_draws-After-turn_reward, search_draws-After-chance, search_move-After-is_tighter}
+use Rattle.serial_ab.proofs.search.+serial.Goals.{search_moves-After-is_tighter, search_pair-After-drawn-child, search_pair-After-turn_reward-reward, search_inner-After-recall}
 
 -- ---- the draws of a pair of moves
 -- the draw and its state
@@ -31,26 +33,71 @@ drawn : (g : given.Over) (t : ℕ) (c : search_draws-After-drawn-child g t) → 
     × (c.drawn-child.result ≡ child_of m c.args.task.now.side c.args.s c.args.own c.args.reply c.loop-d.d)
 drawn g t c = (rw (← c.requires.draws) c.loop-d-test.true, rw (c.move_of_one-one.ensures, c.move_of_two-two.ensures) at c.drawn-child.ensures)
 
--- the chance of the draw and the number at it
-number : (g : given.Over) (t : ℕ) (c : search_draws-After-chance g t) → let m = g.G.Game.model c.args.task.now.game in let child =
+-- the turn by the draw
+turn_by : (g : given.Over) (t : ℕ) (c : search_draws-After-drawn-child g t) → let m = g.G.Game.model c.args.task.now.game in
+    IsTurn m c.args.s (turn_of c.args.task.now.side c.args.own c.args.reply c.loop-d.d)
+turn_by g t c =
+    side_turn (g.G.Game.model c.args.task.now.game) c.args.task.now.side c.args.s c.args.own c.args.reply c.loop-d.d c.requires.own_move c.requires.reply (drawn g t c).0
+
+-- what was found at the state that follows
+below : (g : given.Over) (t : ℕ) (c : search_draws-After-turn_reward g t) → let m = g.G.Game.model c.args.task.now.game in let child =
     child_of m c.args.task.now.side c.args.s c.args.own c.args.reply c.loop-d.d in
-    (c.loop-d.d < draws_of m c.args.task.now.side c.args.s c.args.own c.args.reply)
-    × (c.chance.result ≡ chance_of m c.args.task.now.side c.args.s c.args.own c.args.reply c.loop-d.d)
-    × (c.in_ok-found.found ≡ serial_bound m c.args.task.now.side child)
-    × IsGoodNumber m c.args.task.now.side (g.B.Bounds.view c.search_state.new.board) child c.in_ok-found.found
-number g t c =
+    IsFound m c.args.task.now.side child (opening_bound m c.args.task.now.side) (opening_bound m (other_side c.args.task.now.side)) (g.B.Bounds.view c.search_state.new.board) c.in_ok-found.found
+    × (c.turn_reward.result ≡ turn_reward m c.args.task.now.side c.args.s c.args.own c.args.reply c.loop-d.d)
+    × Reachable m child
+below g t c =
     let m = g.G.Game.model c.args.task.now.game in
-    let game = g.met.G.Game.lawful c.args.task.now.game in
     let at : c.loop-d.d < draws_of m c.args.task.now.side c.args.s c.args.own c.args.reply = rw (← c.requires.draws) c.loop-d-test.true in
     let child = rw (c.move_of_one-one.ensures, c.move_of_two-two.ensures) at c.drawn-child.ensures in
     let fo : SFits w64 c.opening_bound.result = search rules in
+    let fp : SFits w64 c.opening_bound-2.result = search rules in (
+      rw (to_z-of_z w64 c.opening_bound.result fo, to_z-of_z w64 c.opening_bound-2.result fp, c.opening_bound.ensures, c.opening_bound-2.ensures, c.other.ensures, child)
+          at c.in_ok-found.ensures.ends.ends,
+      rw (c.move_of_one-one.ensures, c.move_of_two-two.ensures) at c.turn_reward.ensures,
+      child_is m (g.met.G.Game.lawful c.args.task.now.game) c.args.task.now.side c.args.s c.args.own c.args.reply c.loop-d.d c.requires.reachable c.requires.own_move c.requires.reply at,
+    )
+
+-- the chance of the draw and the number of its turn
+number : (g : given.Over) (t : ℕ) (c : search_draws-After-chance g t) → let m = g.G.Game.model c.args.task.now.game in
+    (c.loop-d.d < draws_of m c.args.task.now.side c.args.s c.args.own c.args.reply)
+    × (c.chance.result ≡ chance_of m c.args.task.now.side c.args.s c.args.own c.args.reply c.loop-d.d)
+    × (c.with_reward-number.result ≡ turn_value m c.args.task.now.side c.args.s c.args.own c.args.reply c.loop-d.d)
+    × after_reward m c.args.task.now.side c.args.s c.args.own c.args.reply c.loop-d.d (IsGoodNumber m c.args.task.now.side (g.B.Bounds.view c.search_state.new.board)) c.with_reward-number.result
+number g t c =
+    let m = g.G.Game.model c.args.task.now.game in
+    let at : c.loop-d.d < draws_of m c.args.task.now.side c.args.s c.args.own c.args.reply = rw (← c.requires.draws) c.loop-d-test.true in
+    let child = child_of m c.args.task.now.side c.args.s c.args.own c.args.reply c.loop-d.d in
+    let v = g.B.Bounds.view c.search_state.new.board in
+    let fo : SFits w64 c.opening_bound.result = search rules in
     let fp : SFits w64 c.opening_bound-2.result = search rules in
-    let found = rw (to_z-of_z w64 c.opening_bound.result fo, to_z-of_z w64 c.opening_bound-2.result fp, c.opening_bound.ensures, c.opening_bound-2.ensures, c.other.ensures, child)
+    let fr : SFits w64 c.turn_reward.result = search rules in
+    let fx : SFits w64 c.in_ok-found.found = search rules in
+    let pay : ℤ = turn_reward m c.args.task.now.side c.args.s c.args.own c.args.reply c.loop-d.d in
+    let there = rw (c.move_of_one-one.ensures, c.move_of_two-two.ensures) at c.drawn-child.ensures in
+    let found = rw (to_z-of_z w64 c.opening_bound.result fo, to_z-of_z w64 c.opening_bound-2.result fp, c.opening_bound.ensures, c.opening_bound-2.ensures, c.other.ensures, there)
     at c.in_ok-found.ensures.ends.ends in
-    let is = whole_range m game c.args.task.now.side (child_of m c.args.task.now.side c.args.s c.args.own c.args.reply c.loop-d.d) (g.B.Bounds.view c.search_state.new.board)
-    c.in_ok-found.found (child_is m game c.args.task.now.side c.args.s c.args.own c.args.reply c.loop-d.d c.requires.reachable c.requires.own_move c.requires.reply at) found
-    c.requires.wide in
-    (at, rw (c.move_of_one-one.ensures, c.move_of_two-two.ensures) at c.chance.ensures, is.0, is.1)
+    let paid : c.turn_reward.result ≡ pay = rw (c.move_of_one-one.ensures, c.move_of_two-two.ensures) at c.turn_reward.ensures in
+    let reach = child_is m (g.met.G.Game.lawful c.args.task.now.game) c.args.task.now.side c.args.s c.args.own c.args.reply c.loop-d.d c.requires.reachable c.requires.own_move c.requires.reply at in
+    let sum : c.with_reward-number.result ≡ pay +ℤ c.in_ok-found.found = rw (to_z-of_z w64 c.turn_reward.result fr, to_z-of_z w64 c.in_ok-found.found fx, paid) at c.with_reward-number.ensures in
+    let is = whole_range m (g.met.G.Game.lawful c.args.task.now.game) c.args.task.now.side child v c.in_ok-found.found reach found c.requires.wide in (
+      at,
+      rw (c.move_of_one-one.ensures, c.move_of_two-two.ensures) at c.chance.ensures,
+      sum ∙ ap (λ (x : ℤ). pay +ℤ x) is.0,
+      subst (IsGoodNumber m c.args.task.now.side v child) (sym (ap (λ (x : ℤ). x -ℤ pay) sum ∙ add_less pay c.in_ok-found.found)) is.1,
+    )
+
+pub search_draws-with_reward-number-requires : goal.search_draws-with_reward-number-requires
+search_draws-with_reward-number-requires g t c =
+    let m = g.G.Game.model c.args.task.now.game in
+    let game = g.met.G.Game.lawful c.args.task.now.game in
+    let here = goal.at.search_draws-with_reward-number-requires g t c in
+    let b = below g t here.After-turn_reward in
+    let fr : SFits w64 c.turn_reward.result = search rules in
+    let fx : SFits w64 c.in_ok-found.found = search rules in
+    rw (to_z-of_z w64 c.turn_reward.result fr, to_z-of_z w64 c.in_ok-found.found fx, b.1) (record {
+      reward = reward_small m game c.args.task.now.side c.args.s c.args.own c.args.reply c.loop-d.d c.requires.reachable (turn_by g t here.After-drawn-child);
+      found = range_small m game c.args.task.now.side _ c.in_ok-found.found b.2 b.0.range;
+    })
 
 pub search_draws-loop-d-init : goal.search_draws-loop-d-init
 search_draws-loop-d-init g t c = record {
@@ -74,22 +121,32 @@ search_draws-search_state-requires g t c =
     c.requires.reply d.0) in
     let lower : m.rank c.drawn-child.result < m.rank c.args.s =
     rw d.1 (child_lower m game c.args.task.now.side c.args.s c.args.own c.args.reply c.loop-d.d c.requires.reachable c.requires.own_move c.requires.reply d.0) in
-    let window : IsWindow m c.args.task.now.side (to_z w64 (of_z w64 c.opening_bound.result)) (to_z w64 (of_z w64 c.opening_bound-2.result)) =
+    let window : IsWindow m c.args.task.now.side c.drawn-child.result (to_z w64 (of_z w64 c.opening_bound.result)) (to_z w64 (of_z w64 c.opening_bound-2.result)) =
     rw (to_z-of_z w64 c.opening_bound.result fo, to_z-of_z w64 c.opening_bound-2.result fp, c.opening_bound.ensures, c.opening_bound-2.ensures, c.other.ensures)
-    (whole_window m c.args.task.now.side c.requires.wide) in
+    (whole_window m game c.args.task.now.side c.drawn-child.result reach c.requires.wide) in
     search rules
+
+pub search_draws-chance-requires-clause-one : goal.search_draws-chance-requires-clause-one
+search_draws-chance-requires-clause-one g t c =
+    let turn = turn_by g t (goal.at.search_draws-chance-requires-clause-one g t c).After-drawn-child in
+    rw c.move_of_one-one.ensures turn.one_below
+
+pub search_draws-chance-requires-clause-two : goal.search_draws-chance-requires-clause-two
+search_draws-chance-requires-clause-two g t c =
+    let turn = turn_by g t (goal.at.search_draws-chance-requires-clause-two g t c).After-drawn-child in
+    rw c.move_of_two-two.ensures turn.two_below
 
 pub search_draws-overflow_mul-sum : goal.search_draws-overflow_mul-sum
 search_draws-overflow_mul-sum g t c =
     let n = number g t (goal.at.search_draws-overflow_mul-sum g t c).After-chance in
     product_fits (g.G.Game.model c.args.task.now.game) (g.met.G.Game.lawful c.args.task.now.game) c.args.task.now.side c.args.s c.args.own c.args.reply c.requires.reachable
-    c.requires.own_move c.requires.reply c.loop-d.d n.0 c.chance.result n.1 c.in_ok-found.found n.2
+    c.requires.own_move c.requires.reply c.loop-d.d n.0 c.chance.result n.1 c.with_reward-number.result n.2
 
 pub search_draws-overflow_add-sum : goal.search_draws-overflow_add-sum
 search_draws-overflow_add-sum g t c =
     let n = number g t (goal.at.search_draws-overflow_add-sum g t c).After-chance in
     added_fits (g.G.Game.model c.args.task.now.game) (g.met.G.Game.lawful c.args.task.now.game) c.args.task.now.side c.args.s c.args.own c.args.reply c.requires.reachable
-    c.requires.own_move c.requires.reply c.loop-d.d n.0 c.chance.result n.1 c.in_ok-found.found n.2 (to_z w64 c.loop-d.sum-bits) c.loop-d.invariant.summed
+    c.requires.own_move c.requires.reply c.loop-d.d n.0 c.chance.result n.1 c.with_reward-number.result n.2 (to_z w64 c.loop-d.sum-bits) c.loop-d.invariant.summed
 
 pub search_draws-returns-in_err-keep :
     goal.search_draws-returns-in_err-keep
@@ -139,12 +196,12 @@ search_draws-loop-d-preserved g t c =
       same_limit = c.search_state.ensures.ends.same_limit ∙ c.loop-d.invariant.same_limit;
       remembered = c.search_state.ensures.ends.remembered;
       summed = added_is m game c.args.task.now.side c.args.s c.args.own c.args.reply c.requires.reachable c.requires.own_move c.requires.reply c.loop-d.d n.0 c.chance.result n.1
-          c.in_ok-found.found n.2 (to_z w64 c.loop-d.sum-bits) c.loop-d.invariant.summed;
+          c.with_reward-number.result n.2 (to_z w64 c.loop-d.sum-bits) c.loop-d.invariant.summed;
       listed = listed_more m game c.args.task.now.side c.args.s c.args.own c.args.reply c.requires.reachable c.requires.own_move c.requires.reply c.loop-d.d n.0 c.chance.result n.1
-          c.in_ok-found.found n.2 c.args.worker.now.reads.items c.loop-d.worker.reads.items c.search_state.new.worker.reads.items c.keep.new.reads.items c.loop-d.invariant.listed
+          c.with_reward-number.result n.2 c.args.worker.now.reads.items c.loop-d.worker.reads.items c.search_state.new.worker.reads.items c.keep.new.reads.items c.loop-d.invariant.listed
           c.in_ok-found.ensures.same_reads c.in_ok-keep.ensures.ok;
       good = good_more m game c.args.task.now.side c.args.s c.args.own c.args.reply c.requires.reachable c.requires.own_move c.requires.reply c.loop-d.d n.0 c.chance.result n.1
-          c.in_ok-found.found n.2 (g.B.Bounds.view c.loop-d.board) (g.B.Bounds.view c.search_state.new.board) c.search_state.ensures.ends.kept.later c.loop-d.invariant.good n.3;
+          c.with_reward-number.result n.2 (g.B.Bounds.view c.loop-d.board) (g.B.Bounds.view c.search_state.new.board) c.search_state.ensures.ends.kept.later c.loop-d.invariant.good n.3;
     }
 
 pub search_draws-quotient-requires-clause-negatable : goal.search_draws-quotient-requires-clause-negatable
@@ -164,8 +221,8 @@ search_draws-returns g t c =
     let summed = c.loop-d.invariant.summed in
     let is : c.quotient.result ≡ pair_value m c.args.task.now.side c.args.s c.args.own c.args.reply =
     c.quotient.ensures ∙ ap (rounded c.args.task.now.side) (summed
-    ∙ ap (λ (n : ℕ). sum_below n (λ d. pos (chance_of m c.args.task.now.side c.args.s c.args.own c.args.reply d) *ℤ serial_bound m c.args.task.now.side
-    (child_of m c.args.task.now.side c.args.s c.args.own c.args.reply d))) all) in
+    ∙ ap (λ (n : ℕ). sum_below n (λ d. pos (chance_of m c.args.task.now.side c.args.s c.args.own c.args.reply d) *ℤ turn_value m c.args.task.now.side
+    c.args.s c.args.own c.args.reply d)) all) in
     let some = some_draws m game c.args.task.now.side c.args.s c.args.own c.args.reply c.requires.reachable c.requires.own_move c.requires.reply in
     λ floor ceiling. record {
       kept = subst (λ (n : ℕ). IsSerialKept m c.args.task.now.side (count_below n (λ d. tree_size m (child_of m c.args.task.now.side c.args.s c.args.own c.args.reply d)))
@@ -175,7 +232,7 @@ search_draws-returns g t c =
       ends = rw (to_z-of_z w64 c.quotient.result fm, is) (pair_several m game c.args.task.now.side c.args.s c.requires.reachable c.requires.goes_on c.args.own c.requires.own_move
           c.args.reply c.requires.reply floor ceiling (g.B.Bounds.view c.loop-d.board) c.args.worker.now.reads.items c.loop-d.worker.reads.items
           (subst (λ (n : ℕ). c.loop-d.worker.reads.items ≡ c.args.worker.now.reads.items ++ concat_below n
-          (λ d. serial_bound m c.args.task.now.side (child_of m c.args.task.now.side c.args.s c.args.own c.args.reply d) ∷ [])) all c.loop-d.invariant.listed)
+          (λ d. turn_value m c.args.task.now.side c.args.s c.args.own c.args.reply d ∷ [])) all c.loop-d.invariant.listed)
           (λ d h. c.loop-d.invariant.good d (omega arith)));
       below = c.loop-d.invariant.below (omega (arith, some, all));
     }
@@ -204,8 +261,11 @@ replied g t c =
 
 pub search_move-loop-reply-init : goal.search_move-loop-reply-init
 search_move-loop-reply-init g t c =
-    let fo : SFits w64 c.opening_bound-least.result = search rules in
-    rw (to_z-of_z w64 c.opening_bound-least.result fo, c.opening_bound-least.ensures, c.other.ensures) (record {
+    let fo : SFits w64 c.better-highest.result = search rules in
+    let fa : SFits w64 c.state_bound-all.result = search rules in
+    let fb : SFits w64 c.args.window.better = search rules in
+    let highest = simp to_z-of_z at c.better-highest.ensures in
+    rw (to_z-of_z w64 c.better-highest.result fo, highest, c.state_bound-all.ensures, c.other.ensures) (record {
       kept = kept_none;
       same_limit = refl;
       remembered = c.requires.remembered;
@@ -222,9 +282,9 @@ search_move-search_pair-requires g t c =
     let fc : SFits w64 c.better.result = search rules in
     let so_far = c.loop-reply.invariant.so_far in
     let ceiling = rw c.other-in-loop-reply.ensures at (simp to_z-of_z at c.better.ensures) in
-    let window : IsWindow m c.args.task.now.side (to_z w64 (of_z w64 c.args.window.worse)) (to_z w64 (of_z w64 c.better.result)) =
+    let window : IsWindow m c.args.task.now.side c.args.s (to_z w64 (of_z w64 c.args.window.worse)) (to_z w64 (of_z w64 c.better.result)) =
     rw (to_z-of_z w64 c.args.window.worse ff, to_z-of_z w64 c.better.result fc, ceiling)
-    (pair_window m c.args.task.now.side c.args.window.worse c.args.window.better (to_z w64 c.loop-reply.least-bits) c.requires.window so_far.wide) in
+    (pair_window m c.args.task.now.side c.args.s c.args.window.worse c.args.window.better (to_z w64 c.loop-reply.least-bits) c.requires.window so_far.wide so_far.near) in
     search rules
 
 pub search_move-returns-then-not-is_tighter : goal.search_move-returns-then-not-is_tighter
@@ -360,8 +420,11 @@ moved g t c =
 
 pub search_moves-loop-own-init : goal.search_moves-loop-own-init
 search_moves-loop-own-init g t c =
-    let fo : SFits w64 c.opening_bound-value.result = search rules in
-    rw (to_z-of_z w64 c.opening_bound-value.result fo, c.opening_bound-value.ensures) (record {
+    let fo : SFits w64 c.better-lowest.result = search rules in
+    let fa : SFits w64 c.state_bound-all.result = search rules in
+    let fw : SFits w64 c.args.window.worse = search rules in
+    let lowest = simp to_z-of_z at c.better-lowest.ensures in
+    rw (to_z-of_z w64 c.better-lowest.result fo, lowest, c.state_bound-all.ensures, c.other.ensures) (record {
       kept = kept_none;
       same_limit = refl;
       remembered = c.requires.remembered;
@@ -379,9 +442,13 @@ search_moves-search_move-requires g t c =
     let ff : SFits w64 c.better.result = search rules in
     let so_far = c.loop-own.invariant.so_far in
     let floor = simp to_z-of_z at c.better.ensures in
-    let window : IsWindow m c.args.task.now.side (to_z w64 (of_z w64 c.better.result)) (to_z w64 (of_z w64 c.args.window.better)) =
+    let window : IsWindow m c.args.task.now.side c.args.s (to_z w64 (of_z w64 c.better.result)) (to_z w64 (of_z w64 c.args.window.better)) =
     rw (to_z-of_z w64 c.better.result ff, to_z-of_z w64 c.args.window.better fb, floor)
-    (move_window m c.args.task.now.side c.args.window.worse c.args.window.better (to_z w64 c.loop-own.value-bits) c.requires.window so_far.wide) in
+    (move_window m c.args.task.now.side c.args.s c.args.window.worse c.args.window.better (to_z w64 c.loop-own.value-bits) c.requires.window so_far.wide so_far.near) in
+    let here : c.loop-own.own < m.moves c.args.task.now.side c.args.s = rw (← c.moves-own-end.ensures) c.loop-own-test.true in
+    let same : (g.B.Bounds.view c.loop-own.board).game ≡ c.args.task.now.game = c.loop-own.invariant.kept.later.game ∙ c.requires.game in
+    let row : (g.B.Bounds.view c.loop-own.board).key_at c.args.row ≡ Some (m.key c.args.s) = c.loop-own.invariant.kept.later.keys c.args.row _ c.requires.row.has_key in
+    let remembered : AreRemembered m (g.B.Bounds.view c.loop-own.board) c.loop-own.worker.table = c.loop-own.invariant.remembered in
     search rules
 
 pub search_moves-returns-then-not-is_tighter : goal.search_moves-returns-then-not-is_tighter
@@ -473,6 +540,46 @@ alone g t c = (
   rw (c.move_of_one-one.ensures, c.move_of_two-two.ensures) at c.drawn-child.ensures,
 )
 
+-- its turn and the reward
+paid : (g : given.Over) (t : ℕ) (c : search_pair-After-turn_reward-reward g t) → let m = g.G.Game.model c.args.task.now.game in
+    (0 < draws_of m c.args.task.now.side c.args.s c.args.own c.args.reply)
+    × IsTurn m c.args.s (turn_of c.args.task.now.side c.args.own c.args.reply 0)
+    × (to_z w64 (of_z w64 c.turn_reward-reward.result) ≡ turn_reward m c.args.task.now.side c.args.s c.args.own c.args.reply 0)
+paid g t c =
+    let m = g.G.Game.model c.args.task.now.game in
+    let one : draws_of m c.args.task.now.side c.args.s c.args.own c.args.reply ≡ 1 =
+    (rw (c.move_of_one-one.ensures, c.move_of_two-two.ensures) at (sym c.draws-draws.ensures)) ∙ c.if-draws-ne1.false in
+    let some : 0 < draws_of m c.args.task.now.side c.args.s c.args.own c.args.reply = omega (arith, one) in
+    let fr : SFits w64 c.turn_reward-reward.result = search rules in (
+      some,
+      side_turn m c.args.task.now.side c.args.s c.args.own c.args.reply 0 c.requires.own_move c.requires.reply some,
+      to_z-of_z w64 c.turn_reward-reward.result fr ∙ (rw (c.move_of_one-one.ensures, c.move_of_two-two.ensures) at c.turn_reward-reward.ensures),
+    )
+
+pub search_pair-window_after-after-requires : goal.search_pair-window_after-after-requires
+search_pair-window_after-after-requires g t c =
+    let p = paid g t (goal.at.search_pair-window_after-after-requires g t c).After-turn_reward-reward in
+    record {
+      worse = omega (arith, c.requires.window.from);
+      better = omega (arith, c.requires.window.to);
+      reward = rw p.2 (reward_small (g.G.Game.model c.args.task.now.game) (g.met.G.Game.lawful c.args.task.now.game) c.args.task.now.side c.args.s c.args.own c.args.reply 0 c.requires.reachable p.1);
+    }
+
+pub search_pair-with_reward-number-requires : goal.search_pair-with_reward-number-requires
+search_pair-with_reward-number-requires g t c =
+    let m = g.G.Game.model c.args.task.now.game in
+    let game = g.met.G.Game.lawful c.args.task.now.game in
+    let here = goal.at.search_pair-with_reward-number-requires g t c in
+    let one = alone g t here.After-drawn-child in
+    let p = paid g t here.After-turn_reward-reward in
+    let found = rw one.1 at c.in_ok-found.ensures.ends.ends in
+    let fx : SFits w64 c.in_ok-found.found = search rules in
+    rw (p.2, to_z-of_z w64 c.in_ok-found.found fx) (record {
+      reward = reward_small m game c.args.task.now.side c.args.s c.args.own c.args.reply 0 c.requires.reachable p.1;
+      found = range_small m game c.args.task.now.side _ c.in_ok-found.found
+          (child_is m game c.args.task.now.side c.args.s c.args.own c.args.reply 0 c.requires.reachable c.requires.own_move c.requires.reply p.0) found.range;
+    })
+
 pub search_pair-returns-then-draws-ne1 :
     goal.search_pair-returns-then-draws-ne1
 search_pair-returns-then-draws-ne1 g t c = c.search_draws.ensures c.args.window.worse c.args.window.better
@@ -487,6 +594,11 @@ search_pair-search_state-requires g t c =
     c.requires.reply some) in
     let lower : m.rank c.drawn-child.result < m.rank c.args.s =
     rw one.1 (child_lower m game c.args.task.now.side c.args.s c.args.own c.args.reply 0 c.requires.reachable c.requires.own_move c.requires.reply some) in
+    let p = paid g t (goal.at.search_pair-search_state-requires g t c).After-turn_reward-reward in
+    let worse = rw p.2 at c.window_after-after.ensures.worse in
+    let better = rw p.2 at c.window_after-after.ensures.better in
+    let window : IsWindow m c.args.task.now.side c.drawn-child.result c.window_after-after.result.worse c.window_after-after.result.better =
+    rw (one.1, worse, better) (turn_window m game c.args.task.now.side c.args.s c.args.own c.args.reply 0 c.args.window.worse c.args.window.better c.requires.reachable p.1 c.requires.window) in
     search rules
 
 pub search_pair-returns : goal.search_pair-returns
@@ -494,13 +606,18 @@ search_pair-returns g t c =
     let m = g.G.Game.model c.args.task.now.game in
     let one = alone g t (goal.at.search_pair-returns g t c).After-drawn-child in
     let fx : SFits w64 c.in_ok-found.found = search rules in
-    let found = rw one.1 at c.in_ok-found.ensures.ends.ends in
-    let listed = rw c.in_ok-found.ensures.same_reads at (simp to_z-of_z at c.in_ok-keep.ensures.ok) in
+    let fn : SFits w64 c.with_reward-number.result = search rules in
+    let p = paid g t (goal.at.search_pair-returns g t c).After-turn_reward-reward in
+    let worse = rw p.2 at c.window_after-after.ensures.worse in
+    let better = rw p.2 at c.window_after-after.ensures.better in
+    let found = rw (one.1, worse, better) at c.in_ok-found.ensures.ends.ends in
+    let number = rw (p.2, to_z-of_z w64 c.in_ok-found.found fx) at c.with_reward-number.ensures in
+    let listed = rw (c.in_ok-found.ensures.same_reads, to_z-of_z w64 c.with_reward-number.result fn, number) at c.in_ok-keep.ensures.ok in
     record {
       kept = kept_after {a = 0} kept_none (rw one.1 at c.search_state.ensures.ends.kept) (rw one.0 (omega arith));
       same_limit = c.search_state.ensures.ends.same_limit;
       remembered = c.search_state.ensures.ends.remembered;
-      ends = rw (to_z-of_z w64 c.in_ok-found.found fx) (pair_one m (g.met.G.Game.lawful c.args.task.now.game) c.args.task.now.side c.args.s c.requires.reachable c.requires.goes_on
+      ends = rw (to_z-of_z w64 c.with_reward-number.result fn, number) (pair_one m (g.met.G.Game.lawful c.args.task.now.game) c.args.task.now.side c.args.s c.requires.reachable c.requires.goes_on
           c.args.own c.requires.own_move c.args.reply c.requires.reply c.args.window.worse c.args.window.better (g.B.Bounds.view c.search_state.new.board)
           c.args.worker.now.reads.items c.keep.new.reads.items c.in_ok-found.found one.0 found listed);
       below = c.in_ok-found.ensures.ends.below;
@@ -552,12 +669,17 @@ search_state-returns-then-left-eq0-clause-ends g t c = record {
 pub search_state-returns-then-rank-eq0-clause-ends :
     goal.search_state-returns-then-rank-eq0-clause-ends
 search_state-returns-then-rank-eq0-clause-ends g t c =
-    let tree = tree_moves (g.G.Game.model c.args.task.now.game) (g.met.G.Game.lawful c.args.task.now.game) c.args.task.now.side c.args.s c.requires.reachable in
+    let m = g.G.Game.model c.args.task.now.game in
+    let game = g.met.G.Game.lawful c.args.task.now.game in
+    let tree = tree_moves m game c.args.task.now.side c.args.s c.requires.reachable in
+    let fx : SFits w64 c.end_bound.result = search rules in
+    let stop : m.rank c.args.s ≡ 0 = omega arith in
     record {
       kept = kept_after {a = 1} {b = 0} (kept_counted c.spend.ensures.counts) kept_none (omega arith);
       same_limit = refl;
       remembered = c.requires.remembered;
-      ends = search rules;
+      ends = rw (to_z-of_z w64 c.end_bound.result fx, c.end_bound.ensures) (found_end m game c.args.task.now.side c.args.s c.args.window.worse c.args.window.better (g.B.Bounds.view c.args.board.now)
+          c.requires.reachable stop);
       below = search rules;
     }
 

@@ -1,10 +1,10 @@
 use Rattle.std.proofs.Common.{◌≡◌, ◌<◌, ◌≤◌, ℕ, pos, ◌+◌, ◌*◌, ◌*ℤ◌, [], ◌∷◌, ◌++◌}
 use Rattle.sums.specs.Sums.{sum_below, count_below}
-use Rattle.sim_game.specs.Sides.{chance_of, child_of}
-use Rattle.plan_book.specs.Serial.{serial_bound, tree_size}
+use Rattle.sim_game.specs.Sides.{chance_of, child_of, after_reward}
+use Rattle.plan_book.specs.Serial.{tree_size}
 use Rattle.plan_book.specs.Entries.{concat_below}
 use Rattle.serial_ab.specs.Counts.{spent_on}
-use Rattle.serial_ab.specs.Values.{pair_nodes, move_nodes}
+use Rattle.serial_ab.specs.Values.{turn_value, pair_nodes, move_nodes}
 use Rattle.serial_ab.specs.Searches.{IsSerialKept, IsGoodNumber}
 use Rattle.serial_ab.specs.Transpositions.{AreRemembered}
 use Rattle.serial_ab.proofs.SearchLemmas.{MovesSoFar, RepliesSoFar}
@@ -35,12 +35,12 @@ invariant-search_draws-loop-d g l = record {
       (g.B.Bounds.view l.board) l.initial.worker.visits l.worker.visits;
   remembered : AreRemembered (g.G.Game.model l.task.game) (g.B.Bounds.view l.board) l.worker.table;
   same_limit : l.worker.table.limit ≡ l.initial.worker.table.limit;
-  summed : l.sum ≡ sum_below l.d (λ d. pos (chance_of (g.G.Game.model l.task.game) l.task.side l.s l.own l.reply d) *ℤ serial_bound (g.G.Game.model l.task.game) l.task.side
-      (child_of (g.G.Game.model l.task.game) l.task.side l.s l.own l.reply d));
+  summed : l.sum ≡ sum_below l.d (λ d. pos (chance_of (g.G.Game.model l.task.game) l.task.side l.s l.own l.reply d) *ℤ turn_value (g.G.Game.model l.task.game) l.task.side
+      l.s l.own l.reply d);
   listed : l.worker.reads.items ≡ l.initial.worker.reads.items ++ concat_below l.d
-      (λ d. serial_bound (g.G.Game.model l.task.game) l.task.side (child_of (g.G.Game.model l.task.game) l.task.side l.s l.own l.reply d) ∷ []);
-  good : (d : ℕ) → d < l.d → IsGoodNumber (g.G.Game.model l.task.game) l.task.side (g.B.Bounds.view l.board) (child_of (g.G.Game.model l.task.game) l.task.side l.s l.own l.reply d)
-      (serial_bound (g.G.Game.model l.task.game) l.task.side (child_of (g.G.Game.model l.task.game) l.task.side l.s l.own l.reply d));
+      (λ d. turn_value (g.G.Game.model l.task.game) l.task.side l.s l.own l.reply d ∷ []);
+  good : (d : ℕ) → d < l.d → after_reward (g.G.Game.model l.task.game) l.task.side l.s l.own l.reply d (IsGoodNumber (g.G.Game.model l.task.game) l.task.side (g.B.Bounds.view l.board))
+      (turn_value (g.G.Game.model l.task.game) l.task.side l.s l.own l.reply d);
   below : 1 ≤ l.d → spent_on l.task.side l.initial.worker.visits + 1 ≤ spent_on l.task.side l.worker.visits;
 }
 

@@ -2,7 +2,7 @@ use Rattle.std.proofs.Common.{rules, ◌≡◌, w64, SFits}
 use Rattle.std.proofs.lemmas.Int.{to_z-of_z}
 use Rattle.sim_game.specs.Model.{IsGame}
 use Rattle.serial_ab.specs.declared.windowed.SerialEnd.TheVariants.{Cut}
-use Rattle.serial_ab.proofs.EndLemmas.{range_window, value_of, not_cut, shown, whole_on_board}
+use Rattle.serial_ab.proofs.EndLemmas.{range_window, value_of, not_cut, shown, whole_known}
 use Rattle.serial_ab.proofs.windowed.search_window.Goals as goal
 
 pub search_state-requires-clause-window : goal.search_state-requires-clause-window
@@ -14,7 +14,7 @@ search_state-requires-clause-window g c =
     let worse = simp to_z-of_z at c.worse.ensures in
     let better = simp to_z-of_z at c.better.ensures in
     rw (to_z-of_z w64 c.worse.result fw, to_z-of_z w64 c.better.result fb, worse, better)
-    (range_window (g.G.Game.model c.args.g) c.args.side c.args.window.0 c.args.window.1 c.requires.window)
+    (range_window (g.G.Game.model c.args.g) (g.met.G.Game.lawful c.args.g) c.args.side c.args.s c.args.window.0 c.args.window.1 c.requires.reachable c.requires.window)
 
 pub returns-in-Ok : goal.returns-in-Ok
 returns-in-Ok g c =
@@ -43,7 +43,7 @@ returns-in-Ok g c =
         entered = c.search_state.ensures.entered;
         below = λ goes _. let ok = c.search_state.ensures.below goes in let is = c.in-Ok.is in search rules;
         seen = λ goes. shown m c.args.side c.args.s c.args.window.0 c.args.window.1 v c.in-Ok.value c.placed.result goes c.requires.window.wide found placed;
-        whole = λ p q goes _. whole_on_board m game c.args.side c.args.s v c.in-Ok.value c.requires.reachable goes (rw (p, q) at c.requires.window.wide) (rw (p, q) at found);
+        whole = λ p q goes _. whole_known m game c.args.side c.args.s v c.in-Ok.value c.requires.reachable goes (rw (p, q) at c.requires.window.wide) (rw (p, q) at found);
         full = λ e. cc;
       };
     }

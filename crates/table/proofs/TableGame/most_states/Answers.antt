@@ -8,4 +8,4 @@ pub returns : goal.returns
 returns c =
     let l = lists_of c.args.self.now.setting in
     let valid = c.args.self.now.valid in
-    few_by_keys (table_game l) (table_is_game l valid) _ (λ s r. sound l valid s r)
+    few_by_keys (table_game l) (table_is_game l valid c.args.self.now.small) _ (λ s r. sound l valid s r)

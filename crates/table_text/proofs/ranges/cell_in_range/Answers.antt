@@ -1,4 +1,5 @@
-use Rattle.std.proofs.Common.{◌∙◌, ap, sym, leb}
+use Rattle.std.proofs.Common.{◌∙◌, ap, sym, leb, rules, w64, SFits}
+use Rattle.std.proofs.lemmas.Int.{to_z-of_z}
 use Rattle.serde_json.specs.View.{view}
 use Rattle.table.specs.Nested.{draw_in_range, cell_in_range}
 use Rattle.table_text.specs.States.{draw_form_of}
@@ -7,7 +8,9 @@ use Rattle.table_text.proofs.ranges.cell_in_range.Goals as goal
 
 pub returns-then-is_whole : goal.returns-then-is_whole
 returns-then-is_whole c =
-    c.names_state.ensures ∙ sym (ap cell_in_range (cell_whole (view c.args.cell.now) (sym c.is_whole.ensures ∙ c.if-is_whole.true)))
+    let fits : SFits w64 c.whole.result = search rules in
+    let small = rw (to_z-of_z w64 c.whole.result fits, c.whole.ensures) at c.names_state.ensures in
+    small ∙ sym (ap cell_in_range (cell_whole (view c.args.cell.now) (sym c.is_whole.ensures ∙ c.if-is_whole.true)))
 
 pub returns-else-is_whole : goal.returns-else-is_whole
 returns-else-is_whole c =

@@ -18,8 +18,8 @@ play-hands-requires-clause-small c = hands_small c.args.self.now.setting c.args.
 
 -- the prize of the array is that of the list
 hands_are : (g : Setting) (p : IsPosition g) (s : DrawnState) (a b : ℕ) (hands : State) → IsDrawnSound g s → a < length (cards s.hands.one)
-    → hands ≡ state_of (after_bids (get_or g.prizes s.place 0) (deal_of s.hands) a b) → hands ≡ state_of (after_bids (prize_at g s.place) (deal_of s.hands) a b)
-hands_are g p s a b hands here some is = is ∙ ap (λ (prize : ℕ). state_of (after_bids prize (deal_of s.hands) a b)) (drawn_prize_is g p s here (omega arith))
+    → hands ≡ state_of (after_bids g.pay (get_or g.prizes s.place 0) (deal_of s.hands) a b) → hands ≡ state_of (after_bids g.pay (prize_at g s.place) (deal_of s.hands) a b)
+hands_are g p s a b hands here some is = is ∙ ap (λ (prize : ℕ). state_of (after_bids g.pay prize (deal_of s.hands) a b)) (drawn_prize_is g p s here (omega arith))
 
 pub returns-then-s-eq0 : goal.returns-then-s-eq0
 returns-then-s-eq0 c =

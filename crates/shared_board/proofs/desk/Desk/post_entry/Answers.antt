@@ -7,8 +7,16 @@ use Rattle.shared_board.specs.Passes.{IsPass, IsKnown}
 use Rattle.shared_board.specs.declared.view.View.{View}
 use Rattle.shared_board.proofs.ClaimLemmas.{game_is}
 use Rattle.shared_board.proofs.DeskLemmas.{known_entry}
-use Rattle.shared_board.proofs.PassLemmas.{pass_posted, entry_in_range, entry_proved}
+use Rattle.shared_board.proofs.PassLemmas.{pass_posted, entry_small, entry_in_range, entry_proved}
 use Rattle.shared_board.proofs.desk.Desk.post_entry.Goals as goal
+
+pub word_of_bound-bound-requires-clause-low : goal.word_of_bound-bound-requires-clause-low
+word_of_bound-bound-requires-clause-low g c = let game = c.args.self.now.board.game in
+    (entry_small (g.G.Game.model game) (g.met.G.Game.lawful game) c.args.e _ _ c.requires.lawful).0
+
+pub word_of_bound-bound-requires-clause-high : goal.word_of_bound-bound-requires-clause-high
+word_of_bound-bound-requires-clause-high g c = let game = c.args.self.now.board.game in
+    (entry_small (g.G.Game.model game) (g.met.G.Game.lawful game) c.args.e _ _ c.requires.lawful).1
 
 pub post_word-requires-clause-post : goal.post_word-requires-clause-post
 post_word-requires-clause-post g c = let seat = c.pass.inside.bare.seat in let e = c.args.e in let game = c.args.self.now.board.game in let m = g.G.Game.model game in let laws =

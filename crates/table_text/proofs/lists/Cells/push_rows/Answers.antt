@@ -1,4 +1,4 @@
-use Rattle.std.proofs.Common.{◌+◌, ◌≤◌, List, sym, subst, leb}
+use Rattle.std.proofs.Common.{◌+◌, ◌≤◌, List, length, sym, subst, leb}
 use Rattle.serde_json.specs.View.{view}
 use Rattle.serde_json.specs.declared.value.Value.{Value}
 use Rattle.table.specs.Nested.{CellForm, cell_in_range, row_in_range, draw_count_of}
@@ -13,7 +13,7 @@ push_row-requires-clause-range c =
 
 pub push_row-requires-clause-room : goal.push_row-requires-clause-room
 push_row-requires-clause-room c =
-    subst (λ (cells : List CellForm). c.loop-row.self.count + draw_count_of cells ≤ 262144) (sym (row_cells c.elements.result.now (view c.row-item.result) c.elements.ensures))
+    subst (λ (cells : List CellForm). length c.loop-row.self.draws.rewards.items + draw_count_of cells ≤ 262144) (sym (row_cells c.elements.result.now (view c.row-item.result) c.elements.ensures))
     (room_more (λ (v : Value). row_form_of (view v)) 262144 c.args.self.now c.loop-row.self c.args.rows.now c.loop-row.row-index c.row-item.result c.loop-row-test.true c.row-item.is
     c.loop-row.invariant c.requires.room)
 

@@ -1,0 +1,49 @@
+-- The versions of reports, and how much a report of each can hold.
+use Rattle.std.specs.Prelude.{ℕ, ◌==◌, Bool, not, ◌||◌, if◌then◌else◌, nat_lt, length}
+use Rattle.plan_book.specs.declared.Sheet.{Sheet}
+use Rattle.fields.specs.declared.positions.GameKind.{GameKind}
+use Rattle.fields.specs.declared.positions.GameKind.TheVariants.{Goofspiel, OshiZumo, Tron, GoofspielDrawn, Pursuit, Table}
+use Rattle.fields.specs.declared.positions.Limits.{Limits}
+use Rattle.fields.specs.declared.positions.Limits.TheVariants.{Narrow, Wide}
+use Rattle.fields.specs.Positions.{kind_of, is_narrow}
+use Rattle.certificate.specs.declared.report.Report.{Report}
+
+-- versions are numbered from 1
+abbrev pub newest_version : ℕ
+newest_version = 3
+
+-- the first version that has the game
+abbrev pub game_version : GameKind → ℕ
+game_version Goofspiel = 1
+game_version OshiZumo = 1
+game_version Tron = 1
+game_version GoofspielDrawn = 2
+game_version Pursuit = 2
+game_version Table = 2
+
+-- each version has its own games, the newest has all
+abbrev pub has_game : ℕ → GameKind → Bool
+has_game version game = game_version game == version || version == newest_version
+
+abbrev pub limits_of : ℕ → Limits
+limits_of version = if version == newest_version then Wide else Narrow
+
+-- the most rows of a sheet, and the most weights of a row
+abbrev pub most_rows : Limits → ℕ
+most_rows Narrow = 1048576
+most_rows Wide = 16777216
+
+abbrev pub most_moves : Limits → ℕ
+most_moves Narrow = 32
+most_moves Wide = 64
+
+abbrev pub is_long : Sheet → Bool
+is_long sheet = nat_lt (most_rows Narrow) (length sheet.rows)
+
+-- the position or a sheet is beyond the narrow limits
+abbrev pub needs_newest : Report → Bool
+needs_newest r = not (is_narrow r.position) || (is_long r.one || is_long r.two)
+
+-- each report has one version: the first of its game, unless it needs the newest
+abbrev pub version_of : Report → ℕ
+version_of r = if needs_newest r then newest_version else game_version (kind_of r.position)

@@ -1,0 +1,87 @@
+//! The version of a report, and how much reports of a version can hold.
+
+ghost use Rattle.std.specs.Prelude.{◌≡◌, ◌+◌};
+ghost use Rattle.certificate.specs.Versions.{game_version, has_game, limits_of, most_rows, most_moves, is_long, needs_newest, version_of};
+
+use crate::Report;
+use fields::{GameKind, Limits};
+use plan_book::Sheet;
+
+/// The newest version of reports; the first is 1.
+pub(crate) const NEWEST_VERSION: u32 = 3;
+
+/// The first version that has the game.
+fn game_version(game: GameKind) -> u32
+    ensures { result ≡ game_version game }
+{
+    match game {
+        GameKind::Goofspiel => 1,
+        GameKind::OshiZumo => 1,
+        GameKind::Tron => 1,
+        GameKind::GoofspielDrawn => 2,
+        GameKind::Pursuit => 2,
+        GameKind::Table => 2,
+    }
+}
+
+pub(crate) fn has_game(version: u32, game: GameKind) -> bool
+    ensures { result ≡ has_game version game }
+{
+    game_version(game) == version || version == NEWEST_VERSION
+}
+
+pub(crate) fn limits_of(version: u32) -> Limits
+    ensures { result ≡ limits_of version }
+{
+    if version == NEWEST_VERSION {
+        Limits::Wide
+    } else {
+        Limits::Narrow
+    }
+}
+
+/// The most rows of a sheet.
+pub(crate) fn most_rows(limits: Limits) -> u64
+    ensures { result ≡ most_rows limits }
+{
+    match limits {
+        Limits::Narrow => 1_048_576,
+        Limits::Wide => 16_777_216,
+    }
+}
+
+/// The most fields of a row: its key, its bound and its weights.
+pub(crate) fn most_row_fields(limits: Limits) -> usize
+    ensures { result ≡ 2 + most_moves limits }
+{
+    match limits {
+        Limits::Narrow => 34,
+        Limits::Wide => 66,
+    }
+}
+
+fn is_long(sheet: &Sheet) -> bool
+    ensures { result ≡ is_long sheet.now }
+{
+    sheet.rows.len() > 1_048_576
+}
+
+impl Report {
+    /// The version of the report. That of its game, from 1 on, unless the report needs the newest: if the position or
+    /// a sheet is beyond the narrow limits.
+    pub fn version(&self) -> u32
+        ensures { result ≡ version_of self.now }
+    {
+        if self.needs_newest() {
+            NEWEST_VERSION
+        } else {
+            game_version(self.position.game())
+        }
+    }
+
+    fn needs_newest(&self) -> bool
+        ensures { result ≡ needs_newest self.now }
+    {
+        !self.position.is_narrow() || is_long(&self.one) || is_long(&self.two)
+    }
+}

@@ -1,0 +1,247 @@
+-- Rows that are certified one after another, children first, are a lawful sheet.
+use Rattle.std.proofs.Common.{◌≡◌, ℕ, ◌+◌, ◌<◌, ◌≤◌, ℤ, ◌+ℤ◌, Bool, false, cond, eqb, Option, None, Some, List, [], ◌∷◌, ◌++◌, map, length, take, get_or, refl, sym, ap, subst, ◌∙◌, append_assoc, length-append, arith}
+use Rattle.std.proofs.lemmas.List.{get_or_default, take_all, length-map, length_push}
+use Rattle.std.proofs.lemmas.List.Elements.{All-weaker, All-push, All-nil}
+use Rattle.std.proofs.lemmas.Cmp.{nat_eq_equiv}
+use Rattle.std.proofs.lemmas.List.Sorted.{All-permutation, IsPermutation-map, length_permutation}
+use Rattle.std.proofs.lemmas.Map.Keys.{IsDistinct-IsPermutation}
+use Rattle.std.specs.List.{All, IsDistinct}
+use Rattle.std.specs.List.Sorted.{IsNonDecreasingBy, IsPermutation}
+use Rattle.std.specs.Option.{is_some}
+use Rattle.sim_game.specs.declared.Side.{Side}
+use Rattle.sim_game.specs.Model.{GameModel, IsGame, Reachable}
+use Rattle.sim_game.specs.Sides.{other_side, turn_of, draws_of, child_of, turn_reward}
+use Rattle.sim_game.proofs.SideLemmas.{looser_left, looser_refl, side_turn}
+use Rattle.plan_book.specs.declared.Sheet.{Sheet}
+use Rattle.plan_book.specs.declared.SheetRow.{SheetRow}
+use Rattle.plan_book.specs.Sheets.{row_at, bound_or, IsReached, IsLawfulRow, IsLawful}
+use Rattle.plan_book.specs.Steps.{IsStep}
+use Rattle.plan_book.proofs.ExpectedLemmas.{is_other}
+use Rattle.plan_book.proofs.LookupLemmas.{row_keys}
+use Rattle.plan_book.proofs.SheetLemmas.{reached_reachable}
+use Rattle.plan_book.proofs.StepLemmas.{step_mono}
+use Rattle.plan_book.proofs.TakenLemmas.{row_pushed}
+use Rattle.induction.specs.declared.PlannedState.{PlannedState}
+use Rattle.induction.specs.Planned.{open_row, planned, weights_of_row, IsPlannedState, ArePlanned}
+use Rattle.induction.specs.Certified.{ArePlaced, turn_numbers, IsBestStep, HasBestBounds}
+use Rattle.induction.proofs.RowLemmas.{opened, weights_opened, keys_opened, state_keys, keys_open, planned_moved, reached_by, placed_more, next_is_new, filled_more, row_moved, rows_rise}
+use Rattle.induction.proofs.BoundLemmas.{child_reachable}
+
+-- ---- over other rows that have the same bounds
+module _ {S : Type 0} (m : GameModel S) (side : Side) (s : S) (total : ℕ) (weights : List ℕ) (rows others : List SheetRow) (bound : ℤ) where
+  abbrev pub Agree : Type 0
+  Agree = (own reply d : ℕ) → own < m.moves side s → reply < m.moves (other_side side) s → d < draws_of m side s own reply
+      → turn_numbers m side others s own reply d ≡ turn_numbers m side rows s own reply d
+
+  over : (x : ℤ) → Agree → IsStep m side s total weights (turn_numbers m side rows s) x → IsStep m side s total weights (turn_numbers m side others s) x
+  over x agree step = step_mono m side s total weights _ _ x step (λ own reply d p q u _. looser_left side _ _ _ (agree own reply d p q u) (looser_refl side _))
+
+  back : (x : ℤ) → Agree → IsStep m side s total weights (turn_numbers m side others s) x → IsStep m side s total weights (turn_numbers m side rows s) x
+  back x agree step = step_mono m side s total weights _ _ x step (λ own reply d p q u _. looser_left side _ _ _ (sym (agree own reply d p q u)) (looser_refl side _))
+
+  pub best_over : Agree → IsBestStep m side s total weights rows bound → IsBestStep m side s total weights others bound
+  best_over agree best = record {
+    step = over bound agree best.step;
+    tightest = λ x step. best.tightest x (back x agree step);
+    ranged = best.ranged;
+  }
+
+-- ---- planned states in another order
+pub record AreOrdered {S : Type 0} (m : GameModel S) (side : Side) (total : ℕ) (ps states : List (PlannedState S)) : Type 0 where
+  pub first : IsDistinct eqb (state_keys ps)
+  pub moved : IsPermutation ps states
+  pub distinct : IsDistinct eqb (state_keys states)
+  pub rising : IsNonDecreasingBy (λ p. p.rank) states
+  pub plan : All (IsPlannedState m side total (planned ps)) states
+
+pub ordered : {S : Type 0} (m : GameModel S) (side : Side) (total : ℕ) (ps states : List (PlannedState S)) → ArePlanned m side total ps → IsPermutation ps states
+    → IsNonDecreasingBy (λ p. p.rank) states → AreOrdered m side total ps states
+ordered m side total ps states plan moved rising = record {
+  first = plan.distinct;
+  moved = moved;
+  distinct = IsDistinct-IsPermutation eqb nat_eq_equiv.symm _ _ (IsPermutation-map (λ p. p.key) ps states moved) plan.distinct;
+  rising = rising;
+  plan = All-permutation (IsPlannedState m side total (planned ps)) ps states moved plan.each;
+}
+
+-- the planned state at a place
+pub planned_here : {S : Type 0} (m : GameModel S) (side : Side) (total : ℕ) (ps states : List (PlannedState S)) → AreOrdered m side total ps states
+    → (i : ℕ) (p : PlannedState S) → i < length states → p ≡ get_or states i p → IsPlannedState m side total (planned ps) p
+planned_here m side total ps states order i p h is = subst (IsPlannedState m side total (planned ps)) (sym is) (order.plan i p h)
+
+-- ---- the rows so far
+-- the row is of a state that is reached, of at most this rank
+pub record IsCertified {S : Type 0} (m : GameModel S) (side : Side) (total : ℕ) (f : ℕ → Option SheetRow) (top : ℕ) (rows : List SheetRow) (r : SheetRow) : Type 0 where
+  pub state : S
+  pub is_key : m.key state ≡ r.key
+  pub reached : IsReached m side f state
+  pub low : m.rank state ≤ top
+  pub best : IsBestStep m side state total r.weights rows r.bound
+
+-- the first states have rows, and all others have at least the rank of those
+pub record AreCertified {S : Type 0} (m : GameModel S) (side : Side) (total : ℕ) (f : ℕ → Option SheetRow) (states : List (PlannedState S))
+    (i : ℕ) (rows : List SheetRow) (places : ℕ → Option ℕ) : Type 0 where
+  pub filled : map opened rows ≡ map open_row (take i states)
+  pub placed : ArePlaced m rows places
+  pub top : ℕ
+  pub each : All (IsCertified m side total f top rows) rows
+  pub above : (j : ℕ) (d : PlannedState S) → i ≤ j → j < length states → top ≤ (get_or states j d).rank
+
+pub none_certified : {S : Type 0} (m : GameModel S) (side : Side) (total : ℕ) (f : ℕ → Option SheetRow) (states : List (PlannedState S)) (places : ℕ → Option ℕ)
+    → ((key : ℕ) → places key ≡ None) → AreCertified m side total f states 0 [] places
+none_certified m side total f states places none = record {
+  filled = refl;
+  placed = record { within = λ key. rw (none key) tt; found = λ key. rw (none key) refl; ranged = λ s r reach e. absurd (cc) };
+  top = 0;
+  each = All-nil _;
+  above = λ j d l h. omega arith;
+}
+
+module _ {S : Type 0} (m : GameModel S) (game : IsGame m) (side : Side) (total : ℕ) (ps states : List (PlannedState S)) (order : AreOrdered m side total ps states)
+    (i : ℕ) (p : PlannedState S) (h : i < length states) (is : p ≡ get_or states i p) (rows : List SheetRow) (row : SheetRow) (places now : ℕ → Option ℕ)
+    (old : AreCertified m side total (planned ps) states i rows places) (key : row.key ≡ p.key) (weights : row.weights ≡ p.weights)
+    (best : IsBestStep m side p.state total p.weights rows row.bound) (put : (q : ℕ) → now q ≡ cond (eqb row.key q) (Some (length rows)) (places q)) where
+  here : IsPlannedState m side total (planned ps) p
+  here = planned_here m side total ps states order i p h is
+
+  pub reachable : Reachable m p.state
+  reachable = reached_reachable m side (planned ps) p.state here.reached
+
+  new : is_some (row_at rows row.key) ≡ false
+  new = rw key (next_is_new states i p rows order.distinct h is old.filled)
+
+  -- a state of lower rank has the bound that it had
+  kept_bound : (t : S) → Reachable m t → m.rank t < p.rank → bound_or m side t (row_at (rows ++ row ∷ []) (m.key t)) ≡ bound_or m side t (row_at rows (m.key t))
+  kept_bound t r lower =
+      let other : eqb row.key (m.key t) ≡ false = is_other row.key (m.key t) (λ e.
+      let same : p.state ≡ t = game.same_key p.state t reachable r (here.is_key ∙ sym key ∙ e) in
+      let rank : m.rank p.state ≡ m.rank t = ap m.rank same in
+      let mine = here.is_rank in
+      absurd (omega (arith, rank, mine, lower))) in
+      ap (bound_or m side t) (row_pushed rows row row.key (m.key t) refl new ∙ ap (λ (b : Bool). cond b (Some row) (row_at rows (m.key t))) other)
+
+  agrees : (s : S) (used : List ℕ) (bound : ℤ) → Reachable m s → m.rank s ≤ p.rank → Agree m side s total used rows (rows ++ row ∷ []) bound
+  agrees s used bound r low own reply d a b u =
+      let legal = side_turn m side s own reply d a b u in
+      let falls = game.rank_falls s (turn_of side own reply d) r legal in
+      ap (λ (x : ℤ). turn_reward m side s own reply d +ℤ x) (kept_bound (child_of m side s own reply d) (child_reachable m game side s own reply r a b d u) (omega (arith, falls, low)))
+
+  pub certified_more : AreCertified m side total (planned ps) states (i + 1) (rows ++ row ∷ []) now
+  certified_more =
+      let top_low : old.top ≤ p.rank = subst (λ (x : PlannedState S). old.top ≤ x.rank) (sym is) (old.above i p (omega arith) h) in
+      record {
+        filled = filled_more states i p rows row h is key weights old.filled;
+        placed = placed_more m game rows row p.state places now old.placed reachable (here.is_key ∙ sym key) best.ranged new put;
+        top = p.rank;
+        each = All-push (IsCertified m side total (planned ps) p.rank (rows ++ row ∷ [])) rows row
+            (All-weaker (IsCertified m side total (planned ps) old.top rows) (IsCertified m side total (planned ps) p.rank (rows ++ row ∷ [])) (λ r c.
+            let low : m.rank c.state ≤ p.rank = (let l = c.low in omega (arith, l, top_low)) in
+            record {
+              state = c.state;
+              is_key = c.is_key;
+              reached = c.reached;
+              low = low;
+              best = best_over m side c.state total r.weights rows (rows ++ row ∷ []) r.bound (agrees c.state r.weights r.bound (reached_reachable m side (planned ps) c.state c.reached) low) c.best;
+            }) rows old.each)
+            (record {
+              state = p.state;
+              is_key = here.is_key ∙ sym key;
+              reached = here.reached;
+              low = (let mine = here.is_rank in omega (arith, mine));
+              best = subst (λ (w : List ℕ). IsBestStep m side p.state total w (rows ++ row ∷ []) row.bound) (sym weights)
+                  (best_over m side p.state total p.weights rows (rows ++ row ∷ []) row.bound
+                  (agrees p.state p.weights row.bound reachable (let mine = here.is_rank in omega (arith, mine))) best);
+            });
+        above = λ j d l g.
+            let first : p.rank ≡ (get_or states i d).rank = ap (λ (x : PlannedState S). x.rank) (is ∙ get_or_default states i p d h) in
+            let up = order.rising i j d (omega (arith, l)) g in
+            omega (arith, first, up);
+      }
+
+-- ---- the next of them
+item_there : {X : Type 0} (xs ys : List X) (x : X) → x ≡ get_or (xs ++ x ∷ ys) (length xs) x
+item_there [] ys x = refl
+item_there (y ∷ xs) ys x = item_there xs ys x
+
+there : {X : Type 0} (xs ys : List X) (x : X) → length xs < length (xs ++ x ∷ ys)
+there xs ys x = rw length-append (omega arith)
+
+module _ {S : Type 0} (m : GameModel S) (side : Side) (total : ℕ) (ps done rest left : List (PlannedState S)) (p : PlannedState S) (split : rest ≡ p ∷ left)
+    (order : AreOrdered m side total ps (done ++ rest)) where
+  ordered_here : AreOrdered m side total ps (done ++ p ∷ left)
+  ordered_here = subst (λ (l : List (PlannedState S)). AreOrdered m side total ps (done ++ l)) split order
+
+  moved_on : done ++ p ∷ left ≡ (done ++ p ∷ []) ++ left
+  moved_on = sym (append_assoc done (p ∷ []) left)
+
+  pub planned_next : IsPlannedState m side total (planned ps) p
+  planned_next = planned_here m side total ps (done ++ p ∷ left) ordered_here (length done) p (there done left p) (item_there done left p)
+
+  pub ordered_next : AreOrdered m side total ps ((done ++ p ∷ []) ++ left)
+  ordered_next = subst (AreOrdered m side total ps) moved_on ordered_here
+
+  pub certified_next : IsGame m → (rows : List SheetRow) (row : SheetRow) (places now : ℕ → Option ℕ) → AreCertified m side total (planned ps) (done ++ rest) (length done) rows places
+      → row.key ≡ p.key → row.weights ≡ p.weights → IsBestStep m side p.state total p.weights rows row.bound → ((q : ℕ) → now q ≡ cond (eqb row.key q) (Some (length rows)) (places q))
+      → AreCertified m side total (planned ps) ((done ++ p ∷ []) ++ left) (length (done ++ p ∷ [])) (rows ++ row ∷ []) now
+  certified_next game rows row places now old key weights best put =
+      let here : AreCertified m side total (planned ps) (done ++ p ∷ left) (length done) rows places =
+      subst (λ (l : List (PlannedState S)). AreCertified m side total (planned ps) (done ++ l) (length done) rows places) split old in
+      let more : AreCertified m side total (planned ps) (done ++ p ∷ left) (length done + 1) (rows ++ row ∷ []) now =
+      certified_more m game side total ps (done ++ p ∷ left) ordered_here (length done) p (there done left p) (item_there done left p) rows row places now here key weights best put in
+      subst (λ (n : ℕ). AreCertified m side total (planned ps) ((done ++ p ∷ []) ++ left) n (rows ++ row ∷ []) now) (sym (length_push done p))
+      (subst (λ (l : List (PlannedState S)). AreCertified m side total (planned ps) l (length done + 1) (rows ++ row ∷ []) now) moved_on more)
+
+pub none_left : {X : Type 0} (done rest : List X) (n : ℕ) → n ≡ length rest → n ≡ 0 → length (done ++ rest) ≤ length done
+none_left done rest n long none = rw length-append (omega (arith, long, none))
+
+-- ---- all of them
+module _ {S : Type 0} (m : GameModel S) (game : IsGame m) (side : Side) (total : ℕ) (ps states : List (PlannedState S)) (order : AreOrdered m side total ps states)
+    (i : ℕ) (rows ys : List SheetRow) (places : ℕ → Option ℕ) (done : AreCertified m side total (planned ps) states i rows places) (all : length states ≤ i)
+    (moved : IsPermutation rows ys) (rising : IsNonDecreasingBy (λ r. r.key) ys) where
+  filled : map opened rows ≡ map open_row states
+  filled = done.filled ∙ ap (map open_row) (take_all i states all)
+
+  rows_apart : IsDistinct eqb (row_keys rows)
+  rows_apart = subst (IsDistinct eqb) (sym (keys_open states) ∙ ap row_keys (sym filled) ∙ keys_opened rows) order.distinct
+
+  pub same_weights : (key : ℕ) → weights_of_row (planned ps key) ≡ weights_of_row (row_at ys key)
+  same_weights key = ap weights_of_row (sym (planned_moved ps states order.first order.moved key)) ∙ ap (λ (xs : List SheetRow). weights_of_row (row_at xs key)) (sym filled)
+      ∙ weights_opened rows key ∙ ap weights_of_row (sym (row_moved rows ys rows_apart moved key))
+
+  pub as_many : length ys ≡ length ps
+  as_many =
+      let mapped : length (map opened rows) ≡ length (map open_row states) = ap length filled in
+      length_permutation rows ys moved ∙ sym (length-map rows opened) ∙ mapped ∙ length-map states open_row ∙ length_permutation ps states order.moved
+
+  agree : (s : S) (used : List ℕ) (bound : ℤ) → Agree m side s total used rows ys bound
+  agree s used bound own reply d p q u =
+      ap (λ (o : Option SheetRow). turn_reward m side s own reply d +ℤ bound_or m side (child_of m side s own reply d) o) (row_moved rows ys rows_apart moved (m.key (child_of m side s own reply d)))
+
+  lawful_row : (r : SheetRow) → IsCertified m side total (planned ps) done.top rows r → IsLawfulRow m side total ys r
+  lawful_row r c =
+      let best = best_over m side c.state total r.weights rows ys r.bound (agree c.state r.weights r.bound) c.best in
+      record {
+        state = c.state;
+        is_key = c.is_key;
+        reached = reached_by m side (planned ps) (row_at ys) same_weights c.state c.reached;
+        low = best.ranged.low;
+        high = best.ranged.high;
+        step = best.step;
+      }
+
+  best_row : (r : SheetRow) → IsCertified m side total (planned ps) done.top rows r → (s : S) × Reachable m s × (m.key s ≡ r.key) × IsBestStep m side s total r.weights ys r.bound
+  best_row r c = (c.state, reached_reachable m side (planned ps) c.state c.reached, c.is_key, best_over m side c.state total r.weights rows ys r.bound (agree c.state r.weights r.bound) c.best)
+
+  module _ (sheet : Sheet) (is_side : sheet.side ≡ side) (is_total : sheet.total ≡ total) (is_rows : sheet.rows ≡ ys) where
+    pub lawful_sheet : IsLawful m sheet
+    lawful_sheet = rw (is_side, is_total, is_rows) (record {
+      rising = rows_rise rows ys rows_apart moved rising;
+      rows = All-permutation (IsLawfulRow m side total ys) rows ys moved (All-weaker (IsCertified m side total (planned ps) done.top rows) (IsLawfulRow m side total ys) lawful_row rows done.each);
+    })
+
+    pub best_sheet : HasBestBounds m sheet
+    best_sheet = rw (is_side, is_total, is_rows) (record {
+      each = All-permutation (λ r. (s : S) × Reachable m s × (m.key s ≡ r.key) × IsBestStep m side s total r.weights ys r.bound) rows ys moved
+          (All-weaker (IsCertified m side total (planned ps) done.top rows)
+          (λ r. (s : S) × Reachable m s × (m.key s ≡ r.key) × IsBestStep m side s total r.weights ys r.bound) best_row rows done.each);
+    })

@@ -1,0 +1,7 @@
+pub mod BoundLemmas
+pub mod RowLemmas
+pub mod CertifyLemmas
+pub mod UndecidedLemmas
+pub mod FollowLemmas
+pub mod ValueLemmas
+pub mod SpentLemmas

@@ -1,0 +1,77 @@
+-- Turns that are spent one after another.
+use Rattle.std.proofs.Common.{◌≡◌, ℕ, ◌+◌, ◌≤◌, Bool, false, Result, Ok, Err, IfErr, refl, sym, subst, ◌∙◌, arith}
+use Rattle.std.specs.Prelude.{IsErrAnd}
+use Rattle.sim_game.specs.Model.{GameModel, Reachable}
+use Rattle.matrix_game.specs.Budget.{Budget}
+use Rattle.induction.specs.declared.gave_up.GaveUp.{GaveUp}
+use Rattle.induction.specs.declared.gave_up.GaveUp.TheVariants.{TooManyStates, Spent, NoMemory}
+use Rattle.induction.specs.Undecided.{IsUndecided, HasUndecided, KnowsUndecided}
+use Rattle.induction.proofs.UndecidedLemmas.{none_known, one_more_undecided, spent_each}
+use Rattle.induction.specs.Spent.{HasSpent, HasSpentEach, IsReason, IsStopped}
+
+pub none_spent : (n : ℕ) (b : Budget) → HasSpent n n b b
+none_spent n b = record { same = refl; more = omega arith; few = omega arith }
+
+pub spent_more : (i j k : ℕ) (a b c : Budget) → HasSpent i j a b → HasSpent j k b c → HasSpent i k a c
+spent_more i j k a b c p q = record {
+  same = q.same ∙ p.same;
+  more = let x = p.more in let y = q.more in omega (arith, x, y);
+  few = let x = p.few in let y = q.few in omega (arith, x, y);
+}
+
+-- one turn at most, for one thing more that is counted
+pub spent_one : (n : ℕ) (a b : Budget) → HasSpent 0 1 a b → HasSpent n (n + 1) a b
+spent_one n a b p = record { same = p.same; more = p.more; few = let x = p.few in omega (arith, x) }
+
+pub stopped_later : {S : Type 0} (m : GameModel S) (Many : Type 0) (i j : ℕ) (a b c : Budget) (e : GaveUp) → HasSpent i j a b → IsStopped m Many j b c e → IsStopped m Many i a c e
+stopped_later m Many i j a b c e p q = record { why = q.why; count = q.count; undecided = q.undecided; spent = spent_more i j q.count a b c p q.spent }
+
+pub stopped_at : {S : Type 0} (m : GameModel S) (Many : Type 0) (i j : ℕ) (a b : Budget) (e : GaveUp) → IsReason Many b e → HasUndecided m j → HasSpent i j a b → IsStopped m Many i a b e
+stopped_at m Many i j a b e why undecided spent = record { why = why; count = j; undecided = undecided; spent = spent }
+
+-- it gave up at a state whose key is not known
+pub stopped_here : {S : Type 0} (m : GameModel S) (Many : Type 0) (known : ℕ → Bool) (n : ℕ) → KnowsUndecided m known n → (s : S) → Reachable m s → IsUndecided m s → known (m.key s) ≡ false
+    → (a b : Budget) (e : GaveUp) → HasSpent 0 1 a b → IsReason Many b e → IsStopped m Many n a b e
+stopped_here m Many known n old s reach mine new a b e spent why =
+    stopped_at m Many n (n + 1) a b e why (one_more_undecided m known n old s reach mine new) (spent_one n a b spent)
+
+-- it gave up before that, and the turns are as before
+pub stopped_before : {S : Type 0} (m : GameModel S) (Many : Type 0) (known : ℕ → Bool) (n : ℕ) → KnowsUndecided m known n → (a : Budget) (e : GaveUp) → IsReason Many a e → IsStopped m Many n a a e
+stopped_before m Many known n old a e why = stopped_at m Many n n a a e why old.undecided (none_spent n a)
+
+pub reason_up : (Many : Type 0) (b : Budget) (e : GaveUp) → IsReason ⊥ b e → IsReason Many b e
+reason_up Many b TooManyStates h = absurd h
+reason_up Many b Spent h = h
+reason_up Many b NoMemory h = h
+
+-- what is known of an error that was handed on
+pub err_is : {T E : Type 0} (P Q : E → Type 0) (r : Result T E) → IsErrAnd r P → ((e : E) → P e → Q e) → IfErr r Q
+err_is P Q (Ok x) h up = absurd h
+err_is P Q (Err e) h up = up e h
+
+pub no_memory : (Many : Type 0) (b : Budget) (e : GaveUp) → e ≡ NoMemory → IsReason Many b e
+no_memory Many b e is = subst (IsReason Many b) (sym is) tt
+
+-- ---- three times
+module _ {S : Type 0} (m : GameModel S) where
+  nothing : HasUndecided m 0
+  nothing = (none_known m (λ key. false) 0 refl).undecided
+
+  pub each_one : (i : ℕ) (a b : Budget) → HasUndecided m i → HasSpent 0 i a b → HasSpentEach m 3 a b
+  each_one i a b u p = spent_each m a b i 0 0 p.same p.more (let few = p.few in omega (arith, few)) u nothing nothing
+
+  pub each_two : (i j : ℕ) (a b c : Budget) → HasUndecided m i → HasUndecided m j → HasSpent 0 i a b → HasSpent 0 j b c → HasSpentEach m 3 a c
+  each_two i j a b c u v p q =
+      spent_each m a c i j 0 (q.same ∙ p.same) (let x = p.more in let y = q.more in omega (arith, x, y)) (let x = p.few in let y = q.few in omega (arith, x, y)) u v nothing
+
+  pub each_three : (i j k : ℕ) (a b c d : Budget) → HasUndecided m i → HasUndecided m j → HasUndecided m k → HasSpent 0 i a b → HasSpent 0 j b c → HasSpent 0 k c d → HasSpentEach m 3 a d
+  each_three i j k a b c d u v w p q r =
+      spent_each m a d i j k (r.same ∙ q.same ∙ p.same) (let x = p.more in let y = q.more in let z = r.more in omega (arith, x, y, z))
+      (let x = p.few in let y = q.few in let z = r.few in omega (arith, x, y, z)) u v w
+
+pub few_rows : (rows n i j : ℕ) (a b c d : Budget) → n ≤ rows → HasSpent 0 n a b → HasSpent 0 i b c → HasSpent 0 j c d → HasSpent 0 (rows + i + j) a d
+few_rows rows n i j a b c d most p q r = record {
+  same = r.same ∙ q.same ∙ p.same;
+  more = let x = p.more in let y = q.more in let z = r.more in omega (arith, x, y, z);
+  few = let x = p.few in let y = q.few in let z = r.few in omega (arith, x, y, z, most);
+}

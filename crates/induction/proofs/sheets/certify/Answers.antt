@@ -1,0 +1,99 @@
+use Rattle.std.proofs.Common.{rules, ◌≡◌, ◌∷◌, ℕ, nat_eq, eqb, cond, Some, length, refl, sym, ap, ◌∙◌, arith}
+use Rattle.std.specs.HashMap.{get}
+use Rattle.std.specs.Map.{lookup}
+use Rattle.std.specs.Vec.Iter.{into_iter_items}
+use Rattle.std.proofs.lemmas.List.Sorted.{IsNonDecreasingBy-from_sort_by_key}
+use Rattle.plan_book.proofs.SheetLemmas.{reached_reachable}
+use Rattle.induction.specs.Planned.{planned}
+use Rattle.induction.proofs.CertifyLemmas.{ordered, planned_next, ordered_next, certified_next, none_certified, none_left, lawful_sheet, best_sheet, same_weights, as_many}
+use Rattle.induction.proofs.sheets.certify.Goals as goal
+
+pub loop-state-init : goal.loop-state-init
+loop-state-init g c = record {
+  order = rw c.into_iter-state-iterator.ensures.into_iter_gives.0
+      (ordered (g.G.Game.model c.args.g) c.args.side c.args.total c.args.states.items _ c.requires.planned c.sort_unstable_by_key.ensures.permutation
+      (IsNonDecreasingBy-from_sort_by_key (λ p. p.rank) _ c.sort_unstable_by_key.ensures.sorted (λ a r q k. search rules)));
+  certified = rw c.new-rows.ensures.items (none_certified (g.G.Game.model c.args.g) c.args.side c.args.total (planned c.args.states.items) _ (get nat_eq c.new-places.result)
+      (λ key. ap (lookup (nat_eq key)) c.new-places.ensures.empty));
+  left = search rules;
+}
+
+pub row_of-row-requires-clause-reachable : goal.row_of-row-requires-clause-reachable
+row_of-row-requires-clause-reachable g c =
+    let m = g.G.Game.model c.args.g in
+    reached_reachable m c.args.side (planned c.args.states.items) _
+    (planned_next m c.args.side c.args.total c.args.states.items c.loop-state.yielded (into_iter_items c.loop-state.state-iterator)
+    (into_iter_items c.next.new.self) c.in-Some.state c.in-Some.ensures.steps.0
+    c.loop-state.invariant.order).reached
+
+pub row_of-row-requires-clause-goes_on : goal.row_of-row-requires-clause-goes_on
+row_of-row-requires-clause-goes_on g c =
+    let m = g.G.Game.model c.args.g in
+    let here = planned_next m c.args.side c.args.total c.args.states.items c.loop-state.yielded (into_iter_items c.loop-state.state-iterator)
+    (into_iter_items c.next.new.self) c.in-Some.state c.in-Some.ensures.steps.0
+    c.loop-state.invariant.order in
+    rw here.is_rank here.goes_on
+
+pub row_of-row-requires-clause-whole : goal.row_of-row-requires-clause-whole
+row_of-row-requires-clause-whole g c =
+    let m = g.G.Game.model c.args.g in
+    (planned_next m c.args.side c.args.total c.args.states.items c.loop-state.yielded (into_iter_items c.loop-state.state-iterator)
+    (into_iter_items c.next.new.self) c.in-Some.state c.in-Some.ensures.steps.0
+    c.loop-state.invariant.order).whole
+
+pub loop-state-preserved : goal.loop-state-preserved
+loop-state-preserved g c =
+    let m = g.G.Game.model c.args.g in
+    let at = c.loop-state in
+    let x = c.in-Some.state in
+    let steps : into_iter_items at.state-iterator ≡ x ∷ into_iter_items c.next.new.self = c.in-Some.ensures.steps.0 in
+    let rows = at.rows.items in
+    let long : c.len.result ≡ length rows = search rules in
+    let read : c.deref.result.now ≡ rows = c.deref.ensures.value in
+    record {
+      order = ordered_next m c.args.side c.args.total c.args.states.items at.yielded (into_iter_items at.state-iterator) (into_iter_items c.next.new.self) x steps at.invariant.order;
+      certified = rw c.in_ok-push.ensures.items
+          (certified_next m c.args.side c.args.total c.args.states.items at.yielded (into_iter_items at.state-iterator) (into_iter_items c.next.new.self) x steps at.invariant.order
+          (g.met.G.Game.lawful c.args.g) rows c.row_of-row.result (get nat_eq at.places) (get nat_eq c.insert.new.self) at.invariant.certified c.row_of-row.ensures.key c.row_of-row.ensures.weights
+          (rw (← read) c.row_of-row.ensures.best)
+          (λ q. c.in_ok-insert.ensures.updates.0 q ∙ ap (λ (n : ℕ). cond (eqb c.row_of-row.result.key q) (Some n) (get nat_eq at.places q)) long));
+      left =
+          let was = at.invariant.left in
+          let gone = c.in-Some.ensures.steps.1 in
+          let short = ap length steps in
+          omega arith;
+    }
+
+pub returns-clause-as_many : goal.returns-clause-as_many
+returns-clause-as_many g c =
+    let at = c.loop-state in
+    ap length c.from_vec.ensures
+    ∙ as_many (g.G.Game.model c.args.g) (g.met.G.Game.lawful c.args.g) c.args.side c.args.total c.args.states.items _ at.invariant.order (length at.yielded) at.rows.items
+    c.sort_unstable_by_key-2.new.self.items (get nat_eq at.places) at.invariant.certified
+    (none_left at.yielded _ _ at.invariant.left c.in-None.ensures.steps.0) c.sort_unstable_by_key-2.ensures.permutation
+    (IsNonDecreasingBy-from_sort_by_key (λ r. r.key) _ c.sort_unstable_by_key-2.ensures.sorted (λ a r q k. search rules))
+
+pub returns-clause-weights : goal.returns-clause-weights
+returns-clause-weights g c =
+    let at = c.loop-state in
+    λ key. rw c.from_vec.ensures (sym (same_weights (g.G.Game.model c.args.g) (g.met.G.Game.lawful c.args.g) c.args.side c.args.total c.args.states.items _ at.invariant.order
+    (length at.yielded) at.rows.items
+    c.sort_unstable_by_key-2.new.self.items (get nat_eq at.places) at.invariant.certified
+    (none_left at.yielded _ _ at.invariant.left c.in-None.ensures.steps.0) c.sort_unstable_by_key-2.ensures.permutation
+    (IsNonDecreasingBy-from_sort_by_key (λ r. r.key) _ c.sort_unstable_by_key-2.ensures.sorted (λ a r q k. search rules)) key))
+
+pub returns-clause-lawful : goal.returns-clause-lawful
+returns-clause-lawful g c =
+    let at = c.loop-state in
+    lawful_sheet (g.G.Game.model c.args.g) (g.met.G.Game.lawful c.args.g) c.args.side c.args.total c.args.states.items _ at.invariant.order (length at.yielded) at.rows.items
+    c.sort_unstable_by_key-2.new.self.items (get nat_eq at.places) at.invariant.certified
+    (none_left at.yielded _ _ at.invariant.left c.in-None.ensures.steps.0) c.sort_unstable_by_key-2.ensures.permutation
+    (IsNonDecreasingBy-from_sort_by_key (λ r. r.key) _ c.sort_unstable_by_key-2.ensures.sorted (λ a r q k. search rules)) _ refl refl c.from_vec.ensures
+
+pub returns-clause-best : goal.returns-clause-best
+returns-clause-best g c =
+    let at = c.loop-state in
+    best_sheet (g.G.Game.model c.args.g) (g.met.G.Game.lawful c.args.g) c.args.side c.args.total c.args.states.items _ at.invariant.order (length at.yielded) at.rows.items
+    c.sort_unstable_by_key-2.new.self.items (get nat_eq at.places) at.invariant.certified
+    (none_left at.yielded _ _ at.invariant.left c.in-None.ensures.steps.0) c.sort_unstable_by_key-2.ensures.permutation
+    (IsNonDecreasingBy-from_sort_by_key (λ r. r.key) _ c.sort_unstable_by_key-2.ensures.sorted (λ a r q k. search rules)) _ refl refl c.from_vec.ensures

@@ -1,0 +1,5 @@
+pub mod Undecided
+pub mod Planned
+pub mod Certified
+pub mod Spent
+pub mod Induced

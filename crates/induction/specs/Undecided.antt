@@ -1,0 +1,26 @@
+-- States at which something is left to decide, and how many of them there are at least.
+use Rattle.std.specs.Prelude.{◌≡◌, ◌≢◌, ℕ, ◌<◌, ◌≤◌, ◌<ℤ◌, Bool, true}
+use Rattle.sim_game.specs.Model.{GameModel, Reachable}
+
+-- the state is no end, and what One can still get from it on is not certain
+pub record IsUndecided {S : Type 0} (m : GameModel S) (s : S) : Type 0 where
+  pub goes_on : 1 ≤ m.rank s
+  pub uncertain : m.least s <ℤ m.most s
+
+-- so many undecided states differ
+pub record HasUndecided {S : Type 0} (m : GameModel S) (count : ℕ) : Type 0 where
+  pub states : ℕ → S
+  pub reachable : (i : ℕ) → i < count → Reachable m (states i)
+  pub each : (i : ℕ) → i < count → IsUndecided m (states i)
+  pub apart : (i j : ℕ) → i < j → j < count → states i ≢ states j
+
+-- so many undecided states differ, and the key of each is known
+pub record KnowsUndecided {S : Type 0} (m : GameModel S) (known : ℕ → Bool) (count : ℕ) : Type 0 where
+  pub undecided : HasUndecided m count
+  pub keys : (i : ℕ) → i < count → known (m.key (undecided.states i)) ≡ true
+
+-- so many undecided states are known, no more than there may be, and of states of higher rank those that were
+pub record IsExplored {S : Type 0} (m : GameModel S) (s : S) (rows : ℕ) (old new : ℕ → Bool) (count : ℕ) : Type 0 where
+  pub known : KnowsUndecided m new count
+  pub few : count ≤ rows
+  pub others : (t : S) → Reachable m t → m.rank s < m.rank t → new (m.key t) ≡ old (m.key t)

@@ -1,0 +1,128 @@
+//! The best bound that weights prove at a state over rows of the states that follow.
+
+ghost use Rattle.std.specs.Prelude.{◌≡◌, ◌<◌, ◌≤◌, ◌+ℤ◌, length, nat_eq, unsigned_abs, All};
+ghost use Rattle.std.specs.HashMap.{get};
+ghost use Rattle.sim_game.specs.Model.{Reachable};
+ghost use Rattle.sim_game.specs.Sides.{other_side};
+ghost use Rattle.plan_book.specs.Plans.{AreWeights};
+ghost use Rattle.plan_book.specs.Sheets.{bound_at};
+ghost use Rattle.plan_book.specs.Steps.{cell, worth};
+ghost use Rattle.induction.specs.Certified.{ArePlaced, IsBestStep, turn_numbers};
+
+use plan_book::SheetRow;
+use sim_game::{CHANCE, Game, Side, end_bound, state_bound, turn_reward};
+use std::collections::HashMap;
+use sums::weighted;
+
+/// A turn's reward, with a bound at the state that follows.
+fn with_reward(reward: i64, bound: i64) -> i64
+    requires reward { unsigned_abs reward ≤ 8000000000 }
+    requires bound { unsigned_abs bound ≤ 4000000000 }
+    ensures { result ≡ reward +ℤ bound }
+{
+    reward + bound
+}
+
+/// The bound of the state's row, else the payoff of an end, else what holds of every value of the state; in millionths.
+fn bound_by<G: Game>(
+    g: G,
+    side: Side,
+    rows: &[SheetRow],
+    places: &HashMap<u64, usize>,
+    s: G::State,
+) -> i64
+    requires placed { ArePlaced (G.model g) rows.now (get nat_eq places.now) }
+    requires reachable { Reachable (G.model g) s }
+    ensures { result ≡ bound_at (G.model g) side rows.now s }
+{
+    match places.get(&g.key(s)) {
+        Some(&place) => rows[place].bound,
+        None if g.rank(s) == 0 => end_bound(g, s),
+        None => state_bound(g, side, s),
+    }
+}
+
+/// The mean, over the draws of an own move and a reply, of the turn's reward with the bound at the state that follows.
+fn cell<G: Game>(
+    g: G,
+    side: Side,
+    rows: &[SheetRow],
+    places: &HashMap<u64, usize>,
+    s: G::State,
+    own: u32,
+    reply: u32,
+) -> i64
+    requires placed { ArePlaced (G.model g) rows.now (get nat_eq places.now) }
+    requires reachable { Reachable (G.model g) s }
+    requires own { own < (G.model g).moves side s }
+    requires reply { reply < (G.model g).moves (other_side side) s }
+    ensures value { result ≡ cell (G.model g) side s (turn_numbers (G.model g) side rows.now s) own reply }
+    ensures small { unsigned_abs result ≤ 4000000000 }
+{
+    let a = side.move_of_one(own, reply);
+    let b = side.move_of_two(own, reply);
+    let mut sum: i64 = 0;
+    for d in 0..g.draws(s, a, b) {
+        let bound = bound_by(g, side, rows, places, g.drawn(s, a, b, d));
+        let number = with_reward(turn_reward(g, s, a, b, d), bound);
+        sum += weighted(g.chance(s, a, b, d), number);
+    }
+    side.quotient(sum, CHANCE)
+}
+
+/// What the weights are worth against a reply. Moves of weight 0 are not read.
+fn worth<G: Game>(
+    g: G,
+    side: Side,
+    rows: &[SheetRow],
+    places: &HashMap<u64, usize>,
+    weights: &[u32],
+    s: G::State,
+    reply: u32,
+) -> i64
+    requires placed { ArePlaced (G.model g) rows.now (get nat_eq places.now) }
+    requires reachable { Reachable (G.model g) s }
+    requires one_each { length weights.now ≡ (G.model g).moves side s }
+    requires light { All (λ w. w ≤ 1048576) weights.now }
+    requires reply { reply < (G.model g).moves (other_side side) s }
+    ensures value { result ≡ worth (G.model g) side s weights.now (turn_numbers (G.model g) side rows.now s) reply }
+    ensures small { unsigned_abs result ≤ 134217728000000000 }
+{
+    let mut sum: i64 = 0;
+    for own in 0..g.moves(side, s) {
+        let weight = weights[own as usize];
+        if weight > 0 {
+            sum += weighted(weight, cell(g, side, rows, places, s, own, reply));
+        }
+    }
+    sum
+}
+
+/// The best bound that the weights prove at a state: their least worth against a reply, divided by the total and rounded
+/// so that it says no more for the side.
+pub(crate) fn best_bound<G: Game>(
+    g: G,
+    side: Side,
+    total: u32,
+    rows: &[SheetRow],
+    places: &HashMap<u64, usize>,
+    weights: &[u32],
+    s: G::State,
+) -> i64
+    requires placed { ArePlaced (G.model g) rows.now (get nat_eq places.now) }
+    requires reachable { Reachable (G.model g) s }
+    requires goes_on { 1 ≤ (G.model g).rank s }
+    requires some { 1 ≤ total }
+    requires light { total ≤ 1048576 }
+    requires whole { AreWeights ((G.model g).moves side s) total weights.now }
+    ensures { IsBestStep (G.model g) side s total weights.now rows.now result }
+{
+    let mut least = worth(g, side, rows, places, weights, s, 0);
+    for reply in 1..g.moves(side.other(), s) {
+        let sum = worth(g, side, rows, places, weights, s, reply);
+        if side.is_tighter(least, sum) {
+            least = sum;
+        }
+    }
+    side.quotient(least, total)
+}

@@ -1,0 +1,123 @@
+//! Plans from the root down.
+
+ghost use Rattle.std.specs.Prelude.{◌≡◌, ◌≤◌, length, nat_eq, IfOk, IfErr, OnOk};
+ghost use Rattle.std.specs.HashMap.{get};
+ghost use Rattle.sim_game.specs.Model.{Reachable};
+ghost use Rattle.plan_book.specs.Plans.{AreWeights};
+ghost use Rattle.plan_book.specs.Sheets.{IsReached};
+ghost use Rattle.matrix_game.specs.Budget.{Budget};
+ghost use Rattle.induction.specs.Spent.{HasSpent, IsReason, IsStopped};
+ghost use Rattle.induction.specs.Undecided.{HasUndecided};
+ghost use Rattle.induction.specs.Planned.{AreFollowed, IsVisited, IsWholePlan, planned};
+
+use crate::decided::is_decided;
+use crate::{GaveUp, PlannedState};
+use plan_book::children;
+use seq::Seq;
+use sim_game::{Game, Side};
+use std::alloc::Global;
+use std::collections::HashMap;
+
+/// What proposes weights.
+pub trait Proposer<G: Game> {
+    /// The turns that proposals take.
+    ghost turns: { Self → Budget };
+
+    /// Weights of a side's moves at a state that goes on: one for each move, which sum to the total. Nothing is promised of
+    /// what they are worth. It takes at most one turn. `Spent` comes only without a turn left.
+    fn propose(
+        &mut self,
+        alloc: Global,
+        g: G,
+        side: Side,
+        total: u32,
+        s: G::State,
+    ) -> Result<Vec<u32>, GaveUp>
+        requires reachable { Reachable (G.model g) s }
+        requires goes_on { 1 ≤ (G.model g).rank s }
+        requires some { 1 ≤ total }
+        requires light { total ≤ 1048576 }
+        ensures weights { IfOk result (λ weights. AreWeights ((G.model g).moves side s) total weights.items) }
+        ensures spent { HasSpent 0 1 (turns self.old) (turns self.new) }
+        ensures err { IfErr result (IsReason ⊥ (turns self.new)) };
+}
+
+/// The states that a walk has come to.
+#[derive(Drop)]
+struct Walk<S> {
+    // The place of each state's key.
+    seen: HashMap<u64, usize>,
+    states: Vec<PlannedState<S>>,
+}
+
+/// The plan of a side by what is proposed: each undecided state that it comes to from the root, by own moves of positive
+/// weight, against each reply and each draw. Each state takes one proposal. `Spent` comes only without a turn left, and
+/// `TooManyStates` never.
+pub fn plan_from<G: Game, P: Proposer<G>>(
+    alloc: Global,
+    g: G,
+    side: Side,
+    total: u32,
+    proposer: &mut P,
+) -> Result<Vec<PlannedState<G::State>>, GaveUp>
+    requires some { 1 ≤ total }
+    requires light { total ≤ 1048576 }
+    ensures whole { IfOk result (λ states. IsWholePlan (G.model g) side total states.items) }
+    ensures as_many { IfOk result (λ states. HasUndecided (G.model g) (length states.items)) }
+    ensures spent { IfOk result (λ states.
+        HasSpent 0 (length states.items) (P.turns proposer.old) (P.turns proposer.new)) }
+    ensures err { IfErr result (IsStopped (G.model g) ⊥ 0 (P.turns proposer.old) (P.turns proposer.new)) }
+{
+    let seen = HashMap::new(alloc);
+    let states = Vec::new(alloc);
+    let mut walk = Walk { seen, states };
+    visit(alloc, g, side, total, g.root(), proposer, &mut walk)?;
+    let Walk { states, .. } = walk;
+    Ok(states)
+}
+
+/// Goes on from a state, if it is undecided and the walk has not come to it yet.
+fn visit<G: Game, P: Proposer<G>>(
+    alloc: Global,
+    g: G,
+    side: Side,
+    total: u32,
+    s: G::State,
+    proposer: &mut P,
+    walk: &mut Walk<G::State>,
+) -> Result<(), GaveUp>
+    requires some { 1 ≤ total }
+    requires light { total ≤ 1048576 }
+    requires reached { IsReached (G.model g) side (planned walk.old.states.items) s }
+    requires followed { AreFollowed (G.model g) side total (get nat_eq walk.old.seen) walk.old.states.items }
+    ensures followed { OnOk result
+        (AreFollowed (G.model g) side total (get nat_eq walk.new.seen) walk.new.states.items) }
+    ensures visited { OnOk result (IsVisited (G.model g) side walk.old.states.items walk.new.states.items s) }
+    ensures spent { OnOk result (HasSpent (length walk.old.states.items) (length walk.new.states.items)
+        (P.turns proposer.old) (P.turns proposer.new)) }
+    ensures err { IfErr result
+        (IsStopped (G.model g) ⊥ (length walk.old.states.items) (P.turns proposer.old) (P.turns proposer.new)) }
+{
+    if is_decided(g, s) {
+        return Ok(());
+    }
+    let key = g.key(s);
+    if walk.seen.contains_key(&key) {
+        return Ok(());
+    }
+    let rank = g.rank(s);
+    let weights = proposer.propose(alloc, g, side, total, s)?;
+    let below = children(alloc, g, side, weights.as_slice(), s)?;
+    let weights = Seq::from_vec(weights);
+    walk.seen.insert(key, walk.states.len())?;
+    walk.states.push(PlannedState {
+        state: s,
+        key,
+        rank,
+        weights,
+    })?;
+    for child in &below {
+        visit(alloc, g, side, total, *child, proposer, walk)?;
+    }
+    Ok(())
+}

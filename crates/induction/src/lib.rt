@@ -1,0 +1,27 @@
+//! Search by induction over the ranks: values of states that linear programs propose, children first, plans by these values
+//! from the root down, and the best bounds that the plans prove, children first again. The bounds do not rest on the values.
+#![tactic(auto)]
+
+mod bounds;
+mod decided;
+mod follow;
+mod gave_up;
+mod induced;
+mod sheets;
+mod values;
+
+pub use follow::{Proposer, plan_from};
+pub use gave_up::GaveUp;
+pub use induced::{Induced, solve};
+use seq::Seq;
+pub use sheets::certify;
+
+/// A state of a side's plan, with the weights of the side's moves.
+#[derive(Drop)]
+pub struct PlannedState<S> {
+    pub state: S,
+    pub key: u64,
+    pub rank: u32,
+    /// One weight for each move of the side.
+    pub weights: Seq<u32>,
+}

@@ -1,19 +1,35 @@
 """Builds the wheel of the package with the standard library alone, as `pip install ./python` asks
-for it, and the one of `pip install -e ./python`, which names this folder."""
+for it, the one of `pip install -e ./python`, which names this folder, and the one of a release,
+which has the program too (tools/make_release.sh)."""
 import base64
 import hashlib
+import os
+import re
+import stat
 import tarfile
+import time
 import tomllib
 import zipfile
 from pathlib import Path
 from typing import Any
 
 HERE = Path(__file__).resolve().parent
+_VERSION = re.compile(r'^__version__ = "([^"]+)"$', re.MULTILINE)
+_NAMING = Path("dosolve", "__init__.py")
+"""The file that has the version."""
+
+
+def version() -> str:
+    """The version of the package; it stands in one place."""
+    found = _VERSION.findall((HERE / _NAMING).read_text())
+    if len(found) != 1:
+        raise ValueError(f"{_NAMING} has {len(found)} lines with a version")
+    return str(found[0])
 
 
 def _project() -> dict[str, Any]:
     project: dict[str, Any] = tomllib.loads((HERE / "pyproject.toml").read_text())["project"]
-    return project
+    return project | {"version": version()}
 
 
 def _metadata(project: dict[str, Any]) -> str:
@@ -39,38 +55,69 @@ def _record(name: str, data: bytes) -> str:
     return f"{name},sha256={digest},{len(data)}\n"
 
 
-def _write_wheel(folder: str, files: dict[str, bytes]) -> str:
-    """Writes a wheel of these files into a folder, and gives its name."""
-    project = _project()
+def _moment() -> tuple[int, int, int, int, int, int]:
+    """The time of files in archives: that of SOURCE_DATE_EPOCH if it is set, else now."""
+    at = time.gmtime(int(os.environ.get("SOURCE_DATE_EPOCH", time.time())))
+    return at.tm_year, at.tm_mon, at.tm_mday, at.tm_hour, at.tm_min, at.tm_sec
+
+
+def _write_wheel(folder: str, files: dict[str, bytes], project: dict[str, Any],
+                 tag: str = "py3-none-any", programs: frozenset[str] = frozenset()) -> str:
+    """Writes a wheel of these files into a folder, and gives its name. Some are programs."""
     stem = f"{project['name']}-{project['version']}"
     info = f"{stem}.dist-info"
     scripts = "".join(f"{name} = {place}\n" for name, place in project["scripts"].items())
-    files |= {
+    pure = "false" if programs else "true"
+    about = f"Wheel-Version: 1.0\nGenerator: wheel_backend\nRoot-Is-Purelib: {pure}\nTag: {tag}\n"
+    files = dict(sorted(files.items())) | {
         f"{info}/METADATA": _metadata(project).encode(),
-        f"{info}/WHEEL": b"Wheel-Version: 1.0\nGenerator: wheel_backend\nRoot-Is-Purelib: true\n"
-                         b"Tag: py3-none-any\n",
+        f"{info}/WHEEL": about.encode(),
         f"{info}/entry_points.txt": f"[console_scripts]\n{scripts}".encode(),
     }
     records = "".join(_record(name, data) for name, data in files.items())
     files[f"{info}/RECORD"] = (records + f"{info}/RECORD,,\n").encode()
-    name = f"{stem}-py3-none-any.whl"
+    name, moment = f"{stem}-{tag}.whl", _moment()
     with zipfile.ZipFile(Path(folder, name), "w", zipfile.ZIP_DEFLATED) as wheel:
         for file, data in files.items():
-            wheel.writestr(file, data)
+            entry = zipfile.ZipInfo(file, moment)
+            entry.compress_type = zipfile.ZIP_DEFLATED
+            entry.external_attr = (stat.S_IFREG | (0o755 if file in programs else 0o644)) << 16
+            wheel.writestr(entry, data)
     return name
+
+
+def _package() -> dict[str, bytes]:
+    return {str(file.relative_to(HERE)): file.read_bytes() for file in _sources()}
 
 
 def build_wheel(wheel_directory: str, config_settings: Any = None,
                 metadata_directory: str | None = None) -> str:
     """Writes the wheel into a folder, and gives its name."""
-    return _write_wheel(wheel_directory, {str(file.relative_to(HERE)): file.read_bytes()
-                                          for file in _sources()})
+    return _write_wheel(wheel_directory, _package(), _project())
 
 
 def build_editable(wheel_directory: str, config_settings: Any = None,
                    metadata_directory: str | None = None) -> str:
     """Writes a wheel that puts this folder on Python's path, and gives its name."""
-    return _write_wheel(wheel_directory, {"dosolve.pth": f"{HERE}\n".encode()})
+    return _write_wheel(wheel_directory, {"dosolve.pth": f"{HERE}\n".encode()}, _project())
+
+
+def build_release(folder: str, program: str, platform: str, named: str, *papers: str) -> str:
+    """Writes a wheel with a program, for a platform, under a version that may say more than the
+    package's own, with files that lie beside its metadata; and gives its name.
+
+    The program stands there twice: as the command `dosolve`, which needs no Python, and within
+    the package, which so finds its own wherever it is installed.
+    """
+    project = _project() | {"version": named}
+    stem = f"{project['name']}-{named}"
+    command, own = f"{stem}.data/scripts/dosolve", "dosolve/bin/dosolve"
+    files = _package()
+    naming = _VERSION.sub(f'__version__ = "{named}"', files[str(_NAMING)].decode())
+    files[str(_NAMING)] = naming.encode()
+    files |= dict.fromkeys((command, own), Path(program).read_bytes())
+    files |= {f"{stem}.dist-info/{Path(paper).name}": Path(paper).read_bytes() for paper in papers}
+    return _write_wheel(folder, files, project, f"py3-none-{platform}", frozenset((command, own)))
 
 
 def build_sdist(sdist_directory: str, config_settings: Any = None) -> str:

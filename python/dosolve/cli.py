@@ -50,7 +50,8 @@ _EXAMPLES = """examples:
   python3 -m dosolve table python/examples/soccer.py -o soccer.json
 
 Payoffs and bounds are what player one gets. The program is the one of --program, else that of the
-variable DOSOLVE, else the one built in the repository, else dosolve on the path."""
+variable DOSOLVE, else the one of this package's release, else the one built in the repository, else
+dosolve on the path."""
 
 
 class Command(ABC):

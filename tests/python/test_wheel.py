@@ -2,6 +2,7 @@
 import base64
 import hashlib
 import os
+import re
 import subprocess
 import sys
 import tarfile
@@ -76,9 +77,48 @@ class Wheel(unittest.TestCase):
                              check=True, env=environment)
         self.assertIn(f"dosolve-py {dosolve.__version__}", run.stdout)
 
-    def test_the_version_stands_twice_alike(self):
+    def test_the_wheel_of_a_release_has_the_program_twice(self):
+        program, paper = self.folder / "any", self.folder / "PAPER.txt"
+        program.write_bytes(b"\x7fELF")
+        paper.write_text("told\n")
+        named = f"{dosolve.__version__}+other"
+        words = ("import sys, wheel_backend; "
+                 "print(wheel_backend.build_release(*sys.argv[1:]))")
+        made = []
+        for at in ("1000000000", "1000000000", "1000000002"):
+            run = subprocess.run(
+                [sys.executable, "-c", words, self.folder, program, "manylinux_9_9_x86_64", named, paper],
+                cwd=PACKAGE, capture_output=True, text=True, check=True,
+                env=os.environ | {"SOURCE_DATE_EPOCH": at})
+            made.append((self.folder / run.stdout.strip()).read_bytes())
+        self.assertEqual(made[0], made[1])
+        self.assertNotEqual(made[0], made[2])
+        stem = f"dosolve-{named}"
+        wheel = self.folder / f"{stem}-py3-none-manylinux_9_9_x86_64.whl"
+        inside = self.look(wheel)
+        both = {f"{stem}.data/scripts/dosolve", "dosolve/bin/dosolve"}
+        with zipfile.ZipFile(wheel) as files:
+            self.assertEqual({entry.filename for entry in files.infolist() if entry.external_attr >> 16 & 0o111},
+                             both)
+            self.assertEqual({files.read(name) for name in both}, {b"\x7fELF"})
+            self.assertEqual(files.read(f"{stem}.dist-info/PAPER.txt"), b"told\n")
+            self.assertIn(f"\nVersion: {named}\n", files.read(f"{stem}.dist-info/METADATA").decode())
+            about = files.read(f"{stem}.dist-info/WHEEL").decode()
+            self.assertIn("Root-Is-Purelib: false\nTag: py3-none-manylinux_9_9_x86_64\n", about)
+        self.assertEqual(inside - self.look(self.build("build_wheel")),
+                         both | {name for name in inside if name.startswith(f"{stem}.dist-info/")})
+        words = "import dosolve; print(dosolve.__version__)"
+        run = subprocess.run([sys.executable, "-c", words], cwd=self.folder, capture_output=True,
+                             env=os.environ | {"PYTHONPATH": str(wheel)}, text=True, check=True)
+        self.assertEqual(run.stdout, f"{named}\n")
+
+    def test_the_changelog_and_the_citation_repeat_the_version(self):
         project = tomllib.loads((PACKAGE / "pyproject.toml").read_text())["project"]
-        self.assertEqual(project["version"], dosolve.__version__)
+        self.assertEqual((project["dynamic"], "version" in project), (["version"], False))
+        cited = re.search(r'^version: (.*)\ndate-released: "(.*)"$', (TOP / "CITATION.cff").read_text(), re.MULTILINE)
+        self.assertEqual(cited[1], dosolve.__version__)
+        listed = re.search(r"^## (\d.*)$", (TOP / "CHANGELOG.md").read_text(), re.MULTILINE)
+        self.assertEqual(listed[1], f"{cited[1]}, {cited[2]}")
 
 
 if __name__ == "__main__":

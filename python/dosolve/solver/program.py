@@ -29,6 +29,7 @@ from .progress import Bar, Follower, Listener
 BLOCKS = 40
 """The blocks of games of a match, from whose means its standard error is made."""
 
+_OWN = Path(__file__).resolve().parents[1] / "bin" / "dosolve"
 _REPOSITORY = Path(__file__).resolve().parents[3]
 _BESIDE = _REPOSITORY / "crates" / "dosolve" / "out" / "dosolve"
 _FAILURES = {6: "its standard input failed", 7: "its standard output failed",
@@ -38,15 +39,15 @@ _FIRST_TURNS, _MORE_TURNS = 256, 8
 
 def find_program(program: FilePath | None = None) -> str:
     """The program's file: the one that is handed in, else that of the environment variable
-    DOSOLVE, else the one built beside this package in its repository, else `dosolve` on the
-    path."""
+    DOSOLVE, else the one that the wheel of a release has in this package, else the one built beside
+    it in its repository, else `dosolve` on the path."""
     named = program or os.environ.get("DOSOLVE")
     if named:
         found = shutil.which(os.fspath(named))
         if found is None:
             raise ProgramMissingError(f"{os.fspath(named)} is no program that can be run")
         return found
-    found = shutil.which(str(_BESIDE)) or shutil.which("dosolve")
+    found = shutil.which(str(_OWN)) or shutil.which(str(_BESIDE)) or shutil.which("dosolve")
     if found is None:
         built = f"build {_BESIDE}, " if (_REPOSITORY / "crates").is_dir() else ""
         raise ProgramMissingError(f"dosolve was not found: {built}put it on the path, or name the "

@@ -161,9 +161,10 @@ class Browser:
 
     def key(self, key: str) -> None:
         text = "\r" if key == "Enter" else key if len(key) == 1 else ""
-        code = {"windowsVirtualKeyCode": 13} if key == "Enter" else {}
-        self.send("Input.dispatchKeyEvent", type="keyDown", key=key, text=text, **code)
-        self.send("Input.dispatchKeyEvent", type="keyUp", key=key)
+        code = {"Enter": 13, "Tab": 9}.get(key)
+        told = {"key": key} | ({"windowsVirtualKeyCode": code} if code else {})
+        self.send("Input.dispatchKeyEvent", type="keyDown", text=text, **told)
+        self.send("Input.dispatchKeyEvent", type="keyUp", **told)
         self.settle()
 
     def text(self, selector: str) -> str:

@@ -164,6 +164,24 @@ class Data(unittest.TestCase):
         self.assertEqual(data["states"][0][8], {"0": [0, -1], "1": [1], "2": [10], "3": [11]})
 
 
+    def test_each_turn_that_pays_is_on_the_pages_of_the_examples(self):
+        found = 0
+        for file in EXAMPLES:
+            report = dosolve.Report.load(file)
+            for record in data_of(explore.page(report).text)["states"]:
+                state = report.game.state(int(record[0]))
+                paid = record[8] if len(record) > 8 else 0
+                if state.is_end or not report.game.has_rewards:
+                    self.assertEqual(paid, 0)
+                    continue
+                count = len(state.moves("two"))
+                rewards = {str(one * count + two): list(state.rewards(one, two))
+                           for one in range(len(state.moves("one"))) for two in range(count)}
+                self.assertEqual(paid or {}, {cell: each for cell, each in rewards.items() if any(each)})
+                found += bool(paid)
+        self.assertGreater(found, 20)
+
+
 class Text(unittest.TestCase):
     def test_a_page_asks_no_network_and_has_no_holes(self):
         for file in EXAMPLES:

@@ -12,8 +12,11 @@ from dosolve import SIDES
 from support import TOP
 from test_explore import FIVE, MATCH_THE_PRIZE, drawn_table, player_report
 
+PAYING = ("goofspiel_prizes", "table_rewards", "table_raid")
+"""Reports on games whose turns pay."""
+
 KINDS = ("goofspiel_mixed", "goofspiel_drawn_mixed", "oshi_zumo_mixed", "oshi_zumo_wide", "tron_corners",
-         "pursuit_grid", "table_soccer", "table_blotto")
+         "pursuit_grid", "table_soccer", "table_blotto", *PAYING)
 WIDE, PHONE = 1300, 390
 TURNS = 5
 """Random turns on each page, at each width."""
@@ -22,6 +25,11 @@ TURNS = 5
 def number(bound):
     """A bound as the page writes it."""
     return f"{bound / 10**6:.6f}".rstrip("0").rstrip(".").replace("-", "−")
+
+
+def paid_text(payoff):
+    """What a turn pays, as the page writes it."""
+    return ("+" if payoff > 0 else "") + number(payoff * 10**6)
 
 
 def percent(share):
@@ -68,7 +76,8 @@ class Pages(unittest.TestCase):
             self.assertEqual(browser.run(cut), 0)
         text = browser.text("main")
         if state.is_end:
-            self.assertIn(f"One gets {number(state.payoff * 10**6)},", text)
+            word = "The end pays One" if report.game.has_rewards else "One gets"
+            self.assertIn(f"{word} {number(state.payoff * 10**6)},", text)
             return
         for at, side in enumerate(SIDES):
             row = report.sheet(side).row(state)
@@ -78,7 +87,8 @@ class Pages(unittest.TestCase):
             wanted = [percent(weight / report.weight) for weight in row.weights] if row else ["first"] + [""] * 40
             self.assertEqual(shares, wanted[:len(names)])
             words = ("gets One at least ", "holds One to at most ")[at]
-            self.assertIn(f"{side.capitalize()}’s strategy {words}{number(row.bound)}" if row else
+            still = " from here on" if report.game.has_rewards else ""
+            self.assertIn(f"{side.capitalize()}’s strategy {words}{number(row.bound)}{still}" if row else
                           f"{side.capitalize()}’s strategy has no row here", text)
         self.read_matrix(report, state)
 
@@ -97,6 +107,19 @@ class Pages(unittest.TestCase):
             known = [all(state.is_end or report.sheet(side).row(state) for state in after) for side in SIDES]
             self.assertTrue(found or not any(known), label)
             self.assertEqual(", the game ends" in told, all(state.is_end for state in after))
+            self.read_pay(state, one, two, told)
+
+    def read_pay(self, state, one, two, told):
+        """That a cell says what the turn itself pays, in games whose turns pay."""
+        shown = self.browser.run(f"document.querySelectorAll('[data-cell]')[{one * len(state.moves('two')) + two}]"
+                                 ".innerText").replace("−", "-")
+        if not state.game.has_rewards:
+            self.assertNotIn("pays", told + shown)
+            return
+        paid = [paid_text(each).replace("−", "-") for each in sorted(set(state.rewards(one, two)))]
+        words = " or ".join(paid) if len(paid) < 3 else f"{paid[0]} to {paid[-1]}"
+        self.assertIn(f", of which this turn pays {words}", told)
+        self.assertEqual(shown.split("\n")[-1], f"pays {words}")
 
     def turn(self, report, source):
         """Plays a random turn by clicks, and looks where it leads."""
@@ -135,6 +158,57 @@ class Pages(unittest.TestCase):
         for name in KINDS:
             with self.subTest(name):
                 self.wander(dosolve.Report.load(TOP / "examples" / f"{name}.report"))
+
+    def test_what_turns_pay_is_summed_on_the_way(self):
+        source, browser = random.Random(4), self.browser
+        for name in PAYING:
+            report = dosolve.Report.load(TOP / "examples" / f"{name}.report")
+            for width in (WIDE, PHONE):
+                browser.wide(width)
+                self.show(report)
+                self.assertFalse(browser.run("document.getElementById('paid')"))
+                self.pay_to_the_end(report, source)
+                self.assertLessEqual(browser.run("document.documentElement.scrollWidth"), width)
+        self.assertEqual(browser.run("[pay(0), pay(-1), pay(3)]"), ["0", "−1", "+3"])
+
+    def pay_to_the_end(self, report, source):
+        """Plays at random by cells and draws, and looks at the sums after each turn."""
+        state, browser, paid = report.game.root(), self.browser, 0
+        while not state.is_end:
+            one, two = (source.randrange(len(state.moves(side))) for side in SIDES)
+            outcomes, draw = state.outcomes(one, two), 0
+            browser.click("[data-cell]", one * len(state.moves("two")) + two)
+            reward = state.rewards(one, two)
+            if len(outcomes) > 1:
+                draw = source.randrange(len(outcomes))
+                told = browser.texts("[data-draw]")[draw]
+                self.assertEqual(f" pays {paid_text(reward[draw])}" in told, reward[draw] != 0, told)
+                browser.click(f'[data-draw="{draw}"]')
+            paid += reward[draw]
+            state = outcomes[draw][1]
+            self.assertEqual(self.state(report).key, state.key)
+            self.assertEqual(browser.text("#paid"), paid_text(paid))
+            words = f"(pays {paid_text(reward[draw])})"
+            self.assertEqual(words in self.trail()[-1], reward[draw] != 0)
+            self.read_sum(report, state, paid, reward[draw])
+
+    def read_sum(self, report, state, paid, reward):
+        """That the whole game's payoff, as far as it is known, is what was paid with what is still to come, and that
+        a screen reader is told of the turn."""
+        bounds = [report.sheet(side).bound(state) + 10**6 * paid for side in SIDES]
+        texts = [number(bound) for bound in bounds]
+        self.assertEqual(self.browser.text("#sum"), texts[0] if bounds[0] == bounds[1] else " to ".join(texts))
+        live = self.browser.run("document.getElementById('live').textContent")
+        self.assertEqual(f", pays One {paid_text(reward)}." in live, reward != 0, live)
+        self.assertIn(f"and the turns {paid_text(paid)}." if state.is_end else " from here on. ", live)
+
+    def test_a_scaled_table_pays_by_its_rules(self):
+        table = dosolve.Table.repeated([["1/3", -1], [0, "1/2"]], 2, ["a", "b"], ["c", "d"])
+        self.show(dosolve.Report.of(*(dosolve.plan(table, side, lambda state: [1, 1]) for side in SIDES)))
+        self.assertEqual([text.split("\n")[-1] for text in self.browser.texts("[data-cell]")],
+                         ["pays +0.333333", "pays −1", "pays 0", "pays +0.5"])
+        self.browser.click("[data-cell]", 0)
+        self.assertEqual(self.trail()[-1], "a – c (pays +0.333333)")
 
     def test_a_page_that_has_a_part_of_the_states(self):
         report = dosolve.Report.load(FIVE)
@@ -200,6 +274,50 @@ class Pages(unittest.TestCase):
         browser.key("Enter")
         self.assertEqual(self.trail(), ["Start", "1 – 3"])
 
+    def test_the_keyboard_alone_leads_through_a_game_with_draws(self):
+        browser, focus = self.browser, "document.activeElement"
+        report = dosolve.Report.load(TOP / "examples" / "goofspiel_drawn_mixed.report")
+        self.show(report)
+        seen = []
+        while "0" not in seen[-1:]:
+            browser.key("Tab")
+            seen.append(browser.run(f"{focus}.dataset.side ?? {focus}.id"))
+            self.assertLess(len(seen), 9, seen)
+        # Back and Start lead nowhere yet.
+        self.assertEqual(seen[:2], ["random", "game"])
+        for key in ("ArrowDown", "Enter", "ArrowRight", "Enter"):
+            browser.key(key)
+        self.assertEqual(browser.run(f"{focus}.dataset.draw"), "0")
+        browser.key("ArrowRight")
+        self.assertEqual(browser.run(f"{focus}.dataset.draw"), "1")
+        browser.key("ArrowDown")
+        self.assertEqual(browser.run(f"{focus}.dataset.draw"), "1")
+        browser.key("Enter")
+        self.assertEqual(len(self.trail()), 2)
+        self.assertTrue(self.trail()[1].endswith(", prize 3"))
+        # The focus is at a move again, so that the game goes on without the mouse.
+        self.assertEqual(browser.run(f"{focus}.dataset.side"), "0")
+        for key in ("Enter", "ArrowRight", "Enter", "Enter", "Enter"):
+            browser.key(key)
+        self.assertGreater(len(self.trail()), 2)
+        browser.key("g")
+        self.assertEqual(browser.run(f"{focus}.id"), "where")
+        self.assertIn("The game is over", browser.text("main"))
+        browser.key("b")
+        self.assertNotIn("The game is over", browser.text("main"))
+
+    def test_a_matrix_that_is_cut_off_fades_out(self):
+        browser = self.browser
+        report = dosolve.Report.load(TOP / "examples" / "table_soccer.report")
+        more = "document.querySelector('.scroll').classList.contains('more')"
+        for width, wanted in ((WIDE, False), (PHONE, True)):
+            browser.wide(width)
+            self.show(report)
+            self.assertEqual(browser.run(more), wanted)
+        browser.run("document.querySelector('.scroll').scrollLeft = 9999")
+        browser.run("new Promise(done => setTimeout(done, 100))")
+        self.assertFalse(browser.run(more))
+
     def test_games_at_random_are_those_of_both_strategies(self):
         report = dosolve.Report.load(FIVE)
         self.show(report)
@@ -239,6 +357,15 @@ class Pages(unittest.TestCase):
         self.show(dosolve.Report.load(TOP / "examples" / "goofspiel_drawn_mixed.report"))
         browser.click("[data-cell]", 1)
         self.assertEqual(browser.texts("[data-draw]"), ["prize 1 50.0%", "prize 3 50.0%"])
+        self.assertEqual(browser.run("document.activeElement.dataset.draw"), "0")
+        # On a phone too, where the draws are above the matrix, the bar does not cover them.
+        browser.wide(PHONE)
+        browser.open(self.folder / "page.html")
+        browser.run("document.querySelector('.matrix').scrollIntoView()")
+        browser.click("[data-cell]", 1)
+        covered = "document.activeElement.getBoundingClientRect().top < " \
+                  "document.querySelector('nav').getBoundingClientRect().bottom"
+        self.assertFalse(browser.run(covered))
         self.assertEqual(browser.run("document.activeElement.dataset.draw"), "0")
         browser.click("[data-draw]", 1)
         self.assertEqual(self.trail(), ["Start", "1 – 4, prize 3"])
@@ -312,6 +439,7 @@ class Pages(unittest.TestCase):
         labels = browser.run("[...document.querySelectorAll('[data-cell]')].map(each => each.ariaLabel)")
         self.assertEqual(labels[1], "One 0, Two 1: from 0 to 0, of which this turn pays −1, the game ends")
         self.assertEqual(labels[3], "One 1, Two 1: no row for what follows, of which this turn pays +4")
+        self.assertEqual(labels[0], "One 0, Two 0: no row for what follows, of which this turn pays 0, 2 draws")
         browser.click("[data-cell]", 3)
         self.assertEqual(self.trail(), ["Start", "1 – 1 (pays +4)"])
         self.assertEqual(browser.text("#paid"), "+4")

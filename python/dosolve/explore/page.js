@@ -29,6 +29,15 @@ const short = millionths => shown(payoffs(millionths), 3);
 const count = (number, word) => `${number} ${word}${number === 1 ? "" : "s"}`;
 const signed = number => (number > 0 ? "+" : number < 0 ? "−" : "") + Math.abs(number);
 
+// What turns pay, by the rules.
+const PAYS = D.states.some(record => record[8]);
+const pay = paid => (paid > 0 ? "+" : "") + shown(paid / D.scale, 6);
+function payWords(after) {
+  const paid = [...new Set(after.map(each => each.paid))].sort((a, b) => a - b);
+  return paid.length < 3 ? paid.map(pay).join(" or ")
+    : `${pay(paid[0])} to ${pay(paid[paid.length - 1])}`;
+}
+
 // A bound of a side, rounded to its safe side where a scale leaves more digits than are shown.
 function safe(bound, side) {
   const scaled = side ? Math.ceil(bound / D.scale - 1e-6) : Math.floor(bound / D.scale + 1e-6);
@@ -149,7 +158,14 @@ function turnName(found, [one, two, draw]) {
   const after = draws(found, one, two), paid = after[draw].paid;
   return `${found.names[0][one]} – ${found.names[1][two]}` +
     (after.length > 1 ? `, ${drawName(found, after[draw], draw)}` : "") +
-    (paid ? ` (pays ${signed(paid / D.scale)})` : "");
+    (paid ? ` (pays ${pay(paid)})` : "");
+}
+
+function turnWords(found, [one, two, draw]) {
+  const after = draws(found, one, two), paid = after[draw].paid;
+  return `One ${found.names[0][one]}, Two ${found.names[1][two]}` +
+    (after.length > 1 ? `, ${drawName(found, after[draw], draw)}` : "") +
+    (paid ? `, pays One ${pay(paid)}` : "");
 }
 
 // Where the reader is: a first state and turns from there, which are in the page's address.
@@ -309,7 +325,8 @@ function drawCards(found) {
   const labelled = (text, ...what) =>
     el("div", {}, el("div", {class: "label"}, text), ...what);
   const middle = el("div", {class: "middle"},
-    found.end ? null : labelled("Prize", card(prize, "prize")),
+    found.end ? null : labelled(SCORES ? "Prize" : "Prize, paid when it is won",
+      card(prize, "prize")),
     P[coming].length ? labelled(order, el("div", {class: "cards"},
       P[coming].map(number => card(number, "coming")))) : null,
     SCORES ? labelled("Score (One less Two)", el("div", {class: "score num"}, signed(score)))
@@ -462,32 +479,36 @@ function guarantee(found, side) {
     const why = found.rows[side] === 1
       ? "has a row here that does not fit its moves, and is not played" : "has no row here";
     return el("p", {}, sure, `’s strategy ${why}: it guarantees no more than the ` +
-      `${side ? "greatest" : "least"} payoff, `,
+      `${side ? "greatest" : "least"} payoff${PAYS ? " that can still come" : ""}, `,
     el("b", {class: "num"}, exact(promised(found.place)[side])),
     `, and makes its first move, ${found.names[side][0]}.`);
   }
   const shy = side ? proved(found, 1) - row.bound : row.bound - proved(found, 0);
   return [el("p", {}, sure, side ? "’s strategy holds One to " : "’s strategy gets One ",
     most + " ", el("b", {class: "num"}, safe(row.bound, side)), catches(row.bound, most),
-    side ? ", whatever One plays." : ", whatever Two plays."),
+    PAYS ? " from here on" : "", side ? ", whatever One plays." : ", whatever Two plays."),
   shy > 1e-3 ? el("p", {class: "told"}, `But the weights of this row prove no more than `,
     el("b", {class: "num"}, exact(proved(found, side))),
     " from the rows that follow: check refuses such a report.") : null];
 }
-// What the turns so far have paid, in games whose turns pay.
-const PAYS = D.states.some(record => record[8]);
-function paidSoFar() {
-  const paid = turns.reduce((sum, [one, two, draw], at) =>
-    sum + draws(state(places[at]), one, two)[draw].paid, 0);
-  return PAYS ? el("p", {}, first ? "The turns shown paid One " : "The turns so far paid One ",
-    el("b", {class: "num", id: "paid"}, signed(paid / D.scale) || "0"), ".") : null;
+// What the turns so far have paid, in millionths, and in words with what is still to come.
+const paidBefore = () => D.unscaled * turns.reduce((sum, [one, two, draw], at) =>
+  sum + draws(state(places[at]), one, two)[draw].paid, 0);
+function paidSoFar(found) {
+  if (!PAYS || !turns.length) return null;
+  const paid = paidBefore(), [least, most] = promised(found.place).map(bound => bound + paid);
+  const sum = least === most ? exact(least) : `${safe(least, 0)} to ${safe(most, 1)}`;
+  return el("p", {}, first ? "The turns shown paid One " : "The turns so far paid One ",
+    el("b", {class: "num", id: "paid"}, pay(paid / D.unscaled)),
+    first ? "." : [found.end ? ", the whole game " : ". With that, the whole game gives One ",
+      el("b", {id: "sum"}, sum), "."]);
 }
 function endPanel(found) {
   const wins = found.payoff > 0 ? "One wins." : found.payoff < 0 ? "Two wins." : "A draw.";
   return el("section", {class: "bounds"}, el("h2", {}, "The game is over"),
     el("p", {}, PAYS ? "The end pays One " : "One gets ",
       el("b", {class: "num"}, exact(found.payoff * D.unscaled)),
-      ", Two the negative. ", D.game === "table" || PAYS ? "" : wins), paidSoFar(),
+      ", Two the negative. ", D.game === "table" || PAYS ? "" : wins), paidSoFar(found),
     el("p", {class: "small dim"}, D.meaning));
 }
 function boundsPanel(found) {
@@ -498,7 +519,7 @@ function boundsPanel(found) {
       ? `So the value of this state lies between both: the gap is ${exact(high - low)}.`
     : `So the value of this state lies from ${exact(least)} to ${exact(most)}.`;
   return el("section", {class: "bounds"}, el("h2", {}, "What is guaranteed from here"),
-    axis(low, high), guarantee(found, 0), guarantee(found, 1), el("p", {}, sum), paidSoFar(),
+    axis(low, high), guarantee(found, 0), guarantee(found, 1), el("p", {}, sum), paidSoFar(found),
     el("p", {class: "small dim"}, D.meaning));
 }
 
@@ -551,7 +572,7 @@ function drawsPanel(found) {
       el("button", {"data-draw": draw, on: () => lead(one, two, draw)},
         `${drawName(found, each, draw)} `,
         el("span", {class: "dim num"}, percent(each.chance / D.chance)),
-        each.paid ? ` pays ${signed(each.paid / D.scale)}` : null))));
+        each.paid ? ` pays ${pay(each.paid)}` : null))));
 }
 
 // The matrix of what follows.
@@ -578,21 +599,21 @@ function matrixCell(found, {worths, open, shares, middle, reach}, one, two) {
   const after = draws(found, one, two), [low, high] = worths[one][two];
   const [noLow, noHigh] = open[one][two], [ones, twos] = found.names;
   const ends = after.every(({place}) => place >= 0 && state(place).end);
-  const off = after.every(({place}) => place < 0), paid = after.map(each => each.paid);
+  const off = after.every(({place}) => place < 0);
   const texts = noLow && noHigh ? ["no row"] : noLow ? ["≤ " + short(high)]
     : noHigh ? ["≥ " + short(low)] : between(low, high);
   const sure = noLow && noHigh ? "no row for what follows" : noLow ? `at most ${exact(high)}`
     : noHigh ? `at least ${exact(low)}` : `from ${exact(low)} to ${exact(high)}`;
   const label = `One ${ones[one]}, Two ${twos[two]}: ${sure}` +
-    (paid.some(Boolean) ? `, of which this turn pays ${paid.map(pay =>
-      signed(pay / D.scale) || "0").join(" or ")}` : "") + (ends ? ", the game ends" : "") +
+    (PAYS ? `, of which this turn pays ${payWords(after)}` : "") + (ends ? ", the game ends" : "") +
     (off ? ", not on this page" : "") + (after.length > 1 ? `, ${after.length} draws` : "");
   const both = shares[0][one] && shares[1][two] && found.rows.every(read);
   return el("button", {class: (ends ? "end" : "") + (off ? " off" : "") + (both ? " played" : ""),
     style: noLow || noHigh ? false : `--heat:${heat((low + high) / 2 - middle, reach)}`,
     tabindex: one || two ? -1 : 0, title: label, "aria-label": label,
     "data-cell": one * twos.length + two, on: () => play(one, two)},
-  texts.length > 1 ? [texts[0], el("br"), texts[1]] : texts);
+  texts.length > 1 ? [texts[0], el("br"), texts[1]] : texts,
+  PAYS ? el("span", {class: "pays"}, `pays ${payWords(after)}`) : null);
 }
 function matrixTable(found) {
   const [ones, twos] = found.names, all = matrix(found), rows = found.rows.map(read);
@@ -613,17 +634,24 @@ function matrixTable(found) {
 }
 // A matrix of many columns has the whole width of the page.
 const isWide = found => found.names[1].length > 7;
+function scroller(table) {
+  const box = el("div", {class: "scroll"}, table);
+  box.addEventListener("scroll", fade, {passive: true});
+  return box;
+}
 function matrixPanel(found) {
   const drawn = found.cells.some(each => typeof each !== "number");
   return el("section", {"aria-labelledby": "leads", class: isWide(found) ? "wide" : false},
     el("h2", {id: "leads"}, "Where each pair of moves leads"),
     el("p", {class: "small dim"},
-      "What is guaranteed then, in payoffs of One. A click leads there."),
-    el("div", {class: "scroll"}, matrixTable(found)),
+      "What is guaranteed then, in payoffs of One",
+      PAYS ? "; below, what the turn itself pays of that. " : ". ", "A click leads there."),
+    scroller(matrixTable(found)),
     el("details", {class: "small dim", id: "how", open: opened.how},
       el("summary", {}, "How to read this"),
       el("p", {}, "Each cell has what both strategies guarantee from the state that follows",
-        drawn ? ", the mean over the draws" : "", ": one number where both bounds round to it, " +
+        PAYS ? ", added to what this turn pays" : "", drawn ? ", the mean over the draws" : "",
+        ": one number where both bounds round to it, " +
         "else the lower and the upper one; ≥ where only One’s strategy has a row there, ≤ where " +
         "only Two’s has, and “no row” where neither has. Pointing at a cell shows it to a " +
         "millionth. Blue is better for One than the value of this state, orange better for Two. ",
@@ -724,6 +752,7 @@ function lossesPanel() {
 function held() {
   const at = document.activeElement && document.activeElement.dataset;
   if (!at) return null;
+  if (document.activeElement === $("where")) return "#where";
   if (at.side !== undefined) return `[data-side="${at.side}"][data-move="${at.move}"]`;
   return at.cell !== undefined ? `[data-cell="${at.cell}"]`
     : at.sort !== undefined ? `[data-sort="${at.sort}"]` : at.draw !== undefined ? ".draws" : null;
@@ -732,23 +761,42 @@ function wherePanel(found, title) {
   const least = D.exact ? "" : "at least ";
   const reached = found.chance ? `Reached in ${least}${percent(found.chance)} of games between ` +
     "both strategies. " : D.exact ? "Both strategies together never come here. " : "";
+  const below = (turns.length || first ? reached : "") +
+    (D.game === "table" ? "" : `Key ${found.key}.`);
   return el("section", {class: "where"}, el("h2", {id: "where", tabindex: -1}, title),
     el("figure", {role: "group", "aria-label": described(found)}, picture(found)),
-    el("p", {class: "small dim", style: "margin:8px 0 0"}, turns.length || first ? reached : "",
-      D.game === "table" ? "" : `Key ${found.key}.`),
+    below ? el("p", {class: "small dim", style: "margin:8px 0 0"}, below) : null,
     el("p", {class: "told", id: "message"}, told));
 }
 function renderTrail() {
   const crumbs = places.map((_, at) => {
-    const before = at ? state(places[at - 1]) : null, [one, two] = at ? turns[at - 1] : [];
+    const before = at ? state(places[at - 1]) : null;
     const text = at ? turnName(before, turns[at - 1])
       : first ? `key ${D.states[first][0]}` : "Start";
     return el("li", {}, el("button", {"aria-current": at === places.length - 1 ? "step" : false,
-      "aria-label": at ? `Turn ${at}: One ${before.names[0][one]}, Two ${before.names[1][two]}`
-        : false, on: () => go(at)}, text));
+      "aria-label": at ? `Turn ${at}: ${turnWords(before, turns[at - 1])}` : false,
+      on: () => go(at)}, text));
   });
   $("trail").replaceChildren(...crumbs);
   $("trail").scrollLeft = $("trail").scrollWidth;
+}
+// The matrix fades out where more of it can be scrolled to.
+function fade() {
+  const box = document.querySelector(".scroll");
+  if (!box) return;
+  const left = box.scrollWidth - box.clientWidth - box.scrollLeft;
+  box.classList.toggle("more", left > 1);
+}
+// What a screen reader is told of a step: how it went, where it led, and what is guaranteed there.
+function spoken(found, title) {
+  const last = turns.length - 1, [low, high] = bounds(found.place);
+  const turn = last < 0 ? "" : `${turnWords(state(places[last]), turns[last])}. `;
+  const ended = PAYS
+    ? `the end pays One ${exact(low)}, and the turns ${pay(paidBefore() / D.unscaled)}`
+    : `One gets ${exact(low)}`;
+  const sure = words(low, high);
+  return `${turn}${title}: ${described(found)}. ` + (found.end ? `The game is over, ${ended}. `
+    : sure ? `${sure}${PAYS ? " from here on" : ""}. ` : "No rows here. ") + told;
 }
 function render() {
   const found = here(), focus = held();
@@ -766,11 +814,10 @@ function render() {
   $("back").disabled = !turns.length;
   $("home").disabled = !turns.length && !first;
   $("random").disabled = $("game").disabled = found.end;
+  fade();
   const target = focus && (document.querySelector(focus) || document.querySelector("[data-side]"));
   if (focus) (target || $("where")).focus({preventScroll: true});
-  const [low, high] = bounds(found.place);
-  $("live").textContent = `${title}: ${described(found)}. ` + (found.end
-    ? `The game is over, One gets ${exact(low)}. ` : words(low, high) || "No rows here. ") + told;
+  $("live").textContent = spoken(found, title);
 }
 
 // Keys.
@@ -783,6 +830,9 @@ function arrows(key) {
   if (at.cell !== undefined) {
     const one = clamp(Math.floor(at.cell / width) + dy, found.names[0].length - 1);
     wanted = `[data-cell="${one * width + clamp(at.cell % width + dx, width - 1)}"]`;
+  } else if (at.draw !== undefined) {
+    const most = document.querySelectorAll("[data-draw]").length - 1;
+    wanted = `[data-draw="${clamp(Number(at.draw) + dx + dy, most)}"]`;
   } else {
     const begun = at.side !== undefined, side = begun ? clamp(Number(at.side) + dx, 1)
       : dx > 0 ? 1 : 0;
@@ -805,6 +855,7 @@ $("home").addEventListener("click", home);
 $("random").addEventListener("click", () => random(false));
 $("game").addEventListener("click", () => random(true));
 window.addEventListener("hashchange", arrive);
+window.addEventListener("resize", fade);
 
 // What does not change.
 function footing() {

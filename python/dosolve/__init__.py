@@ -52,7 +52,8 @@ Bounds, gaps and resolutions of objects are those of the program's texts, millio
 what One gets, and payoffs are whole; what is printed and `record()` are in payoffs of the rules.
 Moves, draws and cells are numbered from 0. `dosolve-py --help` is the same on a command line.
 """
-from . import limits, openspiel, pictures
+from . import drawings, limits, openspiel, pictures
+from .drawings import Drawing
 from .errors import (
     DosolveError, InputRefused, InputRefusedError, Invalid, InvalidError, LimitReached,
     LimitReachedError, NoTableError, PlayerError, ProgramFailed, ProgramFailedError,
@@ -98,7 +99,7 @@ __all__ = [
     # What is handed over and handed back.
     "Position", "Report", "Sheet", "Row", "Accepted", "WorstCase", "Match", "Turn", "Measured",
     "BestResponse", "Swept", "Tournament", "Pairing", "Guarantee", "Progress", "PlanProgress",
-    "TableProgress", "Bar",
+    "TableProgress", "Bar", "Drawing",
     "HistoryPlayer",
     # Games.
     "Goofspiel", "GoofspielDrawn", "OshiZumo", "Tron", "Pursuit", "Table", "Game", "State",
@@ -107,7 +108,7 @@ __all__ = [
     "TableState",
     # Types and constants.
     "Side", "SIDES", "Move", "Choice", "Player", "SCALE", "CHANCE", "GAMES", "ASKED", "OUTCOMES",
-    "DIRECTIONS", "explore", "limits", "openspiel", "pictures",
+    "DIRECTIONS", "drawings", "explore", "limits", "openspiel", "pictures",
     # Errors.
     "DosolveError", "InvalidError", "PlayerError", "ProgramMissingError", "ProgramFailedError",
     "ProgramTimeoutError", "RefusedError", "InputRefusedError", "ReportRefusedError",

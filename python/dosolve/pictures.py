@@ -128,11 +128,11 @@ def _title(report: Report, state: State, key: int | None) -> str:
         else:
             lines[-1] += f", {word}"
     if key is not None:
-        lines.append(cut(f"state {key}: {_told(state)}", 90))
+        lines.append(cut(f"state {key}: {state_words(state)}", 90))
     return "\n".join(lines)
 
 
-def _told(state: State) -> str:
+def state_words(state: State) -> str:
     """A state in words: its name in a table, else its fields."""
     if isinstance(state, TableState) or not is_dataclass(state):
         return " ".join(str(state).split())

@@ -8,6 +8,7 @@ from collections.abc import Iterator, Sequence
 from dataclasses import dataclass, field, replace
 from fractions import Fraction
 from pathlib import Path
+from typing import TYPE_CHECKING
 
 from .errors import InputRefusedError, InvalidError, ReportRefusedError
 from .exact import steps
@@ -24,6 +25,9 @@ from .tables.names import require_names, save_names, with_names
 from .tables.table import Table
 from .values import FilePath, Record, as_points, cut, require_range, shorten
 
+if TYPE_CHECKING:
+    from .drawings import Drawing
+
 OUTCOMES = ("closed", "settled", "spent", "full")
 
 Setting = str | int | tuple[int, ...]
@@ -37,6 +41,9 @@ UNIT = "payoff of One"
 
 MOST_WALKED = 2000
 """The rows of a plan that is followed for notes."""
+
+MOST_DRAWN = 512
+"""The pairs of moves of a root whose picture a notebook shows with its report."""
 
 _HEADS = {b"dosolve report %d\n" % version: version for version in range(1, NEWEST_VERSION + 1)}
 _NUMBER = re.compile(rb"0|-?[1-9][0-9]*")
@@ -286,11 +293,15 @@ class Report:
         return self.summary().removesuffix("\n")
 
     def _repr_html_(self) -> str:
-        """The summary as a table, for notebooks."""
+        """The summary as a table, and what is guaranteed after each pair of moves of the root, for
+        notebooks."""
         rows = [line.split(None, 1) for line in self.summary().splitlines()]
         cells = "".join(f"<tr><th>{html.escape(name)}</th><td>{html.escape(text)}</td></tr>"
                         for name, text in rows)
-        return f"<table>{cells}</table>"
+        root = self.game.root()
+        count = len(root.moves("one")) * len(root.moves("two"))
+        picture = f"<div>{self.heat_map()}</div>" if 1 < count <= MOST_DRAWN else ""
+        return f"<table>{cells}</table>{picture}"
 
     def on(self, game: AnyGame) -> Report:
         """The same report on an equal game, as on a table with names; itself where the game is
@@ -316,11 +327,13 @@ class Report:
         that its side can still get there."""
         if state.is_end:
             return []
-        return [[self._worth(list(steps(state, one, two))) for two in state.moves("two")]
+        return [[self.worth(state, one, two) for two in state.moves("two")]
                 for one in state.moves("one")]
 
-    def _worth(self, outcomes: list[tuple[int, State, int]]) -> tuple[Fraction, Fraction]:
-        """The mean over draws of both bounds, with what each draw pays."""
+    def worth(self, state: State, one: int, two: int) -> tuple[Fraction, Fraction]:
+        """What `stage` has for a pair of labels: both bounds of what follows, the mean over the
+        draws, with what each draw pays."""
+        outcomes = list(steps(state, one, two))
         lower, upper = (sum((Fraction(chance * (sheet.bound(after) + SCALE * paid), CHANCE * SCALE)
                              for chance, after, paid in outcomes), Fraction(0))
                         for sheet in (self.one, self.two))
@@ -383,6 +396,13 @@ class Report:
         require_names(self.game, path)
         Path(path).write_text(self.text())
         save_names(self.game, path)
+
+    def heat_map(self, state: State | None = None) -> Drawing:
+        """A picture of what is guaranteed after each pair of moves of a state, or of the root; see
+        `dosolve.drawings.heat_map`."""
+        from .drawings import heat_map
+
+        return heat_map(self, state)
 
     def explore(self, path: FilePath, against: Report | None = None,
                 most_states: int = 10_000) -> None:

@@ -17,14 +17,14 @@ from ..errors import (
 )
 from ..exact import BestResponse, expected_of, respond
 from ..games.game import SCALE, SIDES, AnyGame, Side, other, side_of
-from ..limits import MOST_GAMES, MOST_SEED
+from ..limits import MOST_GAMES, MOST_ROWS, MOST_SEED
 from ..players.sheets import Sheet
 from ..positions import Position, require_position
 from ..reports import Report, explained
 from ..values import FilePath, as_field, as_number, cut, require_range, shorten
 from .library import find_library
 from .process import GROUP, run
-from .progress import Bar, Follower, Listener
+from .progress import Bar, Follower, Listener, Progress
 
 BLOCKS = 40
 """The blocks of games of a match, from whose means its standard error is made."""
@@ -35,6 +35,9 @@ _BESIDE = _REPOSITORY / "crates" / "dosolve" / "out" / "dosolve"
 _FAILURES = {6: "its standard input failed", 7: "its standard output failed",
              8: "it ran out of memory"}
 _FIRST_TURNS, _MORE_TURNS = 256, 8
+_SWEEPS = 3
+_MANY_TURNS = 10**9
+"""So many turns are no limit."""
 
 
 def find_program(program: FilePath | None = None) -> str:
@@ -156,52 +159,59 @@ class Solver:
         With `seconds`, the search is run with growing turns, none at first, and the best report is
         handed back when time is up, or at Ctrl-C; each report is complete. `math.inf` goes on
         until the search ends by itself. `progress` is a function that is called with each step
-        (`Progress`) about once a second, or True for a line on the terminal.
+        (`Progress`) about once a second, and at last with the bounds of the report; or True for a
+        line on the terminal or in a notebook.
         """
         require_position(position, "solve")
-        bar = Bar(None, position.turns if position.turns < 10**9 else None, position.game.scale)
+        bar = Bar(None, None, position.game.scale)
         listener = bar if progress is True else progress or None
+        since = time.monotonic()
         try:
             if seconds is None:
-                return self._solved(position, listener, self.timeout)
-            return self._solve_within(position, seconds, listener)
+                found, ended = self._solved(position, listener, self.timeout, since)
+            else:
+                found, ended = self._solve_within(position, seconds, listener, since)
+            if listener is not None:
+                listener(_step(position, found, ended - since))
+            return found
         finally:
             bar.close()
 
-    def _solve_within(self, position: Position, seconds: float,
-                      listener: Listener | None) -> Report:
+    def _solve_within(self, position: Position, seconds: float, listener: Listener | None,
+                      since: float) -> tuple[Report, float]:
+        """The best report, and when its search ended."""
         if not isinstance(seconds, (int, float)) or not seconds >= 0:
             raise InvalidError(f"seconds is {shorten(seconds)}, and has to be a number from 0")
-        since, turns = time.monotonic(), 0
+        turns = 0
         one, two = (Sheet(position.game, side, position.weight) for side in SIDES)
         best = Report.of(one, two, position.gap)
         while True:
             left = seconds - (time.monotonic() - since)
             try:
                 if left <= 0:
-                    return _stopped(best, "time")
-                found = self._solved(replace(position, turns=turns), listener,
-                                     None if math.isinf(left) else left, since, best)
+                    return _stopped(best, "time"), time.monotonic()
+                found, ended = self._solved(replace(position, turns=turns), listener,
+                                            None if math.isinf(left) else left, since, best)
             except ProgramTimeoutError:
-                return _stopped(best, "time")
+                return _stopped(best, "time"), time.monotonic()
             except KeyboardInterrupt:
-                return _stopped(best, "interrupt")
+                return _stopped(best, "interrupt"), time.monotonic()
             if found.gap <= best.gap or best.is_vacuous:
                 best = found
             if is_last(found, position):
-                return best
+                return best, ended
             turns = min(max(_FIRST_TURNS, _MORE_TURNS * turns), position.turns)
 
     def _solved(self, position: Position, listener: Listener | None, timeout: float | None,
-                since: float | None = None, best: Report | None = None) -> Report:
-        """The report of one run of the program."""
+                since: float, best: Report | None = None) -> tuple[Report, float]:
+        """The report of one run of the program, and when that ended: to read it takes time too."""
         follower = None
         if listener is not None:
-            bounds = (best.lower, best.upper) if best else (None, None)
-            follower = Follower(listener, since, bounds)
+            follower = Follower(listener, since, _step(position, best, 0.0))
         text = self._answer(["solve"], position.text(), {0, 3, 4, 5}, follower, timeout)
+        ended = time.monotonic()
         try:
-            return replace(Report.read(text, position.game), board=position.rows)
+            return replace(Report.read(text, position.game), board=position.rows), ended
         except ReportRefusedError as refusal:
             raise self._unexpected(f"no report ({refusal.text})", text) from None
 
@@ -346,6 +356,26 @@ def is_last(report: Report, position: Position) -> bool:
     """Whether a search within seconds ends with this report of one of its steps."""
     more = report.turns == 0 or "turns" in report.used_up
     return not more or report.gap <= position.gap or report.turns == position.turns
+
+
+def _step(position: Position, report: Report | None, seconds: float) -> Progress:
+    """What is known of a search with this report, or with none yet."""
+    count = position.game.count_states()
+    states = count if count is not None and count <= MOST_ROWS else None
+    most = _most_turns(position, states)
+    if report is None:
+        return Progress(0, seconds, None, None, states, most)
+    return Progress(sum(report.spent), seconds, report.lower, report.upper, states, most)
+
+
+def _most_turns(position: Position, states: int | None) -> int | None:
+    """The most turns that a search can take, where that is known and says something. One worker
+    with linear stages makes at most three sweeps, each of at most a turn for each state and for
+    each turn that is left in the game; several workers share the states, and each may take all."""
+    limits = [position.turns] if position.turns < _MANY_TURNS else []
+    if position.stages == "linear" and position.workers == 1 and states is not None:
+        limits.append(_SWEEPS * (states + position.game.root().rank))
+    return position.workers * min(limits) if limits else None
 
 
 def _stopped(report: Report, what: str) -> Report:

@@ -19,12 +19,20 @@ _LINE = re.compile(r"worker (\d+) turns (\d+) seconds (\d+)"
 @dataclass(frozen=True)
 class Progress:
     """How far a search is: the turns that all workers have spent, the seconds since it began, and
-    both bounds with their gap in millionths, each None where they are not known yet."""
+    both bounds with their gap in millionths, each None where they are not known yet.
+
+    A turn solves the matrix game of one state. `states` is how many states with moves the game
+    has, and `most` the most turns that the search can take; each is None where it is not known, as
+    in lines that were read from a file. A search by linear stages takes at most three turns for a
+    state, and none where pure plans suffice, so that it often ends long before `most`.
+    """
 
     turns: int
     seconds: float
     lower: int | None = None
     upper: int | None = None
+    states: int | None = None
+    most: int | None = None
 
     @property
     def gap(self) -> int | None:
@@ -40,8 +48,15 @@ class Progress:
         upper = None if self.upper is None else math.ceil(self.upper / scale)
         return replace(self, lower=lower, upper=upper)
 
+    @property
+    def share(self) -> Fraction | None:
+        """The turns as a part of the most; None where that is not known."""
+        return Fraction(self.turns, self.most) if self.most else None
+
     def __str__(self) -> str:
-        found = f"{self.seconds:.0f} s, {self.turns} turns"
+        of_most = "" if self.most is None else f" of at most {self.most}"
+        states = "" if self.states is None else f" for {self.states} states"
+        found = f"{self.seconds:.0f} s, {self.turns}{of_most} turns{states}"
         if self.lower is None or self.upper is None:
             return found
         return (f"{found}, {as_points(self.lower)} to {as_points(self.upper)}, gap "
@@ -93,8 +108,8 @@ class _Lines:
     seen any. All bounds are true, so the narrowest of all workers are those of the search.
     """
 
-    def __init__(self, bounds: tuple[int | None, int | None] = (None, None)) -> None:
-        self.lower, self.upper = bounds
+    def __init__(self, start: Progress | None = None) -> None:
+        self.last = start or Progress(0, 0.0)
         self.turns: dict[int, int] = {}
 
     def take(self, line: str, seconds: float | None = None) -> Progress | None:
@@ -103,20 +118,24 @@ class _Lines:
         if found is None:
             return None
         self.turns[int(found[1])] = int(found[2])
+        lower, upper = self.last.lower, self.last.upper
         if found[4] is not None:
-            lower, upper = int(found[4]), int(found[5])
-            self.lower = lower if self.lower is None else max(lower, self.lower)
-            self.upper = upper if self.upper is None else min(upper, self.upper)
+            told = int(found[4]), int(found[5])
+            lower = told[0] if lower is None else max(told[0], lower)
+            upper = told[1] if upper is None else min(told[1], upper)
         at = float(found[3]) if seconds is None else seconds
-        return Progress(sum(self.turns.values()), at, self.lower, self.upper)
+        self.last = replace(self.last, turns=sum(self.turns.values()), seconds=at, lower=lower,
+                            upper=upper)
+        return self.last
 
 
 class Follower:
-    """Calls a listener with a step for each line that the workers of one search print."""
+    """Calls a listener with a step for each line that the workers of one search print; `start` is
+    what is known before the first."""
 
     def __init__(self, listener: Listener, since: float | None = None,
-                 bounds: tuple[int | None, int | None] = (None, None)) -> None:
-        self.listener, self.lines = listener, _Lines(bounds)
+                 start: Progress | None = None) -> None:
+        self.listener, self.lines = listener, _Lines(start)
         self.since = time.monotonic() if since is None else since
 
     def hear(self, line: str) -> bool:
@@ -136,7 +155,7 @@ def read_progress(lines: Iterable[str]) -> list[Progress]:
 
 
 class Bar:
-    """Shows progress on one line of a terminal, and nothing where there is none."""
+    """Shows progress on one line of a terminal or of a notebook's cell, and nothing elsewhere."""
 
     def __init__(self, stream: TextIO | None = None, most: int | None = None,
                  scale: Fraction = Fraction(1)) -> None:
@@ -146,17 +165,21 @@ class Bar:
         self.shown = 0
 
     def __call__(self, step: object) -> None:
-        if not self.stream.isatty():
+        if not self._is_shown():
             return
+        share = ""
         if isinstance(step, Progress):
             step = step.of_rules(self.scale)
-        share = ""
-        if self.most and isinstance(step, Progress):
-            share = f" ({100 * step.turns / self.most:.0f}% of the turns)"
+            if self.most and step.most is None:
+                share = f" ({100 * step.turns / self.most:.0f}% of the turns)"
         text = f"dosolve: {step}{share}"
         self.stream.write("\r" + text.ljust(self.shown))
         self.stream.flush()
         self.shown = len(text)
+
+    def _is_shown(self) -> bool:
+        """Whether one line can be written over here: a notebook is no terminal, but can."""
+        return self.stream.isatty() or type(self.stream).__module__.startswith("ipykernel.")
 
     def close(self) -> None:
         """Clears the line."""

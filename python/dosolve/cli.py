@@ -4,6 +4,7 @@ from __future__ import annotations
 
 import argparse
 import csv
+import importlib.util
 import json
 import math
 import sys
@@ -16,7 +17,8 @@ from functools import partial
 from pathlib import Path
 from typing import TYPE_CHECKING, ClassVar
 
-from . import __version__, explore, pictures
+from . import __version__, drawings, explore, pictures
+from .drawings import Drawing
 from .errors import DosolveError, InputRefusedError, InvalidError, ProgramMissingError
 from .files import (
     aside, naming, read_position, read_report, read_table, require_other, require_output, with_gap,
@@ -29,7 +31,7 @@ from .players.tournaments import tournament
 from .positions import ASKED, Asked, Position
 from .reports import UNIT, Report, table_notes
 from .solver.program import Solver, WorstCase, find_program, require_match
-from .solver.progress import read_progress
+from .solver.progress import Bar, Progress, read_progress
 from .sweeps import SWEPT_COLUMNS, Summary, Swept, read_positions, sweep
 from .tables.names import names_file, require_names
 from .values import as_number, as_points, cut
@@ -45,6 +47,7 @@ _EXAMPLES = """examples:
   python3 -m dosolve measure examples/goofspiel_mixed.json python/examples/even.py
   python3 -m dosolve exploit examples/goofspiel_mixed.report one
   python3 -m dosolve show examples/goofspiel_mixed.report -o mixed.svg
+  python3 -m dosolve show examples/goofspiel_mixed.report -o matrix.svg --matrix
   python3 -m dosolve explore examples/goofspiel_five.report -o five.html
   python3 -m dosolve sweep positions.jsonl -o results.jsonl
   python3 -m dosolve table python/examples/soccer.py -o soccer.json
@@ -82,21 +85,40 @@ class Solve(Command):
         parser.add_argument("-o", "--output", type=Path, metavar="REPORT", help="write the report")
         _add_rounded(parser)
         parser.add_argument("--report", action="store_true", help="print the report itself")
+        parser.add_argument("--over-time", type=Path, metavar="FILE.svg",
+                            help="draw both bounds over the seconds of the search")
         _add_seconds(parser)
         _add_asked(parser)
 
     def run(self, words: Namespace) -> None:
         position = read_position(words.position, _asked(words), words.gap, words.rounded)
-        require_output(words.output, words.position)
+        for output in (words.output, words.over_time):
+            require_output(output, words.position)
+        drawings.require_svg(words.over_time)
         if words.output:
             require_names(position.game, words.output)
         _tell_size(position)
-        report = _solver(words).solve(position, words.seconds, progress=sys.stderr.isatty())
+        steps: list[Progress] = []
+        report = self._solved(words, position, steps)
         try:
             if words.output:
                 report.save(words.output)
+            if words.over_time:
+                drawings.over_time(steps, report).save(words.over_time)
         finally:
             self._print(words, report)
+
+    def _solved(self, words: Namespace, position: Position, steps: list[Progress]) -> Report:
+        """The report, and where they are drawn the steps of the search."""
+        solver = _solver(words)
+        if not words.over_time:
+            return solver.solve(position, words.seconds, progress=sys.stderr.isatty())
+        with closing(Bar(scale=position.game.scale)) as bar:
+            def hear(step: Progress) -> None:
+                steps.append(step)
+                bar(step)
+
+            return solver.solve(position, words.seconds, progress=hear)
 
     def _print(self, words: Namespace, report: Report) -> None:
         if words.report:
@@ -338,6 +360,8 @@ class Show(Command):
         parser.add_argument("--zoom", action="store_true", help="the axis round the bounds alone")
         parser.add_argument("--players", nargs=2, metavar=("ONE", "TWO"),
                             help="names for the titles")
+        parser.add_argument("--matrix", action="store_true",
+                            help="what is guaranteed after each pair of moves (.svg alone)")
         parser.add_argument("--tree", type=int, metavar="TURNS", help="a tree of the first turns")
         parser.add_argument("--most", type=int, metavar="N",
                             help="the pairs of moves after each state of a tree (4, and 2 from "
@@ -347,19 +371,27 @@ class Show(Command):
 
     def run(self, words: Namespace) -> None:
         require_output(words.output, words.report)
-        pictures.save(self._picture(words), words.output)
+        picture = self._picture(words)
+        if isinstance(picture, Drawing):
+            picture.save(words.output)
+        else:
+            pictures.save(picture, words.output)
         if words.json:
             _print_record({"output": str(words.output)})
 
-    def _picture(self, words: Namespace) -> Figure:
-        """The figure that the options ask for."""
+    def _picture(self, words: Namespace) -> Figure | Drawing:
+        """The picture that the options ask for. Bounds over time need no library."""
         if words.progress:
-            return pictures.history(read_progress(words.report.read_text().splitlines()))
+            steps = read_progress(words.report.read_text().splitlines())
+            missing = importlib.util.find_spec("matplotlib") is None
+            return drawings.over_time(steps) if missing else pictures.history(steps)
         report, key = read_report(words.report), words.key
         if words.tree is not None:
             return pictures.tree(report, words.tree, words.most)
         if words.history:
             key = report.game.state_after([turn.split(",") for turn in words.history]).key
+        if words.matrix:
+            return report.heat_map(None if key is None else report.game.state(key))
         return pictures.figure(report, key, words.zoom, words.players)
 
 

@@ -9,7 +9,7 @@ import html
 import math
 import textwrap
 from collections.abc import Iterable, Sequence
-from dataclasses import dataclass, field
+from dataclasses import dataclass, field, replace
 from fractions import Fraction
 from pathlib import Path
 from typing import Final
@@ -54,10 +54,14 @@ class Drawing:
 
     def save(self, path: FilePath) -> None:
         """Writes the picture into a file that ends with `.svg`."""
-        file = Path(path)
-        if file.suffix.lower() != ".svg":
-            raise DosolveError(f"{file} has to end with .svg")
-        file.write_text(self.text, encoding="utf-8")
+        require_svg(path)
+        Path(path).write_text(self.text, encoding="utf-8")
+
+
+def require_svg(path: FilePath | None) -> None:
+    """Refuses a file of a drawing that does not end with `.svg`."""
+    if path is not None and Path(path).suffix.lower() != ".svg":
+        raise DosolveError(f"{path} has to end with .svg")
 
 
 @dataclass
@@ -244,7 +248,7 @@ class _Matrix:
         self.cell_width = max(46, widest + 10, 0 if self.is_turned else across + 6)
         self.cell_height = 14 + 14 * max(map(len, texts))
         self.left = 76 + max(22.0, *(_width(name, 12) for name in self.names["one"]))
-        self.width = max(self.left + self.cell_width * len(self.names["two"]) + 14, 420)
+        self.width = max(self.left + self.cell_width * len(self.names["two"]) + 14, 450)
         title = TITLES.get(self.report.game.name, self.report.game.name)
         self.title = f"{title}: guaranteed after each pair of moves"
         self.head = [(line, 14) for line in _wrapped(self.title, self.width - 28, 14)]
@@ -398,17 +402,12 @@ def over_time(steps: Sequence[Progress], report: Report | None = None) -> Drawin
     that `solve(.., progress=steps.append)` gave, or `read_progress` read. Where no bounds were
     told, the turns.
 
-    With the report, the title has its game, payoffs are those of the rules, and its bounds stand
-    last.
+    With the report, the title has its game, payoffs are those of the rules, the range of payoffs
+    stands first, and the bounds of the report last.
     """
     if not steps:
         raise InvalidError("there are no steps of a search: lines of progress come once a second")
-    taken = list(steps)
-    if report is not None:
-        last = Progress(sum(report.spent), taken[-1].seconds, report.lower, report.upper)
-        if (taken[-1].lower, taken[-1].upper) != (report.lower, report.upper):
-            taken.append(last)
-        taken = [step.of_rules(report.game.scale) for step in taken]
+    taken = list(steps) if report is None else _within(steps, report)
     bounded = [step for step in taken if step.gap is not None]
     name = "Search" if report is None else TITLES.get(report.game.name, report.game.name)
     title = f"{name}: {'bounds' if bounded else 'turns'} over time"
@@ -427,6 +426,15 @@ def over_time(steps: Sequence[Progress], report: Report | None = None) -> Drawin
         axes.times(paper)
         axes.steps(paper, points, _DIM)
     return paper.drawing()
+
+
+def _within(steps: Sequence[Progress], report: Report) -> list[Progress]:
+    """The steps between what is known before a search, and the report of it."""
+    root = report.game.root()
+    first = Progress(0, 0.0, root.opening("one"), root.opening("two"))
+    last = replace(steps[-1], turns=sum(report.spent), lower=report.lower, upper=report.upper)
+    taken = [first, *steps] + ([last] if steps[-1] != last else [])
+    return [step.of_rules(report.game.scale) for step in taken]
 
 
 def _draw_bounds(paper: _Paper, bounded: Sequence[Progress], seconds: float) -> None:

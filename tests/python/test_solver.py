@@ -55,7 +55,10 @@ class Time(Programs):
         self.assertEqual((found.used_up, found.stopped), (("turns",), "time"))
         self.assertEqual(found.notes(), ("the time was up: more seconds can narrow the gap",))
         self.assertEqual([(step.turns, step.lower, step.upper, step.gap) for step in steps],
-                         [(5, report.lower, report.upper, report.gap), (9, -5, 7, 12)])
+                         [(5, report.lower, report.upper, report.gap), (9, -5, 7, 12),
+                          (256, report.lower, report.upper, report.gap)])
+        self.assertEqual([(step.states, step.most) for step in steps],
+                         [(5, 2048), (5, 2048), (5, 10**6)])
 
     def test_of_equal_gaps_the_later_report_is_handed_back(self):
         program, report = self.slow_program()
@@ -87,7 +90,7 @@ class Time(Programs):
                  f"progress=lambda step: print(step, flush=True)); print(r.text() + r.notes()[-1])")
         run = subprocess.Popen([sys.executable, "-c", words], stdout=subprocess.PIPE, text=True,
                                env=os.environ | {"PYTHONPATH": str(TOP / "python")})
-        self.assertIn("5 turns", run.stdout.readline())
+        self.assertIn("5 of at most 2048 turns for 5 states, ", run.stdout.readline())
         run.send_signal(signal.SIGINT)
         answer, _ = run.communicate(timeout=20)
         self.assertEqual((run.returncode, answer[answer.index("dosolve"):].strip()),

@@ -45,9 +45,9 @@ Any finite game:
 A `Position` is a game with what is asked, a `Report` has bounds and both plans, a `Sheet` is a
 plan. Games are `Goofspiel`, `GoofspielDrawn`, `OshiZumo`, `Tron`, `Pursuit` and `Table`; a state
 has `moves(side)`, `play(one=.., two=..)`, `is_end` and `payoff`. A game that is too large for a
-table can be measured here as a `PythonGame`. Both sides are `SIDES`. Pictures
-are in `dosolve.pictures`, a page to click through is made by `report.explore(path)`, OpenSpiel's
-names are in `dosolve.openspiel`, limits in `dosolve.limits`.
+table can be measured here as a `PythonGame`. Both sides are `SIDES`. Pictures are in
+`dosolve.drawings`, and with matplotlib in `dosolve.pictures`; a page to click through is made by
+`report.explore(path)`, OpenSpiel's names are in `dosolve.openspiel`, limits in `dosolve.limits`.
 Bounds, gaps and resolutions of objects are those of the program's texts, millionths of a payoff,
 what One gets, and payoffs are whole; what is printed and `record()` are in payoffs of the rules.
 Moves, draws and cells are numbered from 0. `dosolve-py --help` is the same on a command line.

@@ -1,4 +1,5 @@
-"""A headless browser for the tests of pages, driven by the standard library alone."""
+"""A headless browser for the tests of pages and drawings, as Debian's package chromium, driven by the standard library
+alone."""
 from __future__ import annotations
 
 import base64

@@ -128,7 +128,7 @@ class Matrices(unittest.TestCase):
         table = dosolve.Table.repeated([["1/2", -1]], 2, ["a"], ["c", "d"])
         report = dosolve.Report.of(*(even(table, side) for side in SIDES))
         told = [title for title, _, _ in cells(parsed(report.heat_map()))]
-        self.assertEqual([title.split(", of which ")[1] for title in told], ["this turn pays +0.5", "this turn pays −1"])
+        self.assertEqual([title.split("this turn pays ")[1] for title in told], ["+0.5", "−1"])
         plain = dosolve.Report.load(TOP / "examples" / "goofspiel_mixed.report")
         self.assertNotIn("pays", plain.heat_map().text)
 

@@ -18,7 +18,7 @@ class Guide(guide.Checks, unittest.TestCase):
     page, least = guide.MEASURING, 16
 
     def skips(self, command):
-        return " show " in command and matplotlib is None
+        return " show " in command and "--matrix" not in command and matplotlib is None
 
     def test_the_player_of_the_page(self):
         player = next(block for block in guide.parts()[1::2] if block.startswith("def play"))

@@ -171,7 +171,8 @@ class Solver:
                 found, ended = self._solved(position, listener, self.timeout, since)
             else:
                 found, ended = self._solve_within(position, seconds, listener, since)
-            if listener is not None:
+            # A line on the terminal would be gone at once.
+            if listener is not None and listener is not bar:
                 listener(_step(position, found, ended - since))
             return found
         finally:

@@ -185,6 +185,8 @@ class OverTime(unittest.TestCase):
                 # A label stands a little below its line.
                 self.assertAlmostEqual(value(y + 3.6), bound, delta=0.06)
                 self.assertAlmostEqual(seconds(x), step.seconds, delta=0.02)
+        lower, upper = (self.points(root, drawings._colour(side))[0] for side in SIDES)
+        self.assertLess(upper[1], lower[1])
         power = [(y, math.log10(float(text))) for text, x, y in texts(root) if x < 78 and y > 230]
         for (_, y), gap in zip(self.points(root, drawings._DIM), (10, 3, 0.5)):
             (first, low), (last, high) = power[0], power[-1]

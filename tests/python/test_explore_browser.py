@@ -171,6 +171,16 @@ class Pages(unittest.TestCase):
                 self.assertLessEqual(browser.run("document.documentElement.scrollWidth"), width)
         self.assertEqual(browser.run("[pay(0), pay(-1), pay(3)]"), ["0", "−1", "+3"])
 
+    def test_each_draw_pays_its_own(self):
+        browser = self.browser
+        self.show(dosolve.Report.load(TOP / "examples" / "table_rewards.report"))
+        for draw, paid in enumerate(("+1", "−1")):
+            browser.click("[data-cell]", 3)
+            self.assertTrue(browser.texts("[data-draw]")[draw].endswith(f"50.0% pays {paid}"))
+            browser.click("[data-draw]", draw)
+            self.assertEqual(browser.text("#paid"), paid)
+            browser.click("#home")
+
     def pay_to_the_end(self, report, source):
         """Plays at random by cells and draws, and looks at the sums after each turn."""
         state, browser, paid = report.game.root(), self.browser, 0

@@ -191,13 +191,14 @@ def heat_map(report: Report, state: State | None = None) -> Drawing:
 
 
 def _cell(report: Report, state: State, one: Move, two: Move) -> _Cell:
-    """What is known of a pair of moves. A bound that is only the game's worst payoff, for want of a
+    """What is known of a pair of moves. A bound that is only what can still come, for want of a
     row, is none, but where the other side's meets it."""
     game = report.game
     labels = state.moves("one")[one], state.moves("two")[two]
     lower, upper = report.worth(state, *labels)
     after = [follower for _, follower in state.outcomes(one, two)]
-    known = {side: lower == upper or all(_is_known(report, side, each) for each in after)
+    closed = 2 * SCALE * (upper - lower) <= 1
+    known = {side: closed or all(_has_row(report, side, each) for each in after)
              for side in SIDES}
     paid = state.rewards(one, two) if game.has_rewards else ()
     return _Cell(game.of_rules(lower) if known["one"] else None,
@@ -205,12 +206,11 @@ def _cell(report: Report, state: State, one: Move, two: Move) -> _Cell:
                  tuple(game.of_rules(each) for each in paid))
 
 
-def _is_known(report: Report, side: Side, state: State) -> bool:
-    """Whether a side's bound of a state is better than the worst payoff of the game, or proved by
-    a row."""
+def _has_row(report: Report, side: Side, state: State) -> bool:
+    """Whether a side's plan has a row for a state that is played; an end needs none."""
     sheet = report.sheet(side)
-    return (state.is_end or sheet.row(state) is not None
-            or sheet.bound(state) != report.game.opening(side))
+    row = sheet.row(state)
+    return state.is_end or (row is not None and tuple(row.weights) == sheet.weights(state))
 
 
 class _Matrix:
@@ -233,7 +233,7 @@ class _Matrix:
         middles = [cell.middle for line in self.cells for cell in line if cell.middle is not None]
         bounds = [self.report.game.unscaled(self.report.sheet(side).bound(self.state))
                   for side in SIDES]
-        known = all(_is_known(self.report, side, self.state) for side in SIDES)
+        known = all(_has_row(self.report, side, self.state) for side in SIDES)
         ends = bounds if known or not middles else [min(middles), max(middles)]
         middle = sum(ends, Fraction(0)) / 2
         return middle, max((abs(each - middle) for each in middles), default=Fraction(0))

@@ -74,8 +74,7 @@ class Matrices(unittest.TestCase):
                 self.assertTrue((Fraction(told[word]) <= bound) == (word in ("from", "at least"))
                                 or Fraction(told[word]) == bound, title)
         after = [state for _, state in state.outcomes(one, two)]
-        known = [lower == upper or all(each.is_end or report.sheet(side).row(each)
-                                       or each.opening(side) != report.game.opening(side) for each in after)
+        known = [lower == upper or all(each.is_end or report.sheet(side).row(each) for each in after)
                  for side in SIDES]
         self.assertEqual(["from" in told or "at least" in told, "to" in told or "at most" in told], known, title)
         paid = state.rewards(one, two) if report.game.has_rewards else ()
@@ -110,10 +109,14 @@ class Matrices(unittest.TestCase):
         self.assertEqual(set(fills[2:]), {"#ffffff"})
 
     def test_what_is_not_known_is_grey(self):
-        game = dosolve.Goofspiel([1, 2, 3], [1, 2, 3], [1, 2, 3])
+        for pay in ("margin", "prizes"):
+            with self.subTest(pay):
+                self.check_grey(dosolve.Goofspiel([1, 2, 3], [1, 2, 3], [1, 2, 3], pay=pay))
+
+    def check_grey(self, game):
         report = dosolve.Report.of(*(dosolve.Sheet(game, side, 8192) for side in SIDES))
         found = cells(parsed(report.heat_map()))
-        self.assertEqual({(title.split(": ")[1], fill) for title, fill, _ in found},
+        self.assertEqual({(title.split(": ")[1].split(", of")[0], fill) for title, fill, _ in found},
                          {("no row for what follows", drawings._UNKNOWN)})
         one = even(game, "one")
         report = dosolve.Report.of(one, dosolve.Sheet(game, "two", one.total))

@@ -90,8 +90,13 @@ class Data(unittest.TestCase):
                 if place >= 0:
                     self.assertEqual(states[place].key, after.key)
                 else:
-                    rows = [report.sheet(side).row(after) for side in SIDES]
-                    self.assertEqual(data["stubs"][-1 - place], [row and row.bound for row in rows])
+                    self.assertEqual(data["stubs"][-1 - place], [self.stub(report, side, after) for side in SIDES])
+
+    def stub(self, report, side, state):
+        """What a page has of a state that is not on it: the bound of a row, or what can still come as a list, but
+        where that is all that the game can pay."""
+        row, opening = report.sheet(side).row(state), state.opening(side)
+        return row.bound if row else None if opening == report.game.opening(side) else [opening]
 
     def test_examples(self):
         self.assertGreater(len(EXAMPLES), 15)
@@ -111,14 +116,24 @@ class Data(unittest.TestCase):
                     self.check(dosolve.Report.of(*plans), explore.page(dosolve.Report.of(*plans)))
 
     def test_pages_that_have_a_part_alone(self):
-        for file in (FIVE, TOP / "examples" / "goofspiel_drawn_mixed.report", TOP / "examples" / "table_soccer.report"):
+        names = ("goofspiel_drawn_mixed", "table_soccer", "table_raid")
+        for file in (FIVE, *(TOP / "examples" / f"{name}.report" for name in names)):
             report = dosolve.Report.load(file)
-            for most in (1, 2, 7, 60):
+            for most in (1, 2, 7, 15 if file.stem == "table_raid" else 60):
                 with self.subTest(file.stem, most=most):
                     page = explore.page(report, most_states=most)
                     data = self.check(report, page, most)
                     self.assertFalse(page.is_whole)
                     self.assertEqual((page.states, len(data["states"]) > 0), (most, True))
+
+    def test_a_bound_without_a_row_is_told_from_one_with(self):
+        game = dosolve.Goofspiel([1, 2, 3], [1, 2, 3], [1, 2, 3], pay="prizes")
+        mine = dosolve.plan(game, "one", lambda state: [1] * len(state.moves("one")), 8192, ask_again=0)
+        report = dosolve.Report.of(mine, dosolve.Sheet(game, "two", 8192))
+        page = explore.page(report, most_states=1)
+        stubs = self.check(report, page, 1)["stubs"]
+        self.assertEqual({type(one) for one, _ in stubs}, {int})
+        self.assertEqual({tuple(two) for _, two in stubs}, {(5 * 10**6,)})
 
     def test_the_likeliest_states_come_first(self):
         report = dosolve.Report.load(FIVE)

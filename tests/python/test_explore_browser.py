@@ -3,6 +3,7 @@ import random
 import re
 import tempfile
 import unittest
+from fractions import Fraction
 from pathlib import Path
 from unittest import mock
 
@@ -105,7 +106,10 @@ class Pages(unittest.TestCase):
                 self.assertAlmostEqual(float(value), float(bounds[word in ("to", "at most")]), places=5)
             after = [state for _, state in state.outcomes(one, two)]
             known = [all(state.is_end or report.sheet(side).row(state) for state in after) for side in SIDES]
-            self.assertTrue(found or not any(known), label)
+            closed = bounds[1] - bounds[0] <= Fraction(1, 2 * 10**6)
+            told_of = {word for word, _ in found}
+            for words, is_known in zip((("from", "at least"), ("to", "at most")), known):
+                self.assertEqual(not told_of.isdisjoint(words), is_known or closed, label)
             self.assertEqual(", the game ends" in told, all(state.is_end for state in after))
             self.read_pay(state, one, two, told)
 
@@ -140,7 +144,10 @@ class Pages(unittest.TestCase):
         self.assertIn("is not on this page", message)
         for side, word in zip(SIDES, ("at least", "at most")):
             row = report.sheet(side).row(after)
-            self.assertIn(f"{word} {number(row.bound)}" if row else "", message)
+            if row:
+                self.assertIn(f"{word} {number(row.bound)}", message)
+            else:
+                self.assertNotIn(word, message)
 
     def wander(self, report, **more):
         source = random.Random(3)
@@ -223,6 +230,9 @@ class Pages(unittest.TestCase):
     def test_a_page_that_has_a_part_of_the_states(self):
         report = dosolve.Report.load(FIVE)
         self.wander(report, most_states=3)
+        prizes = dosolve.Goofspiel(*[range(1, 6)] * 3, pay="prizes")
+        self.wander(dosolve.solve(dosolve.Position(prizes, workers=1)), most_states=4)
+        self.show(report, most_states=3)
         self.assertIn("This page has 3 states with moves, not all of the game: 3 of the 395 that both strategies "
                       "reach together, the likeliest. A dashed cell", self.browser.text("footer"))
 

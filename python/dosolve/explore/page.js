@@ -81,7 +81,7 @@ const read = row => Array.isArray(row) && row.length > 1
 
 // What both strategies have proved of a state, in millionths; null where that is nothing.
 function bounds(place) {
-  if (place < 0) return D.stubs[-1 - place];
+  if (place < 0) return D.stubs[-1 - place].map(bound => Array.isArray(bound) ? bound[0] : bound);
   const found = state(place);
   if (found.end) return [found.payoff * D.unscaled, found.payoff * D.unscaled];
   return found.rows.map(row => Array.isArray(row) ? row[0] : null);
@@ -108,11 +108,18 @@ function worth(found, one, two) {
     sum + chance * (promised(place)[side] + paid * D.unscaled), 0) / D.chance);
 }
 
-// For each side whether its bound of what follows is known.
+// For each side whether its strategy has a row for a state: an end needs none, and without a row
+// a bound is only what can still come.
+function haveRows(place) {
+  if (place < 0) return D.stubs[-1 - place].map(bound => typeof bound === "number");
+  const found = state(place);
+  return found.end ? [true, true] : found.rows.map(row => read(row) !== null);
+}
+// For each side whether no row tells its bound of what follows.
 function unknown(found, one, two) {
   const [low, high] = worth(found, one, two);
   return [0, 1].map(side => high - low > 0.5 &&
-    draws(found, one, two).some(({place}) => bounds(place)[side] === null));
+    draws(found, one, two).some(({place}) => !haveRows(place)[side]));
 }
 
 // What the weights of a row prove from the bounds of what follows.
@@ -253,7 +260,8 @@ function play(one, two) {
 function lead(one, two, draw) {
   const found = here(), {place} = draws(found, one, two)[draw];
   if (place >= 0) return go(turns.length, [[one, two, draw]]);
-  const sure = words(...bounds(place));
+  const rows = haveRows(place);
+  const sure = words(...bounds(place).map((bound, side) => rows[side] ? bound : null));
   told = `The state after ${turnName(found, [one, two, draw])} is not on this page. ` +
     (sure ? `Its rows guarantee: ${sure}.` : "The report has no row for it.");
   chosen = fresh();

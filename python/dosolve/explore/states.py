@@ -181,9 +181,15 @@ class Shown:
 
     def _place(self, key: int) -> int:
         if key not in self.places:
-            bounds = [self._bound(self.report.sheet(side), self.outside[key]) for side in SIDES]
+            bounds = [self._stub(self.report.sheet(side), self.outside[key]) for side in SIDES]
             self.places[key] = -1 - self.stubs.place(bounds)
         return self.places[key]
+
+    def _stub(self, sheet: Sheet, state: State) -> int | tuple[int] | None:
+        """The bound of a row, as a list where there is a bound without one; None where that is the
+        worst payoff of the game."""
+        bound = self._bound(sheet, state)
+        return bound if bound is None or sheet.row(state) is not None else (bound,)
 
     def losses(self, player: PlayerPlan) -> list[list[object]]:
         """The losses of a player that are on the page: the state's place, what is given away from

@@ -231,7 +231,8 @@ class Pages(unittest.TestCase):
         report = dosolve.Report.load(FIVE)
         self.wander(report, most_states=3)
         prizes = dosolve.Goofspiel(*[range(1, 6)] * 3, pay="prizes")
-        self.wander(dosolve.solve(dosolve.Position(prizes, workers=1)), most_states=4)
+        for most in (4, 1000):
+            self.wander(dosolve.solve(dosolve.Position(prizes, workers=1)), most_states=most)
         self.show(report, most_states=3)
         self.assertIn("This page has 3 states with moves, not all of the game: 3 of the 395 that both strategies "
                       "reach together, the likeliest. A dashed cell", self.browser.text("footer"))

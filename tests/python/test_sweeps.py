@@ -79,7 +79,9 @@ class Sweeps(unittest.TestCase):
         self.assertIn("there is no game 'chess'", found[2].error)
         self.assertEqual(found[7].report, dosolve.solve(given[7]))
         self.assertRegex(repr(found[2]), "^<Swept 2: InputRefusedError: input 16 .*, 0.0 s>$")
-        self.assertRegex(repr(found[7]), "^<Swept 7: <Report on .*>, .* s>$")
+        # On a busy machine the first sweep can have ended before it was closed.
+        last = "goofspiel, taken from .*" if found[7].is_old else "<Report on .*>, .* s"
+        self.assertRegex(repr(found[7]), f"^<Swept 7: {last}>$")
         for line in output.read_text().splitlines():
             self.assertTrue("cut o" in line or {"position", "seconds"} <= json.loads(line).keys())
 

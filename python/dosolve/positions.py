@@ -39,6 +39,7 @@ ASKED = (
     Field("turns", 0, MOST_TURNS), Field("visits", 0, MOST_TURNS), Field("rows", 1, MOST_ROWS),
     Field("workers", 1, MOST_WORKERS),
     Field("stages", choices=("regret", "linear"), absent="regret"),
+    Field("search", choices=("oracle", "induction"), absent="oracle"),
 )
 """What is asked of the solver, with ranges, in the order in which it is refused. Optional fields
 have in `absent` what the program takes where they are left out, and are written only where they
@@ -65,6 +66,9 @@ class Position:
       16. One worker gives the same report, byte by byte, each time.
     - `stages`: how matrix games are solved, `linear` (linear programs: fast, small gaps) or
       `regret` (rounds of regret matching).
+    - `search`: how the game is searched, `oracle` (double oracle) or `induction` (each state once,
+      children first; then double oracle, where that is not enough). Where nearly every state
+      matters, as in Goofspiel, induction takes less time and far less memory.
     """
 
     game: AnyGame
@@ -75,6 +79,7 @@ class Position:
     rows: int = _DEFAULT
     workers: int = _DEFAULT
     stages: str = "linear"
+    search: str = "oracle"
 
     def __post_init__(self) -> None:
         if type(self.game) not in _KINDS:

@@ -48,7 +48,7 @@ def changed(data, source):
 
 def whole(text):
     """The fields of a position, the optional ones too."""
-    return {"stages": "regret"} | json.loads(text)
+    return {"stages": "regret", "search": "oracle"} | json.loads(text)
 
 
 class Page(unittest.TestCase):
@@ -114,7 +114,7 @@ class Positions(unittest.TestCase):
 
     def test_optional_fields_are_written_where_they_differ_from_what_their_absence_means(self):
         optional = {field.name: field.absent for field in dosolve.ASKED if field.absent is not None}
-        self.assertEqual(optional, {"stages": "regret"})
+        self.assertEqual(optional, {"stages": "regret", "search": "oracle"})
         for file in sorted(TOP.glob("**/examples/*.json")):
             position, text = dosolve.Position.load(file), file.read_text()
             self.assertEqual("stages" in json.loads(text), position.stages != "regret")
@@ -122,6 +122,11 @@ class Positions(unittest.TestCase):
                 asked = dataclasses.replace(position, stages=stages)
                 again = json.loads(asked.text())
                 self.assertEqual(again.get("stages"), "linear" if stages == "linear" else None)
+                self.assertEqual(dosolve.Position.read(asked.text()), asked)
+            for search in ("oracle", "induction"):
+                asked = dataclasses.replace(position, search=search)
+                again = json.loads(asked.text())
+                self.assertEqual(again.get("search"), "induction" if search == "induction" else None)
                 self.assertEqual(dosolve.Position.read(asked.text()), asked)
 
     def test_defaults_serve(self):

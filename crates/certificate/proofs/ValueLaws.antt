@@ -11,7 +11,7 @@ use Rattle.std.proofs.lemmas.Slice.Eq.{bytes_eq-Decides}
 use Rattle.text.specs.Texts.{line_text}
 use Rattle.certificate.specs.declared.error.TextError.TheVariants.{Line, Number as NumberFault}
 use Rattle.fields.specs.declared.field.Word.{Word}
-use Rattle.fields.specs.declared.field.Word.TheVariants.{Margin, Win, Prizes, Regret, Linear}
+use Rattle.fields.specs.declared.field.Word.TheVariants.{Margin, Win, Prizes, Regret, Linear, Oracle, Induction}
 use Rattle.fields.specs.declared.field.Choices.{Choices}
 use Rattle.fields.specs.declared.field.FieldKind.{FieldKind}
 use Rattle.fields.specs.declared.field.FieldKind.TheVariants.{Number, List as ListOf, Numbers as NumbersOf, Optional as OptionalOf, Word as WordOf}
@@ -71,6 +71,8 @@ word_clean Win = refl
 word_clean Prizes = refl
 word_clean Regret = refl
 word_clean Linear = refl
+word_clean Oracle = refl
+word_clean Induction = refl
 
 some_most : (most : ℕ) → 0 < most → (most == 0) ≡ false
 some_most most some = grind arith

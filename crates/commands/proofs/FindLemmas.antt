@@ -7,18 +7,18 @@ use Rattle.position.specs.declared.games.AnyGame.{AnyGame}
 use Rattle.position.specs.Games.{IsGameOf, model_of, OfSame, OfGame}
 use Rattle.position.proofs.GameLemmas.{is_game}
 use Rattle.lazy_workers.specs.declared.summary.Found.{Found}
-use Rattle.lazy_workers.specs.Findings.{IsFoundFor}
+use Rattle.lazy_workers.specs.Findings.{IsFoundGame}
 use Rattle.solution.specs.declared.report.Solved.{Solved}
 use Rattle.solution.specs.Outcomes.{HasGap}
-use Rattle.solution.specs.Solutions.{IsReportOf, IsSolvedGame}
-use Rattle.solution.proofs.ReportLemmas.{has_gap, solved_game}
+use Rattle.solution.specs.Solutions.{IsReportOf, IsSolution}
+use Rattle.solution.proofs.ReportLemmas.{has_gap, found_solution as is_solution}
 
-module _ (any : AnyGame) (ask : Ask) (x : Found) (found : OfSame any (λ S m. IsFoundFor m ask x)) where
+module _ (any : AnyGame) (ask : Ask) (x : Found) (found : OfSame any (λ S m. IsFoundGame m ask x)) where
   pub found_gap : HasGap x
   found_gap = has_gap (model_of found.0) ask x found.2
 
   -- the report of what was found is a solution of the position's game
   pub found_solution : (text : PositionText) (s : Solved) → IsGameOf text any → IsAskInRange ask → IsPositionInRange text → IsReportOf text ask x s
-      → OfGame text (λ S m. IsSolvedGame m text ask s)
+      → OfGame text (λ S m. IsSolution m text ask s.report)
   found_solution text s is asks place of =
-      (found.0, subst (IsGameOf text) found.1 is, solved_game (model_of found.0) ask x found.2 text s of (is_game found.0) asks place)
+      (found.0, subst (IsGameOf text) found.1 is, is_solution (model_of found.0) ask x found.2 text s of (is_game found.0) asks place)

@@ -6,10 +6,10 @@ use Rattle.fields.specs.Ranges.{IsAskInRange}
 use Rattle.position.specs.declared.games.AnyGame.{AnyGame}
 use Rattle.position.specs.Games.{OfSame}
 use Rattle.lazy_workers.specs.declared.summary.Found.{Found}
-use Rattle.lazy_workers.specs.Findings.{IsFoundFor}
+use Rattle.lazy_workers.specs.Findings.{IsFoundGame}
 
 -- a function that may be called with each game and with all that can be asked, and gives what is found
 pub record IsFinder (pre : AnyGame → Ask → Type 0) (post : AnyGame → Ask → Result Found NoMemory → Type 0) : Type 0 where
   pub may_find : (game : AnyGame) (ask : Ask) → IsAskInRange ask → pre game ask
   pub finds : (game : AnyGame) (ask : Ask) (result : Result Found NoMemory) → post game ask result
-      → OfSame game (λ S m. IfOk result (IsFoundFor m ask))
+      → OfSame game (λ S m. IfOk result (IsFoundGame m ask))

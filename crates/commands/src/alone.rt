@@ -3,7 +3,7 @@
 ghost use Rattle.std.specs.Prelude.{◌+◌, take, IfErr, IfOk};
 ghost use Rattle.fields.specs.Ranges.{IsAskInRange};
 ghost use Rattle.certificate.specs.Ranges.{IsInRange};
-ghost use Rattle.lazy_workers.specs.Findings.{IsFoundFor};
+ghost use Rattle.lazy_workers.specs.Findings.{IsFoundGame};
 ghost use Rattle.position.specs.Games.{OfSame};
 ghost use Rattle.position.specs.Objects.{Fails};
 ghost use Rattle.position.specs.Position.{position_of};
@@ -30,7 +30,7 @@ pub fn answer(alloc: Global, command: Option<Command>, bytes: &[u8]) -> Result<A
 {
     let find = |game: AnyGame, ask: Ask| -> Result<Found, NoMemory>
         requires { IsAskInRange ask }
-        ensures { OfSame game.entry (λ S m. IfOk result (IsFoundFor m ask)) }
+        ensures { OfSame game.entry (λ S m. IfOk result (IsFoundGame m ask)) }
     { find_any_alone(alloc, game, &ask) };
     match command {
         None => usage(alloc),
@@ -66,7 +66,7 @@ pub fn search(alloc: Global, bytes: &[u8]) -> Result<Report, InputError>
 {
     let find = |game: AnyGame, ask: Ask| -> Result<Found, NoMemory>
         requires { IsAskInRange ask }
-        ensures { OfSame game.entry (λ S m. IfOk result (IsFoundFor m ask)) }
+        ensures { OfSame game.entry (λ S m. IfOk result (IsFoundGame m ask)) }
     { find_any_alone(alloc, game, &ask) };
     search_with(alloc, find, bytes)
 }

@@ -3,11 +3,12 @@
 
 ghost use Rattle.std.specs.Prelude.{IfOk};
 ghost use Rattle.fields.specs.Ranges.{IsAskInRange};
-ghost use Rattle.lazy_workers.specs.Findings.{IsFoundFor};
+ghost use Rattle.lazy_workers.specs.Findings.{IsFoundGame};
 ghost use Rattle.position.specs.Games.{OfSame};
 
 use certificate::Ask;
-use lazy_workers::{Found, find, find_alone};
+use game_search::{find, find_alone};
+use lazy_workers::Found;
 use oracle_search::{Gate, OpenGate};
 use position::{AnyGame, with_game};
 use sim_game::NoMemory;
@@ -23,7 +24,7 @@ pub(crate) fn find_any<R: Threads + Sync, T: Gate + Sync>(
     gate: &T,
 ) -> Result<Found, NoMemory>
     requires { IsAskInRange ask.now }
-    ensures { OfSame game.entry (λ S m. IfOk result (IsFoundFor m ask.now)) }
+    ensures { OfSame game.entry (λ S m. IfOk result (IsFoundGame m ask.now)) }
 {
     with_game!(game, g => find(rt, alloc, g, ask, gate))
 }
@@ -31,7 +32,7 @@ pub(crate) fn find_any<R: Threads + Sync, T: Gate + Sync>(
 /// As `find_any`, but the caller does the work of each worker, one after the other.
 pub(crate) fn find_any_alone(alloc: Global, game: AnyGame, ask: &Ask) -> Result<Found, NoMemory>
     requires { IsAskInRange ask.now }
-    ensures { OfSame game.entry (λ S m. IfOk result (IsFoundFor m ask.now)) }
+    ensures { OfSame game.entry (λ S m. IfOk result (IsFoundGame m ask.now)) }
 {
     with_game!(game, g => find_alone(alloc, g, ask, &OpenGate))
 }

@@ -5,7 +5,7 @@ ghost use Rattle.std.specs.Io.KnownBytes.{Consumes, IsAtEnd};
 ghost use Rattle.devices.specs.Causes.{Rose, IsCalm};
 ghost use Rattle.devices.specs.Taken.{TakesPast, TakesWithin};
 ghost use Rattle.fields.specs.Ranges.{IsAskInRange};
-ghost use Rattle.lazy_workers.specs.Findings.{IsFoundFor};
+ghost use Rattle.lazy_workers.specs.Findings.{IsFoundGame};
 ghost use Rattle.position.specs.Games.{OfSame};
 ghost use Rattle.commands.specs.Finding.{IsFinder};
 ghost use Rattle.commands.specs.Words.{HasFewGames, command_of};
@@ -66,7 +66,7 @@ pub fn run<R: Threads + Sync, S: Source, K: Sink, T: Gate + Sync>(
 {
     let find = |game: AnyGame, ask: Ask| -> Result<Found, NoMemory>
         requires { IsAskInRange ask }
-        ensures { OfSame game.entry (λ S m. IfOk result (IsFoundFor m ask)) }
+        ensures { OfSame game.entry (λ S m. IfOk result (IsFoundGame m ask)) }
     { find_any(rt, alloc, game, &ask, gate) };
     match command_of(words) {
         None => respond(sink, usage(alloc)),

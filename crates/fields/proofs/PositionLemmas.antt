@@ -63,6 +63,8 @@ pay_is (Word words.Win) fits = refl
 pay_is (Word words.Prizes) fits = refl
 pay_is (Word words.Regret) fits = absurd cc
 pay_is (Word words.Linear) fits = absurd cc
+pay_is (Word words.Oracle) fits = absurd cc
+pay_is (Word words.Induction) fits = absurd cc
 pay_is v fits = absurd fits
 
 word_pay : (pay : Pay) → pay_named (pay_word pay) ≡ pay

@@ -7,6 +7,8 @@ use Rattle.fields.specs.declared.field.Word.TheVariants as words
 use Rattle.fields.specs.declared.ask.Ask.{Ask}
 use Rattle.fields.specs.declared.ask.StageMethod.{StageMethod}
 use Rattle.fields.specs.declared.ask.StageMethod.TheVariants.{Regret, Linear}
+use Rattle.fields.specs.declared.ask.SearchMethod.{SearchMethod}
+use Rattle.fields.specs.declared.ask.SearchMethod.TheVariants.{Oracle, Induction}
 use Rattle.fields.specs.declared.ask.TheConstants.{ASK}
 use Rattle.fields.specs.Fields.{AskRow}
 use Rattle.fields.specs.Positions.{number_at, count_at, word_value_at}
@@ -18,6 +20,10 @@ abbrev pub method_of : Word → StageMethod
 method_of words.Linear = Linear
 method_of word = Regret
 
+abbrev pub search_of : Word → SearchMethod
+search_of words.Induction = Induction
+search_of word = Oracle
+
 -- what the values of the fields ask
 abbrev pub ask_with : List Value → Ask
 ask_with vs = record {
@@ -28,6 +34,7 @@ ask_with vs = record {
   rows = count_at 4 vs;
   workers = count_at 5 vs;
   stages = method_of (word_value_at 6 vs);
+  search = search_of (word_value_at 7 vs);
 }
 
 -- what these numbers ask, where each other field has its default
@@ -40,4 +47,5 @@ ask_of gap weight turns visits rows workers = record {
   rows = rows;
   workers = workers;
   stages = Regret;
+  search = Oracle;
 }

@@ -3,9 +3,9 @@ use Rattle.std.specs.Prelude.{◌≡◌, ℕ, List, [], ◌∷◌, codes, bytes_
 use Rattle.fields.specs.declared.field.Field.{Field}
 use Rattle.fields.specs.declared.field.Field.TheVariants as fields
 use Rattle.fields.specs.declared.field.Word.{Word}
-use Rattle.fields.specs.declared.field.Word.TheVariants.{Margin, Win, Prizes, Regret, Linear}
+use Rattle.fields.specs.declared.field.Word.TheVariants.{Margin, Win, Prizes, Regret, Linear, Oracle, Induction}
 use Rattle.fields.specs.declared.field.Choices.{Choices}
-use Rattle.fields.specs.declared.field.Choices.TheVariants.{Pay, PayAtEnd, Stages}
+use Rattle.fields.specs.declared.field.Choices.TheVariants.{Pay, PayAtEnd, Stages, Search}
 use Rattle.fields.specs.declared.field.FieldKind.{FieldKind}
 use Rattle.fields.specs.declared.field.FieldKind.TheVariants as holds
 use Rattle.fields.specs.declared.field.Value.{Value}
@@ -37,6 +37,7 @@ name_of fields.Visits = codes "visits"
 name_of fields.Rows = codes "rows"
 name_of fields.Workers = codes "workers"
 name_of fields.Stages = codes "stages"
+name_of fields.Search = codes "search"
 
 -- ---- words
 abbrev pub spelling : Word → List ℕ
@@ -45,11 +46,14 @@ spelling Win = codes "win"
 spelling Prizes = codes "prizes"
 spelling Regret = codes "regret"
 spelling Linear = codes "linear"
+spelling Oracle = codes "oracle"
+spelling Induction = codes "induction"
 
 abbrev pub choices_of : Choices → List Word
 choices_of Pay = Margin ∷ Win ∷ Prizes ∷ []
 choices_of PayAtEnd = Margin ∷ Win ∷ []
 choices_of Stages = Regret ∷ Linear ∷ []
+choices_of Search = Oracle ∷ Induction ∷ []
 
 -- the word of these that is spelled so
 abbrev pub word_in : Choices → List ℕ → Option Word

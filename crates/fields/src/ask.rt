@@ -1,7 +1,7 @@
 //! What is asked of a search.
 
 ghost use Rattle.std.specs.Prelude.{◌≡◌};
-ghost use Rattle.fields.specs.Asks.{method_of, asked_kinds, ask_with};
+ghost use Rattle.fields.specs.Asks.{method_of, search_of, asked_kinds, ask_with};
 ghost use Rattle.fields.specs.Fields.{AllFit};
 ghost use Rattle.fields.specs.Ranges.{IsAskInRange};
 
@@ -27,6 +27,26 @@ impl StageMethod {
     }
 }
 
+/// How the game is searched.
+#[derive(Clone, Copy, Debug, PartialEq, Eq)]
+pub enum SearchMethod {
+    /// By double-oracle alpha-beta.
+    Oracle,
+    /// By induction over all states, children first; by double-oracle alpha-beta where that is not enough.
+    Induction,
+}
+
+impl SearchMethod {
+    fn of_word(word: Word) -> SearchMethod
+        ensures { result ≡ search_of word }
+    {
+        match word {
+            Word::Induction => SearchMethod::Induction,
+            _ => SearchMethod::Oracle,
+        }
+    }
+}
+
 /// What is asked of the search.
 #[derive(Clone, Copy, Debug, PartialEq, Eq)]
 pub struct Ask {
@@ -43,6 +63,7 @@ pub struct Ask {
     pub workers: u32,
     /// How matrix games are solved.
     pub stages: StageMethod,
+    pub search: SearchMethod,
 }
 
 /// The least that can be asked, with the default of each field that has one.
@@ -54,10 +75,11 @@ pub const LEAST: Ask = Ask {
     rows: 1,
     workers: 1,
     stages: StageMethod::Regret,
+    search: SearchMethod::Oracle,
 };
 
 /// How many fields tell what is asked.
-pub const ASKED: usize = 7;
+pub const ASKED: usize = 8;
 
 /// These fields, in the order of refusals.
 pub const ASK: [AskRow; ASKED] = [
@@ -92,13 +114,18 @@ pub const ASK: [AskRow; ASKED] = [
         FieldKind::Word(Choices::Stages),
         Absent::Word(Word::Regret),
     ),
+    (
+        Field::Search,
+        FieldKind::Word(Choices::Search),
+        Absent::Word(Word::Oracle),
+    ),
 ];
 
 /// Does the same with each of these fields.
 #[macro_export]
 macro_rules! each_asked {
     ($row:ident => $then:expr) => {{
-        let [a, b, c, d, e, f, g] = $crate::ASK;
+        let [a, b, c, d, e, f, g, h] = $crate::ASK;
         [
             { let $row = a; $then },
             { let $row = b; $then },
@@ -107,6 +134,7 @@ macro_rules! each_asked {
             { let $row = e; $then },
             { let $row = f; $then },
             { let $row = g; $then },
+            { let $row = h; $then },
         ]
     }};
 }
@@ -118,8 +146,8 @@ impl Ask {
         ensures exact { result ≡ ask_with values }
         ensures in_range { IsAskInRange result }
     {
-        let [a, b, c, d, e, f, g] = values;
-        match (a, b, c, d, e, f, g) {
+        let [a, b, c, d, e, f, g, h] = values;
+        match (a, b, c, d, e, f, g, h) {
             (
                 Value::Number(gap),
                 Value::Number(weight),
@@ -128,6 +156,7 @@ impl Ask {
                 Value::Number(rows),
                 Value::Number(workers),
                 Value::Word(stages),
+                Value::Word(search),
             ) => Ask {
                 gap,
                 weight: weight as u32,
@@ -136,6 +165,7 @@ impl Ask {
                 rows: rows as u32,
                 workers: workers as u32,
                 stages: StageMethod::of_word(stages),
+                search: SearchMethod::of_word(search),
             },
             _ => unreachable!(),
         }

@@ -31,6 +31,7 @@ pub enum Field {
     Rows,
     Workers,
     Stages,
+    Search,
 }
 
 impl Field {
@@ -62,6 +63,7 @@ impl Field {
             Field::Rows => "rows",
             Field::Workers => "workers",
             Field::Stages => "stages",
+            Field::Search => "search",
         }
     }
 }
@@ -74,6 +76,8 @@ pub enum Word {
     Prizes,
     Regret,
     Linear,
+    Oracle,
+    Induction,
 }
 
 impl Word {
@@ -86,6 +90,8 @@ impl Word {
             Word::Prizes => b"prizes",
             Word::Regret => b"regret",
             Word::Linear => b"linear",
+            Word::Oracle => b"oracle",
+            Word::Induction => b"induction",
         }
     }
 }
@@ -98,6 +104,7 @@ pub enum Choices {
     /// The same, if nothing is paid before the end.
     PayAtEnd,
     Stages,
+    Search,
 }
 
 impl Choices {
@@ -108,6 +115,7 @@ impl Choices {
             Choices::Pay => &[Word::Margin, Word::Win, Word::Prizes],
             Choices::PayAtEnd => &[Word::Margin, Word::Win],
             Choices::Stages => &[Word::Regret, Word::Linear],
+            Choices::Search => &[Word::Oracle, Word::Induction],
         }
     }
 

@@ -5,7 +5,7 @@ mod ask;
 mod field;
 mod positions;
 
-pub use ask::{ASK, ASKED, Ask, LEAST, StageMethod};
+pub use ask::{ASK, ASKED, Ask, LEAST, SearchMethod, StageMethod};
 pub use field::{Absent, AskRow, Choices, Field, FieldKind, FieldRow, Value, Word};
 pub use goofspiel::Pay;
 pub use positions::{GAMES, GameKind, Limits, PositionText, Shown, narrow_positions_fit};

@@ -59,7 +59,7 @@ module _ {S : Type 0} (m : GameModel S) (game : IsGame m) where
   end_within : (s : S) → Reachable m s → m.rank s ≡ 0 → IsWithinState m s (end_bound m s)
   end_within s r e = record { low = end_range m One s game r e; high = end_range m Two s game r e }
 
-  or_within : (side : Side) (s : S) (o : Option SheetRow) → Reachable m s → ((row : SheetRow) → o ≡ Some row → IsWithinState m s row.bound) → IsWithinState m s (bound_or m side s o)
+  pub or_within : (side : Side) (s : S) (o : Option SheetRow) → Reachable m s → ((row : SheetRow) → o ≡ Some row → IsWithinState m s row.bound) → IsWithinState m s (bound_or m side s o)
   or_within side s (Some row) r h = h row refl
   or_within side s None r h = elim (cases_eq (m.rank s) 0) [
     | inl stop ↦ rw (is_same (m.rank s) 0 stop) (end_within s r stop)

@@ -1,5 +1,5 @@
 -- That the plans of the best entries are what is to be found.
-use Rattle.std.proofs.Common.{◌≡◌, ⊎_elim, ℕ, ◌+◌, ◌*◌, ◌≤◌, ℤ, pos, ◌-ℤ◌, ◌≤ℤ◌, ◌<ℤ◌, true, false, cond, Option, None, Some, option_map, List, length, All, Contains, sym, ap, subst, ◌∙◌, arith}
+use Rattle.std.proofs.Common.{◌≡◌, ⊎_elim, ℕ, ◌+◌, ◌*◌, ◌<◌, ◌≤◌, ℤ, pos, ◌-ℤ◌, ◌≤ℤ◌, ◌<ℤ◌, true, false, cond, Option, None, Some, option_map, List, length, All, Contains, sym, ap, subst, ◌∙◌, arith}
 use Rattle.std.specs.Int.RustNames.{unsigned_abs}
 use Rattle.std.specs.List.{AllByRecursion}
 use Rattle.std.proofs.lemmas.Int.{ints}
@@ -28,13 +28,15 @@ use Rattle.plan_book.proofs.SheetLemmas.{sheet_guarantees}
 use Rattle.bounds_board.proofs.KnownLemmas.{better_has, state_in}
 use Rattle.serial_ab.specs.Searches.{IsPureEntry}
 use Rattle.fields.specs.declared.ask.Ask.{Ask}
+use Rattle.fields.specs.declared.ask.SearchMethod.{SearchMethod}
+use Rattle.fields.specs.declared.ask.SearchMethod.TheVariants.{Oracle, Induction}
 use Rattle.fields.specs.Ranges.{IsAskInRange}
 use Rattle.shared_board.specs.Closing.{HasKey, IsKeptRow, kept_bound}
 use Rattle.shared_board.specs.declared.close.Kept.{Kept}
 use Rattle.lazy_workers.specs.declared.summary.Found.{Found}
 use Rattle.lazy_workers.specs.Keeping.{IsPureRow, IsSheetRowKept, AreOwed}
-use Rattle.lazy_workers.specs.Searched.{IsFar, IsSearched}
-use Rattle.lazy_workers.specs.Findings.{found_gap, IsFoundPlan, AreSpent, IsFoundFor}
+use Rattle.lazy_workers.specs.Searched.{IsFar, turns_each, TooFewAfter, IsSearched}
+use Rattle.lazy_workers.specs.Findings.{found_gap, IsFoundPlan, IsPlanKept, IsIdle, AreSpent, IsGapWide, IsFoundAfter, IsFoundGame, IsFoundFor}
 use Rattle.lazy_workers.proofs.SummaryLemmas.{root_is, rows_few, abs_small, scaled_low, scaled_high}
 
 -- ---- numbers that a game has one of
@@ -71,8 +73,8 @@ module _ {S : Type 0} (m : GameModel S) (game : IsGame m) (weight : ℕ) (entrie
   root_small side = abs_small (book_bound m entries side m.root) (scaled_low m game (book_bound m entries side m.root) (root_range side One))
       (scaled_high m game (book_bound m entries side m.root) (root_range side Two))
 
-module _ {S : Type 0} (m : GameModel S) (game : IsGame m) (ask : Ask) (asks : IsAskInRange ask) (entries : List Entry) (x : Found)
-    (searched : IsSearched m ask entries x.kept x.turns x.was_full) where
+module _ {S : Type 0} (m : GameModel S) (game : IsGame m) (ask : Ask) (before : ℕ) (asks : IsAskInRange ask) (entries : List Entry) (x : Found)
+    (searched : IsSearched m ask before entries x.kept x.turns x.was_full) where
   some_turns : 1 ≤ length x.turns
   some_turns = omega (arith, searched.workers, asks.workers.0)
 
@@ -118,7 +120,7 @@ module _ {S : Type 0} (m : GameModel S) (game : IsGame m) (ask : Ask) (asks : Is
         rw (is_other (m.rank m.root) 0 on) (ap (λ (x : ℤ). better side x (state_bound m side m.root)) (sym (best.best side ∙ ap (best_posted m entries side) at))))
         (cases_eq (m.rank m.root) 0)
 
-    pub found_plan : (bound : ℤ) → bound ≡ root_bound m sheet → IsFoundPlan m ask x side sheet bound
+    pub found_plan : (bound : ℤ) → bound ≡ root_bound m sheet → IsFoundPlan m ask (IsIdle m ask x) side sheet bound
     found_plan bound at =
         let booked : bound ≡ book_bound m entries side m.root = at ∙ root_bound_is in record {
           side_is = is;
@@ -131,46 +133,81 @@ module _ {S : Type 0} (m : GameModel S) (game : IsGame m) (ask : Ask) (asks : Is
           few = rows_few m game sheet.total entries closed sheet its_best ask.rows searched.held;
           alone = λ none. All-weaker BestRow (IsPureRow ask.weight) (pure_row none) sheet.rows best.only;
           pure = λ has many. subst (IsNoTighter side (serial_bound m side m.root)) (sym booked) (searched.found.pure has many some_turns side);
-          kept = All-weaker BestRow (IsSheetRowKept side x.kept) kept_row sheet.rows best.only;
-          root = λ row held key. booked ∙ root_row row held key;
         }
+
+    pub plan_kept : (bound : ℤ) → bound ≡ root_bound m sheet → IsPlanKept m side x.kept sheet bound
+    plan_kept bound at = record {
+      rows = All-weaker BestRow (IsSheetRowKept side x.kept) kept_row sheet.rows best.only;
+      root = λ row held key. at ∙ root_bound_is ∙ root_row row held key;
+    }
 
   -- ---- what is found
   module _ (is_one : x.one.side ≡ One) (is_two : x.two.side ≡ Two) (total_one : x.one.total ≡ ask.weight) (total_two : x.two.total ≡ ask.weight)
       (lawful_one : IsLawful m x.one) (lawful_two : IsLawful m x.two) (best_one : IsBestSheet m One entries x.one.rows) (best_two : IsBestSheet m Two entries x.two.rows)
       (lower : x.lower ≡ root_bound m x.one) (upper : x.upper ≡ root_bound m x.two)
       (resolution : (n : ℕ) × (x.resolution ≡ pos n) × IsResolution m ask.weight n) (high : x.resolution ≤ℤ pos 99999999999) where
-    far : ask.gap <ℤ found_gap x → x.resolution <ℤ found_gap x → IsFar m ask (book_bound m entries Two m.root -ℤ book_bound m entries One m.root)
-    far asked wide =
+    far : IsGapWide ask x → IsFar m ask (book_bound m entries Two m.root -ℤ book_bound m entries One m.root)
+    far wide =
         let low = lower ∙ root_bound_is One x.one is_one total_one lawful_one best_one in
-        let up = upper ∙ root_bound_is Two x.two is_two total_two lawful_two best_two in record {
+        let up = upper ∙ root_bound_is Two x.two is_two total_two lawful_two best_two in
+        let asked = wide.asked in let above = wide.resolution in record {
           asked = omega (arith, ints, low, up, asked);
-          resolution = λ n is. let same = resolution_once m ask.weight n resolution.0 is resolution.2 in omega (arith, ints, low, up, resolution.1, wide, same);
+          resolution = λ n is. let same = resolution_once m ask.weight n resolution.0 is resolution.2 in omega (arith, ints, low, up, resolution.1, above, same);
         }
 
     not_full : x.was_full ≡ false → x.was_full ≡ true → ⊥
     not_full is was = let wrong : false ≡ true = sym is ∙ was in absurd (cc)
 
-    spent : x.was_full ≡ false → ask.gap <ℤ found_gap x → x.resolution <ℤ found_gap x → AreSpent m ask x
-    spent free asked wide =
-        let due = searched.found.due (not_full free) (far asked wide) some_turns in record {
-          all = searched.found.all_spent (not_full free) (far asked wide);
-          too_few = due.0;
-          owed = λ left. subst (λ (z : ℤ). AreOwed m ask z x.kept) (sym resolution.1) (due.1 resolution.0 resolution.2 left);
-        }
+    spent : x.was_full ≡ false → IsGapWide ask x → AreSpent m ask (TooFewAfter before m ask) x
+    spent free wide = record {
+      all = searched.found.all_spent (not_full free) (far wide);
+      too_few = (searched.found.due (not_full free) (far wide) some_turns).0;
+    }
 
-    pub is_found : IsFoundFor m ask x
-    is_found = record {
+    is_game : IsFoundAfter m ask before (TooFewAfter before m ask) x
+    is_game = record {
       one = found_plan One x.one is_one total_one lawful_one best_one x.lower lower;
       two = found_plan Two x.two is_two total_two lawful_two best_two x.upper upper;
       resolution = resolution;
       resolution_high = high;
-      rows = searched.rows;
-      -- a search that met a full board leaves no row
-      rooted = λ goes_on left. searched.found.rowed (λ was. let all = (searched.found.full was).0 in absurd (omega arith)) some_turns goes_on;
       workers = searched.workers;
       within = searched.found.within;
       at_once = searched.found.at_once;
-      full = searched.found.full;
+      full = λ was. (searched.found.full was).1;
       spent = spent;
     }
+
+    pub is_found : IsFoundFor m ask before x
+    is_found = record {
+      game = is_game;
+      one_kept = plan_kept One x.one is_one total_one lawful_one best_one x.lower lower;
+      two_kept = plan_kept Two x.two is_two total_two lawful_two best_two x.upper upper;
+      rows = searched.rows;
+      -- a search that met a full board leaves no row
+      rooted = λ goes_on left. searched.found.rowed (λ was. let all = (searched.found.full was).0 in absurd (omega arith)) some_turns goes_on;
+      owed = λ free wide left. subst (λ (z : ℤ). AreOwed m ask before z x.kept) (sym resolution.1)
+          ((searched.found.due (not_full free) (far wide) some_turns).1 resolution.0 resolution.2 left);
+      full = λ was. (searched.found.full was).0;
+    }
+
+-- ---- double oracle alone
+-- a state takes no more turns by double oracle than by any method
+fewer_each : (search : SearchMethod) (turns states : ℕ) → turns < 63 * states → turns < turns_each search * states
+fewer_each Oracle turns states less = less
+fewer_each Induction turns states less = omega (arith, less)
+
+-- what is found with all the turns that are asked is found by the method that is asked
+pub found_game : {S : Type 0} (m : GameModel S) (ask : Ask) (x : Found) → IsFoundFor m ask 0 x → IsFoundGame m ask x
+found_game m ask x found = record {
+  one = found.game.one;
+  two = found.game.two;
+  resolution = found.game.resolution;
+  resolution_high = found.game.resolution_high;
+  workers = found.game.workers;
+  within = found.game.within;
+  at_once = found.game.at_once;
+  full = found.game.full;
+  spent = λ free wide.
+      let rest = found.game.spent free wide in
+      record { all = rest.all; too_few = λ n has rows. let less = rest.too_few n has rows in fewer_each ask.search ask.turns (n + m.rank m.root + 1) (omega (arith, less)) };
+}

@@ -22,11 +22,12 @@ use Rattle.oracle_search.specs.declared.ends.SearchEnd.{SearchEnd}
 use Rattle.oracle_search.specs.declared.ends.SearchEnd.TheVariants.{Full}
 use Rattle.fields.specs.declared.ask.Ask.{Ask}
 use Rattle.lazy_workers.specs.declared.jobs.Done.{Done}
+use Rattle.lazy_workers.specs.declared.jobs.Job.{Job}
 use Rattle.matrix_game.specs.Budget.{Budget}
 use Rattle.serial_ab.specs.Searches.{IsPureEntry}
 use Rattle.lazy_workers.specs.Keeping.{HasLimit}
 use Rattle.lazy_workers.specs.Searched.{IsFar, HasFound}
-use Rattle.lazy_workers.specs.Workers.{IsLead, IsWorkerPass, Rows, rows_of, KnowsEach, known_of, IsFinishedKey, AreOwedTo, IsDueTo, HaveFound, HasView, IsJobDone, IsNoLooser}
+use Rattle.lazy_workers.specs.Workers.{IsLead, IsWorkerPass, Rows, rows_of, KnowsEach, known_of, IsFinishedKey, AreOwedTo, IsDueTo, HaveFound, HasView, IsJobDone, IsNoLooser, IsJob}
 
 -- ---- passes
 module _ {G : Type 0} where
@@ -37,8 +38,9 @@ module _ {G : Type 0} where
   ours_drawn b p q e o = subst (IsPassOf b) (sym e) (record { name = o.name; game = o.game; total = o.total })
 
 module _ {S G : Type 0} (model : G → GameModel S) where
-  pub job_drawn : (b : BoardValue G) (bare : BarePass G) (p : PassValue G) → pass_of bare ≡ p → p.entries ≡ [] → IsWorkerPass model b bare → IsWorkerPass model b bare × ((pass_of bare).entries ≡ [])
-  job_drawn b bare p is none w = (w, ap (λ (z : PassValue G). z.entries) is ∙ none)
+  pub job_drawn : (b : BoardValue G) (ask : Ask) (before : ℕ) (job : Job G) (p : PassValue G) → pass_of job.pass ≡ p → p.entries ≡ []
+      → HasLimit ask job.turns → job.turns.spent ≤ before → IsWorkerPass model b job.pass → IsJob model b ask before job
+  job_drawn b ask before job p is none limit begun w = record { pass = w; none = ap (λ (z : PassValue G). z.entries) is ∙ none; limit = limit; begun = begun }
 
   pub pass_drawn : (b : BoardValue G) (bare : BarePass G) (p : PassValue G) (v : View G) → pass_of bare ≡ p → IsSoundPass model bare → IsPassOf b p → p.view ≡ issued_view v → IsWorkerPass model b bare
   pass_drawn b bare p v is sound ours view = let same : bare.seat.me.0 ≡ issued_view v = ap (λ (z : PassValue G). z.view) is ∙ view in record {
@@ -61,7 +63,7 @@ met_not was now end else not = let it = else (not_true now not) in (λ is. let w
 pub knows_later : (rows : ℕ) (known more : Rows) → ((row key : ℕ) → known row key → more row key) → KnowsEach rows known → KnowsEach rows more
 knows_later rows known more later knows i l = let it = knows i l in (it.0, later i it.0 it.1)
 
-module _ {S : Type 0} (m : GameModel S) (ask : Ask) where
+module _ {S : Type 0} (m : GameModel S) (ask : Ask) (before : ℕ) where
   far_more : (a b : ℤ) → a ≤ℤ b → IsFar m ask a → IsFar m ask b
   far_more a b less far = record { asked = let asked = far.asked in omega (arith, ints); resolution = λ n is. let over = far.resolution n is in omega (arith, ints) }
 
@@ -74,20 +76,20 @@ module _ {S : Type 0} (m : GameModel S) (ask : Ask) where
 
   -- what was found holds of bounds that are no looser
   pub found_later : (bound next : Side → ℤ) (F F' D D' R R' Met : Type 0) (turns : List Budget) → ((side : Side) → IsNoTighter side (bound side) (next side))
-      → (F → F') → (D → D') → (R → R') → HasFound m ask bound F D R Met turns
-      → HasFound m ask next F' D' R' Met turns
+      → (F → F') → (D → D') → (R → R') → HasFound m ask before bound F D R Met turns
+      → HasFound m ask before next F' D' R' Met turns
   found_later bound next F F' D D' R R' Met turns tighter full due row f =
-      let before : IsFar m ask (next Two -ℤ next One) → IsFar m ask (bound Two -ℤ bound One) = far_more (next Two -ℤ next One) (bound Two -ℤ bound One) (gap_less bound next tighter) in record {
+      let was_far : IsFar m ask (next Two -ℤ next One) → IsFar m ask (bound Two -ℤ bound One) = far_more (next Two -ℤ next One) (bound Two -ℤ bound One) (gap_less bound next tighter) in record {
         within = f.within;
         full = λ met. (full (f.full met).0, (f.full met).1);
         rowed = λ not some. row (f.rowed not some);
-        all_spent = λ not far. f.all_spent not (before far);
-        due = λ not far some. let it = f.due not (before far) some in (it.0, due it.1);
+        all_spent = λ not far. f.all_spent not (was_far far);
+        due = λ not far some. let it = f.due not (was_far far) some in (it.0, due it.1);
         pure = λ has many some side. looser_trans side (serial_bound m side m.root) (bound side) (next side) (f.pure has many some side) (tighter side);
         at_once = f.at_once;
       }
 
-  pub found_none : (bound : Side → ℤ) (F D R Met : Type 0) → (Met → ⊥) → HasFound m ask bound F D R Met []
+  pub found_none : (bound : Side → ℤ) (F D R Met : Type 0) → (Met → ⊥) → HasFound m ask before bound F D R Met []
   found_none bound F D R Met not = record {
     within = All-nil (HasLimit ask);
     full = λ met. absurd (not met);
@@ -95,13 +97,13 @@ module _ {S : Type 0} (m : GameModel S) (ask : Ask) where
     all_spent = λ _ far. All-nil (λ t. t.spent ≡ ask.turns);
     due = λ _ far some. absurd (omega arith);
     pure = λ has many some side. absurd (omega arith);
-    at_once = λ has many near. All-nil (λ t. t.spent ≡ 0);
+    at_once = λ has many near. All-nil (λ t. t.spent ≤ before);
   }
 
   -- what some have found, and what others have
   pub found_more : (bound : Side → ℤ) (F D R Was End Now : Type 0) (turns more : List Budget) → (Now → Was ⊎ End) → ((Now → ⊥) → (Was → ⊥) × (End → ⊥))
-      → 1 ≤ length more → HasFound m ask bound F D R Was turns
-      → HasFound m ask bound F D R End more → HasFound m ask bound F D R Now (turns ++ more)
+      → 1 ≤ length more → HasFound m ask before bound F D R Was turns
+      → HasFound m ask before bound F D R End more → HasFound m ask before bound F D R Now (turns ++ more)
   found_more bound F D R Was End Now turns more then else some j f = record {
     within = All-append (HasLimit ask) turns more j.within f.within;
     rowed = λ not _. f.rowed (else not).1 some;
@@ -109,7 +111,7 @@ module _ {S : Type 0} (m : GameModel S) (ask : Ask) where
     all_spent = λ not far. All-append (λ t. t.spent ≡ ask.turns) turns more (j.all_spent (else not).0 far) (f.all_spent (else not).1 far);
     due = λ not far _. f.due (else not).1 far some;
     pure = λ has many _ side. f.pure has many some side;
-    at_once = λ has many near. All-append (λ t. t.spent ≡ 0) turns more (j.at_once has many near) (f.at_once has many near);
+    at_once = λ has many near. All-append (λ t. t.spent ≤ before) turns more (j.at_once has many near) (f.at_once has many near);
   }
 
   -- bounds that are seen as no looser, and rows of which no less is known
@@ -128,10 +130,10 @@ module _ {S : Type 0} (m : GameModel S) (ask : Ask) where
       closer : (a b c d gap : ℤ) → a ≤ℤ b → d ≤ℤ c → c ≤ℤ (a +ℤ gap) → d ≤ℤ (b +ℤ gap)
       closer a b c d gap low high near = omega (arith, ints)
 
-    due_later : IsDueTo m ask seen known → IsDueTo m ask next more
+    due_later : IsDueTo m ask before seen known → IsDueTo m ask before next more
     due_later due = ⊎_elim
         (λ (each : KnowsEach ask.rows known). inl (knows_later ask.rows known more later each))
-        (λ (owed : AreOwedTo m ask seen known). inr
+        (λ (owed : AreOwedTo m ask before seen known). inr
         (record {
           keys = owed.keys;
           apart =
@@ -141,10 +143,10 @@ module _ {S : Type 0} (m : GameModel S) (ask : Ask) where
         }))
         due
 
-    pub seen_later : (Met : Type 0) (turns : List Budget) → HaveFound m ask seen known Met turns → HaveFound m ask next more Met turns
+    pub seen_later : (Met : Type 0) (turns : List Budget) → HaveFound m ask before seen known Met turns → HaveFound m ask before next more Met turns
     seen_later Met turns f =
         found_later (known_of m seen m.root) (known_of m next m.root) (KnowsEach ask.rows known) (KnowsEach ask.rows more)
-        (IsDueTo m ask seen known) (IsDueTo m ask next more) ((row : ℕ) × known row (m.key m.root)) ((row : ℕ) × more row (m.key m.root)) Met turns
+        (IsDueTo m ask before seen known) (IsDueTo m ask before next more) ((row : ℕ) × known row (m.key m.root)) ((row : ℕ) × more row (m.key m.root)) Met turns
         (λ side. better_more side _ _ (state_bound m side m.root) (tighter side (m.key m.root)))
         (knows_later ask.rows known more later) due_later (λ it. (it.0, later it.0 (m.key m.root) it.1)) f
 
@@ -161,15 +163,15 @@ module _ {S G : Type 0} (model : G → GameModel S) (g : G) where
       (λ d before side. looser_trans side (seen_by (model g) d.pass.seat.me.0 side ((model g).key (model g).root)) (root_seen v side) (bound side) (before side) (tighter side)))
 
 -- the passes of a lead that takes in one worker after another, of all those that were found
-pub record IsJoining {S G : Type 0} (model : G → GameModel S) (g : G) (b : BoardValue G) (ask : Ask) (first lead : PassValue G)
+pub record IsJoining {S G : Type 0} (model : G → GameModel S) (g : G) (b : BoardValue G) (ask : Ask) (before : ℕ) (first lead : PassValue G)
     (all found : List (Result (Done G) NoMemory)) (turns : List Budget) (was_full : Bool) : Type 0 where
   pub ours : IsPassOf b lead
   pub leads : lead.view.lead ≡ true
   pub draws : lead.view.issued ≡ first.view.issued
   pub holds : length lead.view.tickets + length found ≡ length first.view.tickets + length all
   pub counts : length turns + length found ≡ length all
-  pub each : All (λ r. IfOk r (IsJobDone model g b ask)) found
-  pub joined : HasView (model g) ask lead.view (was_full ≡ true) turns
+  pub each : All (λ r. IfOk r (IsJobDone model g b ask before)) found
+  pub joined : HasView (model g) ask before lead.view (was_full ≡ true) turns
   -- where no turn was spent, only pure plans were posted
   pub alone : All (λ t. t.spent ≡ 0) turns → All (IsPureEntry (model g) ask.weight) lead.entries
   -- those that were taken in, whose bounds at the root are not forgotten
@@ -177,13 +179,13 @@ pub record IsJoining {S G : Type 0} (model : G → GameModel S) (g : G) (b : Boa
   pub splits : all ≡ found ++ taken
   pub tight : All (λ r. IfOk r (IsNoLooser model g (λ side. seen_by (model g) lead.view side ((model g).key (model g).root)))) taken
 
-module _ {S G : Type 0} (model : G → GameModel S) (g : G) (b : BoardValue G) (ask : Ask) where
+module _ {S G : Type 0} (model : G → GameModel S) (g : G) (b : BoardValue G) (ask : Ask) (before : ℕ) where
   -- at the root a pass has seen bounds no looser than a worker has
   abbrev IsTight : View G → Result (Done G) NoMemory → Type 0
   IsTight v r = IfOk r (IsNoLooser model g (λ side. seen_by (model g) v side ((model g).key (model g).root)))
 
   pub joining_none : (first : PassValue G) (found : List (Result (Done G) NoMemory)) → IsPassOf b first → first.view.lead ≡ true → first.entries ≡ []
-      → All (λ r. IfOk r (IsJobDone model g b ask)) found → IsJoining model g b ask first first found found [] false
+      → All (λ r. IfOk r (IsJobDone model g b ask before)) found → IsJoining model g b ask before first first found found [] false
   joining_none first found ours leads none each = record {
     ours = ours;
     leads = leads;
@@ -191,8 +193,8 @@ module _ {S G : Type 0} (model : G → GameModel S) (g : G) (b : BoardValue G) (
     holds = refl;
     counts = omega arith;
     each = each;
-    joined = found_none (model g) ask (known_of (model g) (seen_by (model g) first.view) (model g).root) (KnowsEach ask.rows (rows_of first.view))
-        (IsDueTo (model g) ask (seen_by (model g) first.view) (rows_of first.view)) ((row : ℕ) × rows_of first.view row ((model g).key (model g).root)) (false ≡ true) (λ e. absurd (cc));
+    joined = found_none (model g) ask before (known_of (model g) (seen_by (model g) first.view) (model g).root) (KnowsEach ask.rows (rows_of first.view))
+        (IsDueTo (model g) ask before (seen_by (model g) first.view) (rows_of first.view)) ((row : ℕ) × rows_of first.view row ((model g).key (model g).root)) (false ≡ true) (λ e. absurd (cc));
     alone = λ _. subst (All (IsPureEntry (model g) ask.weight)) (sym none) (All-nil (IsPureEntry (model g) ask.weight));
     taken = [];
     splits = sym (append-nil found);
@@ -201,21 +203,21 @@ module _ {S G : Type 0} (model : G → GameModel S) (g : G) (b : BoardValue G) (
 
   -- all were taken in
   pub joining_end : (first lead : PassValue G) (all : List (Result (Done G) NoMemory)) (turns : List Budget) (was : Bool)
-      → IsJoining model g b ask first lead all [] turns was → All (IsTight lead.view) all
+      → IsJoining model g b ask before first lead all [] turns was → All (IsTight lead.view) all
   joining_end first lead all turns was j = subst (All (IsTight lead.view)) (sym j.splits) j.tight
 
   -- the one that is taken in next, and those that are left
   pub joining_next : (first lead : PassValue G) (all found rest : List (Result (Done G) NoMemory)) (d : Done G) (turns : List Budget) (was : Bool)
-      → found ≡ rest ++ Ok d ∷ [] → IsJoining model g b ask first lead all found turns was
-      → All (λ r. IfOk r (IsJobDone model g b ask)) rest × IsJobDone model g b ask d
-  joining_next first lead all found rest d turns was is j = All-pop (λ r. IfOk r (IsJobDone model g b ask)) found rest (Some (Ok d)) is j.each
+      → found ≡ rest ++ Ok d ∷ [] → IsJoining model g b ask before first lead all found turns was
+      → All (λ r. IfOk r (IsJobDone model g b ask before)) rest × IsJobDone model g b ask before d
+  joining_next first lead all found rest d turns was is j = All-pop (λ r. IfOk r (IsJobDone model g b ask before)) found rest (Some (Ok d)) is j.each
 
   pub joining_more : (first lead next : PassValue G) (all found rest : List (Result (Done G) NoMemory)) (d : Done G) (own : PassValue G) (turns more : List Budget) (was now : Bool)
       → b.game ≡ g → found ≡ rest ++ Ok d ∷ [] → more ≡ turns ++ d.turns ∷ []
       → own ≡ pass_of d.pass → next.name ≡ lead.name → next.total ≡ lead.total → next.view ≡ joined lead.view own.view
       → next.entries ≡ lead.entries ++ own.entries → KnowsNoLess (model b.game) lead.view next.view → KnowsNoLess (model b.game) own.view next.view
       → (now ≡ true → (was ≡ true) ⊎ (d.end ≡ Full)) → (now ≡ false → (was ≡ false) × (d.end ≡ Full → ⊥))
-      → IsJoining model g b ask first lead all found turns was → IsJoining model g b ask first next all rest more now
+      → IsJoining model g b ask before first lead all found turns was → IsJoining model g b ask before first next all rest more now
   joining_more first lead next all found rest d own turns more was now game is more_is same name total seen posted mine theirs then else j =
       let m = model g in
       let parts = joining_next first lead all found rest d turns was is j in
@@ -235,12 +237,12 @@ module _ {S G : Type 0} (model : G → GameModel S) (g : G) (b : BoardValue G) (
         holds = omega (arith, parts.1.pass.holds, j.holds);
         counts = omega (arith, j.counts);
         each = parts.0;
-        joined = subst (λ (l : List Budget). HasView m ask next.view (now ≡ true) l) (sym more_is)
-            (found_more m ask (known_of m (seen_by m next.view) m.root) (KnowsEach ask.rows (rows_of next.view))
-            (IsDueTo m ask (seen_by m next.view) (rows_of next.view)) ((row : ℕ) × rows_of next.view row key) (was ≡ true) (d.end ≡ Full)
+        joined = subst (λ (l : List Budget). HasView m ask before next.view (now ≡ true) l) (sym more_is)
+            (found_more m ask before (known_of m (seen_by m next.view) m.root) (KnowsEach ask.rows (rows_of next.view))
+            (IsDueTo m ask before (seen_by m next.view) (rows_of next.view)) ((row : ℕ) × rows_of next.view row key) (was ≡ true) (d.end ≡ Full)
             (now ≡ true) turns (d.turns ∷ []) then (met_not was now d.end else) (omega arith)
-            (seen_later m ask (seen_by m lead.view) (seen_by m next.view) (rows_of lead.view) (rows_of next.view) from_lead.seen from_lead.keys (was ≡ true) turns j.joined)
-            (seen_later m ask (seen_by m d.pass.seat.me.0) (seen_by m next.view) (rows_of d.pass.seat.me.0)
+            (seen_later m ask before (seen_by m lead.view) (seen_by m next.view) (rows_of lead.view) (rows_of next.view) from_lead.seen from_lead.keys (was ≡ true) turns j.joined)
+            (seen_later m ask before (seen_by m d.pass.seat.me.0) (seen_by m next.view) (rows_of d.pass.seat.me.0)
             (rows_of next.view) from_worker.seen from_worker.keys (d.end ≡ Full) (d.turns ∷ []) parts.1.found));
         alone = λ none.
             let split = All-pop (λ t. t.spent ≡ 0) more turns (Some d.turns) more_is none in

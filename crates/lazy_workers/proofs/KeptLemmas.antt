@@ -52,7 +52,7 @@ apart_by_recursion (k ∷ ks) apart = (
   apart_by_recursion ks (λ i j l h. apart (suc i) (suc j) (omega arith) (omega arith)),
 )
 
-module _ {S G : Type 0} (m : GameModel S) (game : IsGame m) (ask : Ask) (v : View G) (entries : List Entry) (kept : List Kept)
+module _ {S G : Type 0} (m : GameModel S) (game : IsGame m) (ask : Ask) (before : ℕ) (v : View G) (entries : List Entry) (kept : List Kept)
     (is : AreKeptRows m ask.rows v entries kept) (closed : IsClosed m ask.weight entries) where
   -- each entry's key has a row
   pub kept_keys : HasKeysIn ask.rows entries
@@ -91,7 +91,7 @@ module _ {S G : Type 0} (m : GameModel S) (game : IsGame m) (ask : Ask) (v : Vie
   rows_kept goes_on = record { none = λ end. absurd (omega arith); few = is.few; distinct = is.distinct; each = All-weaker (IsKeptRow m entries) (IsKeptState m) kept_state kept is.each }
 
   -- ---- the rows of finished states
-  module _ (owed : AreOwedTo m ask (seen_by m v) (rows_of v)) (n : ℕ) (resolution : IsResolution m ask.weight n) where
+  module _ (owed : AreOwedTo m ask before (seen_by m v) (rows_of v)) (n : ℕ) (resolution : IsResolution m ask.weight n) where
     row_of : (key : ℕ) → IsFinishedKey m ask (seen_by m v) (rows_of v) key → HasKey kept key
     row_of key f = is.known f.row key f.has_row
 
@@ -144,7 +144,7 @@ module _ {S G : Type 0} (m : GameModel S) (game : IsGame m) (ask : Ask) (v : Vie
               let times : root * (rank * each) ≡ rank * n = rw is (omega arith) in
               subst (λ (k : ℕ). (pos root *ℤ gap) ≤ℤ pos k) times (times_mono root gap (pos (rank * each)) near)
 
-    owed_rows : AreOwed m ask (pos n) kept
+    owed_rows : AreOwed m ask before (pos n) kept
     owed_rows =
         let each = recursion_from_All (IsFinishedKey m ask (seen_by m v) (rows_of v)) owed.keys owed.each in
         let list = rows owed.keys each in record {
@@ -156,10 +156,10 @@ module _ {S G : Type 0} (m : GameModel S) (game : IsGame m) (ask : Ask) (v : Vie
         }
 
   -- a board on which a row is left is none of which each row's key is known
-  rows_left : IsDueTo m ask (seen_by m v) (rows_of v) → IsOwed m ask kept
+  rows_left : IsDueTo m ask before (seen_by m v) (rows_of v) → IsOwed m ask before kept
   rows_left due n resolution left = ⊎_elim
       (λ (each : KnowsEach ask.rows (rows_of v)). let all = is.full each in absurd (omega arith))
-      (λ (owed : AreOwedTo m ask (seen_by m v) (rows_of v)). owed_rows owed n resolution)
+      (λ (owed : AreOwedTo m ask before (seen_by m v) (rows_of v)). owed_rows owed n resolution)
       due
 
   -- of a root that is no end, the bound of the book is the best posted at its key, or that of every value of it where that is better
@@ -177,8 +177,8 @@ module _ {S G : Type 0} (m : GameModel S) (game : IsGame m) (ask : Ask) (v : Vie
     root_known side = subst (IsNoTighter side (known_of m (seen_by m v) m.root side)) (sym (root_posted side))
         (better_more side _ _ (state_bound m side m.root) (is.no_looser side (m.key m.root)))
 
-    pub joined_searched : (turns : List Budget) (was_full : Bool) → HasView m ask v (was_full ≡ true) turns → length turns ≡ ask.workers
-        → (All (λ t. t.spent ≡ 0) turns → All (IsPureEntry m ask.weight) entries) → IsSearched m ask entries kept turns was_full
+    pub joined_searched : (turns : List Budget) (was_full : Bool) → HasView m ask before v (was_full ≡ true) turns → length turns ≡ ask.workers
+        → (All (λ t. t.spent ≡ 0) turns → All (IsPureEntry m ask.weight) entries) → IsSearched m ask before entries kept turns was_full
     joined_searched turns was_full j count alone = record {
       closed = closed;
       held = kept_keys;
@@ -186,8 +186,8 @@ module _ {S G : Type 0} (m : GameModel S) (game : IsGame m) (ask : Ask) (v : Vie
       entered = is.entered;
       best = is.each;
       workers = count;
-      found = found_later m ask (known_of m (seen_by m v) m.root) (λ side. book_bound m entries side m.root) (KnowsEach ask.rows (rows_of v))
-          (length kept ≡ ask.rows) (IsDueTo m ask (seen_by m v) (rows_of v)) (IsOwed m ask kept)
+      found = found_later m ask before (known_of m (seen_by m v) m.root) (λ side. book_bound m entries side m.root) (KnowsEach ask.rows (rows_of v))
+          (length kept ≡ ask.rows) (IsDueTo m ask before (seen_by m v) (rows_of v)) (IsOwed m ask before kept)
           ((row : ℕ) × rows_of v row (m.key m.root)) (IsRooted m kept) (was_full ≡ true) turns root_known is.full rows_left (λ it _. is.known it.0 (m.key m.root) it.1) j;
       alone = alone;
     }

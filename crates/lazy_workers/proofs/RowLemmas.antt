@@ -9,8 +9,9 @@ use Rattle.shared_board.specs.Rule.{Has}
 use Rattle.shared_board.specs.Closing.{IsDistinct}
 use Rattle.shared_board.specs.declared.close.Kept.{Kept}
 use Rattle.fields.specs.declared.ask.Ask.{Ask}
-use Rattle.lazy_workers.specs.Keeping.{HasLimit, IsKeptState, IsFinishedRow, AreOwed}
-use Rattle.lazy_workers.specs.Searched.{IsFar, HasRoom, TooFewTurns, AnswersToo}
+use Rattle.matrix_game.specs.Budget.{Budget}
+use Rattle.lazy_workers.specs.Keeping.{HasLimit, AreBudgets, IsKeptState, IsFinishedRow, AreOwed}
+use Rattle.lazy_workers.specs.Searched.{IsFar, HasRoom, TooFewAfter, AnswersToo}
 
 module _ {S : Type 0} (m : GameModel S) where
   abbrev AreStates : List Kept → Type 0
@@ -53,14 +54,14 @@ module _ {S : Type 0} (m : GameModel S) where
       far_too : (gap : ℤ) → IsFar m ask gap → IsFar m enough gap
       far_too gap far = record { asked = far.asked; resolution = far.resolution }
 
-      too_few : TooFewTurns m enough → TooFewTurns m ask
-      too_few few n most inside = elim (cases_lt limit n) [
+      too_few : (before : ℕ) → TooFewAfter before m enough → TooFewAfter before m ask
+      too_few before few n most inside = elim (cases_lt limit n) [
         | inl more ↦ omega (arith, few limit states (omega arith))
         | inr less ↦ few n most (omega arith)
       ]
 
-      owed_too : (n : ℤ) (kept : List Kept) → AreOwed m enough n kept → AreOwed m ask n kept
-      owed_too n kept owed = record {
+      owed_too : (before : ℕ) (n : ℤ) (kept : List Kept) → AreOwed m enough before n kept → AreOwed m ask before n kept
+      owed_too before n kept owed = record {
         finished = owed.finished;
         among = owed.among;
         distinct = owed.distinct;
@@ -69,7 +70,7 @@ module _ {S : Type 0} (m : GameModel S) where
       }
 
       pub fewer_rows_answer_too : AnswersToo m enough ask
-      fewer_rows_answer_too entries kept turns was_full x =
+      fewer_rows_answer_too before entries kept turns was_full x =
           let room : HasRoom m enough = more_states m limit rows states (omega (arith, some)) in
           let few = kept_few kept x.rows.distinct x.rows.each in
           record {
@@ -90,9 +91,18 @@ module _ {S : Type 0} (m : GameModel S) where
               all_spent = λ left far. x.found.all_spent left (far_too _ far);
               due = λ left far one.
                   let due = x.found.due left (far_too _ far) one in
-                  (too_few due.0, λ n resolution free. owed_too (pos n) kept (due.1 n resolution (omega (arith, few, some))));
+                  (too_few before due.0, λ n resolution free. owed_too before (pos n) kept (due.1 n resolution (omega (arith, few, some))));
               pure = λ _ visits. x.found.pure room visits;
               at_once = λ _ visits. x.found.at_once room visits;
             };
             alone = x.alone;
           }
+
+-- budgets that are good for what is asked are so for what is asked of another number of rows
+pub budgets_for : (ask other : Ask) → other.workers ≡ ask.workers → other.turns ≡ ask.turns → (before : ℕ) (turns : List Budget)
+    → AreBudgets ask before turns → AreBudgets other before turns
+budgets_for ask other workers same before turns budgets = record {
+  count = budgets.count ∙ sym workers;
+  each = All-weaker (HasLimit ask) (HasLimit other) (λ t h. record { limit = h.limit ∙ sym same; spent = omega (arith, h.spent, same) }) turns budgets.each;
+  begun = budgets.begun;
+}

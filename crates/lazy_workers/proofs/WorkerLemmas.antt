@@ -35,8 +35,8 @@ use Rattle.fields.specs.declared.ask.StageMethod.TheVariants.{Regret}
 use Rattle.fields.specs.declared.ask.StageMethod.TheVariants as methods
 use Rattle.lazy_workers.specs.Solvers.{solver_kind}
 use Rattle.lazy_workers.specs.Workers.{Rows, KnowsEach, IsFinishedKey, AreOwedTo, IsDueTo, HaveFound}
-use Rattle.lazy_workers.specs.Keeping.{HasLimit}
-use Rattle.lazy_workers.specs.Searched.{IsFar, HasRoom, HasVisits, IsPureClose, TooFewTurns, IsSearched}
+use Rattle.lazy_workers.specs.Keeping.{HasLimit, AreBudgets}
+use Rattle.lazy_workers.specs.Searched.{IsFar, HasRoom, HasVisits, IsPureClose, TooFewAfter, IsSearched}
 
 -- bounds within a gap are no further apart
 too_near : (low high gap : ℤ) → high ≤ℤ (low +ℤ gap) → gap <ℤ (high -ℤ low) → ⊥
@@ -75,9 +75,9 @@ module _ {S : Type 0} (m : GameModel S) (game : IsGame m) where
     keys_few most has = has.few (length keys) (λ i. (known i).0) (λ i l. ((known i).1 l).0)
         (λ i j l h e. apart i j l h (sym ((known i).1 (omega arith)).1 ∙ ap m.key e ∙ ((known j).1 h).1))
 
-  module _ {G N : Type 0} (ask : Ask) (start last : WorkView G N) (end : SearchEnd)
+  module _ {G N : Type 0} (ask : Ask) (before : ℕ) (start last : WorkView G N) (end : SearchEnd)
       (rows : last.board.rows ≡ ask.rows) (total : last.board.total ≡ ask.weight) (weight : 1 ≤ ask.weight) (goes_on : 1 ≤ m.rank m.root)
-      (none : start.settled ≡ record { keys = []; was_full = false }) (turns : start.turns ≡ record { limit = ask.turns; spent = 0 })
+      (none : start.settled ≡ record { keys = []; was_full = false }) (limit : start.turns.limit ≡ ask.turns) (begun : start.turns.spent ≤ before) (inside : start.turns.spent ≤ start.turns.limit)
       (worked : IsWorked m m.root start last) (ends : Ends m m.root ask.gap last end) (takes : AreTaken m ask end start last) where
     abbrev has_row : Rows
     has_row row key = last.board.key_at row ≡ Some key
@@ -101,21 +101,22 @@ module _ {S : Type 0} (m : GameModel S) (game : IsGame m) where
     -- where no turn was spent, what was posted over no entries is pure
     pub pure_alone : start.board.entries ≡ [] → last.turns.spent ≡ 0 → All (IsPureEntry m ask.weight) last.board.entries
     pure_alone none unspent =
-        let limit : last.turns.limit ≡ start.turns.limit = worked.turns.limit in
-        let spent : last.turns.spent ≡ start.turns.spent = unspent ∙ sym (ap (λ (t : Budget). t.spent) turns) in
-        let same : last.turns ≡ start.turns = λ i. record { limit = limit i; spent = spent i } in
+        let same_limit : last.turns.limit ≡ start.turns.limit = worked.turns.limit in
+        let more = worked.turns.rises in
+        let spent : last.turns.spent ≡ start.turns.spent = omega arith in
+        let same : last.turns ≡ start.turns = λ i. record { limit = same_limit i; spent = spent i } in
         let grows = worked.pure_alone same in
         let joins : last.board.entries ≡ grows.more = grows.joins ∙ ap (λ (l : List Entry). l ++ grows.more) none in
         let weight_is : start.board.total ≡ ask.weight = sym worked.board.later.total ∙ total in
         subst (All (IsPureEntry m ask.weight)) (sym joins) (subst (λ (w : ℕ). All (IsPureEntry m w) grows.more) weight_is grows.each)
 
     within : last.turns.spent ≤ last.turns.limit
-    within = worked.turns.within (rw turns (omega arith))
+    within = worked.turns.within inside
 
     -- bounds further apart than was asked and than the resolution, and no full board
     module _ (far : IsFar m ask (known_bound m last.board Two m.root -ℤ known_bound m last.board One m.root)) where
       spent_by : (e : SearchEnd) → (e ≡ Full → ⊥) → Ends m m.root ask.gap last e → AreTaken m ask e start last
-          → (last.turns.spent ≡ ask.turns) × TooFewTurns m ask × IsDueTo m ask last.board.seen has_row
+          → (last.turns.spent ≡ ask.turns) × TooFewAfter before m ask × IsDueTo m ask before last.board.seen has_row
       spent_by Reached not ends takes =
           let asked = far.asked in let near : IsWithin m last.board m.root ask.gap = ends goes_on in absurd (too_near _ _ _ near asked)
       spent_by Settled not ends takes =
@@ -123,14 +124,13 @@ module _ {S : Type 0} (m : GameModel S) (game : IsGame m) where
           let near : IsWithin m last.board m.root (pos (rank_gap m stage.0 (m.rank m.root))) = ends.2 stage.0 (subst (λ (w : ℕ). IsStageGap m w stage.0) (sym total) stage.1) in
           let beyond = far.resolution (rank_gap m stage.0 (m.rank m.root)) (record { gap = stage.0; is_gap = stage.1; sums = refl }) in absurd (too_near _ _ _ near beyond)
       spent_by Spent not ends takes =
-          let limit : last.turns.limit ≡ ask.turns = worked.turns.limit ∙ ap (λ (t : Budget). t.limit) turns in
-          let inside = within in
+          let last_limit : last.turns.limit ≡ ask.turns = worked.turns.limit ∙ limit in
+          let in_limit = within in
           let none_left = ends.2 in
           let all : last.turns.spent ≡ ask.turns = omega arith in
           (all, too_few all takes, by all takes last.settled.was_full refl) where
-            taken : last.turns.spent ≡ ask.turns → HasTaken m m.root Spent start last → last.settled.was_full ≡ false → ask.turns ≤ 63 * (length last.settled.keys + m.rank m.root)
+            taken : last.turns.spent ≡ ask.turns → HasTaken m m.root Spent start last → last.settled.was_full ≡ false → ask.turns ≤ before + 63 * (length last.settled.keys + m.rank m.root)
             taken all takes quiet =
-                let none_spent : start.turns.spent ≡ 0 = ap (λ (t : Budget). t.spent) turns in
                 let no_keys : length start.settled.keys ≡ 0 = ap (λ (f : FinishedView). length f.keys) none in
                 let so : TakesTurns (m.rank m.root) start.worker last.worker =
                 ⊎_elim (λ (a : TakesTurns (m.rank m.root) start.worker last.worker). a)
@@ -145,9 +145,8 @@ module _ {S : Type 0} (m : GameModel S) (game : IsGame m) where
               close = λ regret stage is. f.close (so regret) stage (subst (λ (w : ℕ). IsStageGap m w stage) (sym total) is);
             }
 
-            owed : last.turns.spent ≡ ask.turns → AreTaken m ask Spent start last → last.settled.was_full ≡ false → AreOwedTo m ask last.board.seen has_row
+            owed : last.turns.spent ≡ ask.turns → AreTaken m ask Spent start last → last.settled.was_full ≡ false → AreOwedTo m ask before last.board.seen has_row
             owed all takes quiet =
-                let none_spent : start.turns.spent ≡ 0 = ap (λ (t : Budget). t.spent) turns in
                 ⊎_elim
                 (λ (a : HasTaken m m.root Spent start last). record {
                   keys = last.settled.keys;
@@ -165,7 +164,7 @@ module _ {S : Type 0} (m : GameModel S) (game : IsGame m) where
                 })
                 takes
 
-            too_few : last.turns.spent ≡ ask.turns → AreTaken m ask Spent start last → TooFewTurns m ask
+            too_few : last.turns.spent ≡ ask.turns → AreTaken m ask Spent start last → TooFewAfter before m ask
             too_few all takes n has few =
                 let wide : HasRoom m ask = record { few = λ count states reach apart. let less = has.few count states reach apart in omega arith } in
                 let it = owed all takes (room wide) in
@@ -173,12 +172,12 @@ module _ {S : Type 0} (m : GameModel S) (game : IsGame m) where
                 let most = it.few in
                 omega arith
 
-            by : last.turns.spent ≡ ask.turns → AreTaken m ask Spent start last → (b : Bool) → last.settled.was_full ≡ b → KnowsEach ask.rows has_row ⊎ AreOwedTo m ask last.board.seen has_row
+            by : last.turns.spent ≡ ask.turns → AreTaken m ask Spent start last → (b : Bool) → last.settled.was_full ≡ b → KnowsEach ask.rows has_row ⊎ AreOwedTo m ask before last.board.seen has_row
             by all takes true e = inl (full_board e).0
             by all takes false e = inr (owed all takes e)
       spent_by Full not ends takes = absurd (not refl)
 
-      all_spent : (end ≡ Full → ⊥) → (last.turns.spent ≡ ask.turns) × TooFewTurns m ask × IsDueTo m ask last.board.seen has_row
+      all_spent : (end ≡ Full → ⊥) → (last.turns.spent ≡ ask.turns) × TooFewAfter before m ask × IsDueTo m ask before last.board.seen has_row
       all_spent not = spent_by end not ends takes
 
     -- visits for the whole tree, and a row for each state
@@ -195,36 +194,36 @@ module _ {S : Type 0} (m : GameModel S) (game : IsGame m) where
       one : (P : Budget → Type 0) → P last.turns → All P (last.turns ∷ [])
       one P here = All-cons P last.turns [] here (All-nil P)
 
-      pub found : HaveFound m ask last.board.seen (λ row key. last.board.key_at row ≡ Some key) (end ≡ Full) (last.turns ∷ [])
+      pub found : HaveFound m ask before last.board.seen (λ row key. last.board.key_at row ≡ Some key) (end ≡ Full) (last.turns ∷ [])
       found = record {
-        within = one (HasLimit ask) (let limit = worked.turns.limit ∙ ap (λ (t : Budget). t.limit) turns in record { limit = limit; spent = subst (λ (n : ℕ). last.turns.spent ≤ n) limit within });
+        within = one (HasLimit ask) (let same = worked.turns.limit ∙ limit in record { limit = same; spent = subst (λ (n : ℕ). last.turns.spent ≤ n) same within });
         full = λ e. full_board (subst (Ends m m.root ask.gap last) e ends).0;
         rowed = λ not _. row not;
         all_spent = λ not far. one (λ t. t.spent ≡ ask.turns) (all_spent far not).0;
         due = λ not far _. let it = all_spent far not in (it.1, it.2);
         pure = λ has many _ side. pure (whole many) (room has) side;
-        at_once = λ has many near. one (λ t. t.spent ≡ 0) (ap (λ (t : Budget). t.spent) (at_once (whole many) (room has) near).1 ∙ ap (λ (t : Budget). t.spent) turns);
+        at_once = λ has many near. one (λ t. t.spent ≤ before) (subst (λ (t : Budget). t.spent ≤ before) (sym (at_once (whole many) (room has) near).1) begun);
       }
 
 -- an end as root needs no search
-pub nothing_searched : {S : Type 0} (m : GameModel S) → IsGame m → (ask : Ask) → IsEnd m m.root → pos 0 ≤ℤ ask.gap → (turns : List Budget)
-    → length turns ≡ ask.workers → All (λ t. t ≡ record { limit = ask.turns; spent = 0 }) turns → IsSearched m ask [] [] turns false
-nothing_searched m game ask end low turns count fresh = record {
+pub nothing_searched : {S : Type 0} (m : GameModel S) → IsGame m → (ask : Ask) (before : ℕ) → IsEnd m m.root → pos 0 ≤ℤ ask.gap → (turns : List Budget)
+    → AreBudgets ask before turns → IsSearched m ask before [] [] turns false
+nothing_searched m game ask before end low turns budgets = record {
   closed = All-nil _;
   held = record { key_at = λ _. None; held = All-nil _ };
   rows = record { none = λ _. refl; few = omega arith; distinct = tt; each = All-nil _ };
   entered = All-nil _;
   best = All-nil _;
-  workers = count;
+  workers = budgets.count;
   alone = λ _. All-nil _;
   found = record {
-    within = All-weaker (λ t. t ≡ record { limit = ask.turns; spent = 0 }) (HasLimit ask) (λ t e. rw e (record { limit = refl; spent = omega arith })) turns fresh;
+    within = budgets.each;
     full = λ e. absurd (cc);
     rowed = λ _ some goes_on. absurd (omega arith);
     all_spent = λ _ far. absurd (near far);
     due = λ _ far some. absurd (near far);
     pure = λ has many some side. rw (serial_end m game side m.root end, bound side) (looser_refl side (end_bound m m.root));
-    at_once = λ has many close. All-weaker (λ t. t ≡ record { limit = ask.turns; spent = 0 }) (λ t. t.spent ≡ 0) (λ t e. ap (λ (b : Budget). b.spent) e) turns fresh;
+    at_once = λ has many close. budgets.begun;
   };
 } where
   bound : (side : Side) → book_bound m [] side m.root ≡ end_bound m m.root

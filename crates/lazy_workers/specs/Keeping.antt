@@ -13,11 +13,19 @@ use Rattle.sim_game.specs.declared.Side.TheVariants.{One, Two}
 use Rattle.fields.specs.declared.ask.Ask.{Ask}
 use Rattle.fields.specs.declared.ask.StageMethod.TheVariants.{Regret}
 
+-- ---- turns
 -- the turns are those asked, and no more of them were spent
 pub record HasLimit (ask : Ask) (t : Budget) : Type 0 where
   pub limit : t.limit ≡ ask.turns
   pub spent : t.spent ≤ ask.turns
 
+-- a budget for each worker, with those asked, of which no more than so many were spent before
+pub record AreBudgets (ask : Ask) (before : ℕ) (turns : List Budget) : Type 0 where
+  pub count : length turns ≡ ask.workers
+  pub each : All (HasLimit ask) turns
+  pub begun : All (λ t. t.spent ≤ before) turns
+
+-- ---- rows
 -- a row of the sheet is kept: its key has a row, with its bound on its side
 pub record IsSheetRowKept (side : Side) (kept : List Kept) (r : SheetRow) : Type 0 where
   pub held : HasKey kept r.key
@@ -44,13 +52,14 @@ module _ {S : Type 0} (m : GameModel S) where
     pub close : ask.stages ≡ Regret
         → (pos (m.rank m.root) *ℤ known_gap x named.state) ≤ℤ (pos (m.rank named.state) *ℤ resolution)
 
-  -- the turns are owed to finished states among the rows, 63 to each, and to the states on the way to the root
-  pub record AreOwed (ask : Ask) (resolution : ℤ) (kept : List Kept) : Type 0 where
+  -- the turns, but for those that were spent before, are owed to finished states among the rows, 63 to each, and to the
+  -- states on the way to the root
+  pub record AreOwed (ask : Ask) (before : ℕ) (resolution : ℤ) (kept : List Kept) : Type 0 where
     pub finished : List Kept
     pub among : All (Contains kept) finished
     pub distinct : IsDistinct finished
     pub each : All (IsFinishedRow ask resolution) finished
-    pub few : ask.turns ≤ 63 * (length finished + m.rank m.root)
+    pub few : ask.turns ≤ before + 63 * (length finished + m.rank m.root)
 
   -- the rows of a board that was made for a root that is no end
   pub record AreRows (rows : ℕ) (kept : List Kept) : Type 0 where

@@ -13,6 +13,8 @@ use Rattle.matrix_game.specs.Budget.{Budget}
 use Rattle.shared_board.specs.Closing.{HasKey, IsKeptRow}
 use Rattle.shared_board.specs.declared.close.Kept.{Kept}
 use Rattle.fields.specs.declared.ask.Ask.{Ask}
+use Rattle.fields.specs.declared.ask.SearchMethod.{SearchMethod}
+use Rattle.fields.specs.declared.ask.SearchMethod.TheVariants.{Oracle, Induction}
 use Rattle.lazy_workers.specs.Keeping.{HasLimit, AreOwed, AreRows}
 
 -- each entry's key is that of one of so many rows
@@ -37,27 +39,37 @@ HasVisits m ask = tree_size m m.root ≤ ask.visits
 abbrev pub IsPureClose : {S : Type 0} → GameModel S → Ask → Type 0
 IsPureClose m ask = serial_bound m Two m.root ≤ℤ (serial_bound m One m.root +ℤ ask.gap)
 
--- too few turns for a game of any number of states that the board has rows for
-abbrev pub TooFewTurns : {S : Type 0} → GameModel S → Ask → Type 0
-TooFewTurns m ask = (n : ℕ) → HasAtMost m n → n ≤ ask.rows → ask.turns < 63 * (n + m.rank m.root + 1)
+-- how many turns a search by the method may take at a state: 63 by double oracle, and three before these by induction
+abbrev pub turns_each : SearchMethod → ℕ
+turns_each Oracle = 63
+turns_each Induction = 66
 
--- what searches of the root have found together, by the bounds that are known of it: the turns of each; what a search
+-- too few turns, where so many were spent before, for a game of any number of states that the board has rows for
+abbrev pub TooFewAfter : {S : Type 0} → ℕ → GameModel S → Ask → Type 0
+TooFewAfter before m ask = (n : ℕ) → HasAtMost m n → n ≤ ask.rows → ask.turns < before + 63 * (n + m.rank m.root + 1)
+
+-- too few turns for such a game
+abbrev pub TooFewTurns : {S : Type 0} → GameModel S → Ask → Type 0
+TooFewTurns m ask = (n : ℕ) → HasAtMost m n → n ≤ ask.rows → ask.turns < turns_each ask.search * (n + m.rank m.root + 1)
+
+-- what searches of the root have found together, by the bounds that are known of it: the turns of each, of which no more
+-- than so many were spent before; what a search
 -- that met a full board shows of it; what is due where none did and all turns were spent; that the root has a row
-pub record HasFound {S : Type 0} (m : GameModel S) (ask : Ask) (bound : Side → ℤ) (IsFull IsDue HasRow Met : Type 0)
+pub record HasFound {S : Type 0} (m : GameModel S) (ask : Ask) (before : ℕ) (bound : Side → ℤ) (IsFull IsDue HasRow Met : Type 0)
     (turns : List Budget) : Type 0 where
   pub within : All (HasLimit ask) turns
   pub full : Met → IsFull × (HasRoom m ask → ⊥)
   pub rowed : (Met → ⊥) → 1 ≤ length turns → HasRow
   -- as long as the bounds are far apart, all turns were spent
   pub all_spent : (Met → ⊥) → IsFar m ask (bound Two -ℤ bound One) → All (λ t. t.spent ≡ ask.turns) turns
-  pub due : (Met → ⊥) → IsFar m ask (bound Two -ℤ bound One) → 1 ≤ length turns → TooFewTurns m ask × IsDue
+  pub due : (Met → ⊥) → IsFar m ask (bound Two -ℤ bound One) → 1 ≤ length turns → TooFewAfter before m ask × IsDue
   pub pure : HasRoom m ask → HasVisits m ask → 1 ≤ length turns
       → (side : Side) → IsNoTighter side (serial_bound m side m.root) (bound side)
-  pub at_once : HasRoom m ask → HasVisits m ask → IsPureClose m ask → All (λ t. t.spent ≡ 0) turns
+  pub at_once : HasRoom m ask → HasVisits m ask → IsPureClose m ask → All (λ t. t.spent ≤ before) turns
 
 -- with a row left on the board, the turns are owed to rows that are kept
-abbrev pub IsOwed : {S : Type 0} → GameModel S → Ask → List Kept → Type 0
-IsOwed m ask kept = (n : ℕ) → IsResolution m ask.weight n → length kept < ask.rows → AreOwed m ask (pos n) kept
+abbrev pub IsOwed : {S : Type 0} → GameModel S → Ask → ℕ → List Kept → Type 0
+IsOwed m ask before kept = (n : ℕ) → IsResolution m ask.weight n → length kept < ask.rows → AreOwed m ask before (pos n) kept
 
 -- a root that is no end has a row
 abbrev pub IsRooted : {S : Type 0} → GameModel S → List Kept → Type 0
@@ -65,7 +77,7 @@ IsRooted m kept = 1 ≤ m.rank m.root → HasKey kept (m.key m.root)
 
 -- the entries of all workers, the rows of the closed board, the turns of each worker, and whether a search of one ended
 -- at a full board
-pub record IsSearched {S : Type 0} (m : GameModel S) (ask : Ask) (entries : List Entry) (kept : List Kept)
+pub record IsSearched {S : Type 0} (m : GameModel S) (ask : Ask) (before : ℕ) (entries : List Entry) (kept : List Kept)
     (turns : List Budget) (was_full : Bool) : Type 0 where
   pub closed : IsClosed m ask.weight entries
   pub held : HasKeysIn ask.rows entries
@@ -73,12 +85,12 @@ pub record IsSearched {S : Type 0} (m : GameModel S) (ask : Ask) (entries : List
   pub entered : All (λ e. HasKey kept e.key) entries
   pub best : All (IsKeptRow m entries) kept
   pub workers : length turns ≡ ask.workers
-  pub found : HasFound m ask (λ side. book_bound m entries side m.root) (length kept ≡ ask.rows) (IsOwed m ask kept)
+  pub found : HasFound m ask before (λ side. book_bound m entries side m.root) (length kept ≡ ask.rows) (IsOwed m ask before kept)
       (IsRooted m kept) (was_full ≡ true) turns
   -- where no turn was spent, only pure plans were posted
   pub alone : All (λ t. t.spent ≡ 0) turns → All (IsPureEntry m ask.weight) entries
 
 -- what is found where the one is asked answers the other too
 abbrev pub AnswersToo : {S : Type 0} → GameModel S → Ask → Ask → Type 0
-AnswersToo m ask other = (entries : List Entry) (kept : List Kept) (turns : List Budget) (was_full : Bool)
-    → IsSearched m ask entries kept turns was_full → IsSearched m other entries kept turns was_full
+AnswersToo m ask other = (before : ℕ) (entries : List Entry) (kept : List Kept) (turns : List Budget) (was_full : Bool)
+    → IsSearched m ask before entries kept turns was_full → IsSearched m other before entries kept turns was_full

@@ -21,6 +21,7 @@ use Rattle.oracle_search.specs.declared.ends.SearchEnd.TheVariants.{Full}
 use Rattle.oracle_search.specs.Finished.{AreApart, rank_gap}
 use Rattle.lazy_workers.specs.declared.jobs.Job.{Job}
 use Rattle.lazy_workers.specs.declared.jobs.Done.{Done}
+use Rattle.lazy_workers.specs.Keeping.{HasLimit}
 use Rattle.lazy_workers.specs.Searched.{HasFound}
 
 -- ---- passes
@@ -63,12 +64,14 @@ module _ {S : Type 0} (m : GameModel S) (ask : Ask) where
     pub close : ask.stages ≡ Regret → (stage : ℕ) → IsStageGap m ask.weight stage
         → known_of m seen named.state Two ≤ℤ (known_of m seen named.state One +ℤ pos (rank_gap m stage (m.rank named.state)))
 
-  -- the turns of a worker are owed to states that it has finished, and to those on the way to the root
+module _ {S : Type 0} (m : GameModel S) (ask : Ask) (before : ℕ) where
+  -- the turns of a worker, but for those that were spent before, are owed to states that it has finished, and to those on
+  -- the way to the root
   pub record AreOwedTo (seen : Side → ℕ → ℤ) (known : Rows) : Type 0 where
     pub keys : List ℕ
     pub apart : AreApart keys
-    pub each : All (IsFinishedKey seen known) keys
-    pub few : ask.turns ≤ 63 * (length keys + m.rank m.root)
+    pub each : All (IsFinishedKey m ask seen known) keys
+    pub few : ask.turns ≤ before + 63 * (length keys + m.rank m.root)
 
   -- what is due where all turns were spent: the turns are owed to finished states, unless a key of each row is known
   abbrev pub IsDueTo : (Side → ℕ → ℤ) → Rows → Type 0
@@ -77,7 +80,7 @@ module _ {S : Type 0} (m : GameModel S) (ask : Ask) where
   -- what workers have found, by the bounds that are seen at each key and by the rows that are known
   abbrev pub HaveFound : (Side → ℕ → ℤ) → Rows → Type 0 → List Budget → Type 0
   HaveFound seen known Met turns =
-      HasFound m ask (known_of m seen m.root) (KnowsEach ask.rows known) (IsDueTo seen known)
+      HasFound m ask before (known_of m seen m.root) (KnowsEach ask.rows known) (IsDueTo seen known)
       ((row : ℕ) × known row (m.key m.root)) Met turns
 
   -- the same by what a pass shows
@@ -93,12 +96,16 @@ module _ {S G : Type 0} (model : G → GameModel S) where
     pub asked : IsAskInRange ask
     pub goes_on : 1 ≤ (model g).rank (model g).root
 
-  abbrev pub IsJob : BoardValue G → Job G → Type 0
-  IsJob b job = IsWorkerPass model b job.pass × ((pass_of job.pass).entries ≡ [])
+  -- a pass without entries, and turns of which no more than so many were spent
+  pub record IsJob (b : BoardValue G) (ask : Ask) (before : ℕ) (job : Job G) : Type 0 where
+    pub pass : IsWorkerPass model b job.pass
+    pub none : (pass_of job.pass).entries ≡ []
+    pub limit : HasLimit ask job.turns
+    pub begun : job.turns.spent ≤ before
 
-  pub record IsJobDone (g : G) (b : BoardValue G) (ask : Ask) (d : Done G) : Type 0 where
+  pub record IsJobDone (g : G) (b : BoardValue G) (ask : Ask) (before : ℕ) (d : Done G) : Type 0 where
     pub pass : IsWorkerPass model b d.pass
-    pub found : HasView (model g) ask d.pass.seat.me.0 (d.end ≡ Full) (d.turns ∷ [])
+    pub found : HasView (model g) ask before d.pass.seat.me.0 (d.end ≡ Full) (d.turns ∷ [])
     pub alone : d.turns.spent ≡ 0 → All (IsPureEntry (model g) ask.weight) (pass_of d.pass).entries
 
   -- the bounds of the root are no looser than those that the worker has seen there

@@ -5,8 +5,10 @@ ghost use Rattle.serial_ab.specs.Searches.{IsPureEntry};
 ghost use Rattle.shared_board.specs.Values.{IsPassOf};
 ghost use Rattle.shared_board.specs.Passes.{seen_by};
 ghost use Rattle.lazy_workers.specs.Solvers.{solver_kind};
+ghost use Rattle.lazy_workers.specs.Keeping.{AreBudgets};
 ghost use Rattle.lazy_workers.specs.Workers.{IsBoardFor, IsLead, IsJob, IsJobDone, IsNoLooser, HasView};
 
+use crate::budgets::Budgets;
 use fields::{Ask, StageMethod};
 use matrix_game::{SolverKind, Turns};
 use oracle_search::{Gate, MemoryLimits, SearchEnd, Setup, Worker, search};
@@ -20,6 +22,7 @@ use std::alloc::Global;
 pub(crate) struct Job<G> {
     pub pass: BarePass<G>,
     pub worker: u32,
+    pub turns: Turns,
 }
 
 /// What a worker ends with.
@@ -30,30 +33,37 @@ pub(crate) struct Done<G> {
     pub end: SearchEnd,
 }
 
-/// A pass for each worker. The last worker is the first, so that the first is at the end.
+/// A pass and the turns of each worker. The last worker is the first, so that the first is at the end.
 pub(crate) fn split_all<G: Game>(
     alloc: Global,
     board: &Board<G>,
     lead: &mut Pass<G>,
-    workers: u32,
+    ask: &Ask,
+    budgets: Budgets,
 ) -> Result<Vec<Job<G>>, NoMemory>
     requires ours { IsPassOf board.now lead.old }
     requires lead { IsLead lead.old.view 1 1 }
-    requires few { workers ≤ 16 }
+    requires few { ask.now.workers ≤ 16 }
+    requires turns { AreBudgets ask.now budgets.most budgets.turns.items }
     ensures ours { IfOk result (λ _. IsPassOf board.now lead.new) }
-    ensures lead { IfOk result (λ _. IsLead lead.new.view (1 + workers) 1) }
+    ensures lead { IfOk result (λ _. IsLead lead.new.view (1 + ask.now.workers) 1) }
     ensures entries { IfOk result (λ _. lead.new.entries ≡ lead.old.entries) }
-    ensures count { IfOk result (λ jobs. length jobs.items ≡ workers) }
-    ensures jobs { IfOk result (λ jobs. All (IsJob G.model board.now) jobs.items) }
+    ensures count { IfOk result (λ jobs. length jobs.items ≡ ask.now.workers) }
+    ensures jobs { IfOk result (λ jobs. All (IsJob G.model board.now ask.now budgets.most) jobs.items) }
 {
-    let mut jobs = Vec::with_capacity(alloc, workers as usize)?;
-    for behind in 0..workers {
+    let mut turns = budgets.turns;
+    let mut jobs = Vec::with_capacity(alloc, ask.workers as usize)?;
+    for behind in 0..ask.workers {
         let Ok(pass) = board.split(lead) else {
+            unreachable!()
+        };
+        let Some(own) = turns.pop() else {
             unreachable!()
         };
         jobs.push(Job {
             pass: pass.into_bare(),
-            worker: workers - 1 - behind,
+            worker: ask.workers - 1 - behind,
+            turns: own,
         })?;
     }
     Ok(jobs)
@@ -76,7 +86,8 @@ fn limits_for(workers: u32, stages: StageMethod) -> MemoryLimits
     }
 }
 
-/// Searches the root, with turns, visits, finished states and memories of the worker's own.
+/// Searches the root, with turns, visits, finished states and memories of the worker's own. No more than `most` turns were
+/// spent before; the number stands in the contract alone.
 pub(crate) fn work<G: Game, T: Gate>(
     alloc: Global,
     g: G,
@@ -84,12 +95,17 @@ pub(crate) fn work<G: Game, T: Gate>(
     ask: &Ask,
     gate: &T,
     job: Job<G>,
+    most: u64,
 ) -> Result<Done<G>, NoMemory>
     requires board { IsBoardFor G.model g board.now ask.now }
-    requires job { IsJob G.model board.now job }
-    ensures { IfOk result (IsJobDone G.model g board.now ask.now) }
+    requires job { IsJob G.model board.now ask.now most job }
+    ensures { IfOk result (IsJobDone G.model g board.now ask.now most) }
 {
-    let Job { pass, worker } = job;
+    let Job {
+        pass,
+        worker,
+        turns,
+    } = job;
     let mut desk = Desk::new(board, Pass::from_bare(pass));
     let setup = Setup {
         alloc,
@@ -98,7 +114,6 @@ pub(crate) fn work<G: Game, T: Gate>(
         workers: ask.workers,
         gate,
     };
-    let turns = Turns::new(ask.turns);
     let visits = Visits::new(ask.visits);
     let mut state = Worker::new(alloc, turns, visits, limits_for(ask.workers, ask.stages));
     let end = search(&setup, g.root(), ask.gap, &mut state, &mut desk)?;
@@ -118,11 +133,12 @@ pub(crate) fn join_all<G: Game>(
     lead: &mut Pass<G>,
     mut found: Vec<Result<Done<G>, NoMemory>>,
     turns: &mut Vec<Turns>,
+    most: u64,
 ) -> Result<bool, NoMemory>
     requires board { IsBoardFor G.model g board.now ask.now }
     requires ours { IsPassOf board.now lead.old }
     requires lead { lead.old.view.lead ≡ true }
-    requires found { All (λ r. IfOk r (IsJobDone G.model g board.now ask.now)) found.items }
+    requires found { All (λ r. IfOk r (IsJobDone G.model g board.now ask.now most)) found.items }
     requires none { turns.old.items ≡ [] }
     requires entries { lead.old.entries ≡ [] }
     ensures ours { IfOk result (λ _. IsPassOf board.now lead.new) }
@@ -130,7 +146,7 @@ pub(crate) fn join_all<G: Game>(
         (length lead.old.view.tickets + length found.items)) }
     ensures count { IfOk result (λ _. length turns.new.items ≡ length found.items) }
     ensures joined { IfOk result (λ was_full.
-        HasView (G.model g) ask.now lead.new.view (was_full ≡ true) turns.new.items) }
+        HasView (G.model g) ask.now most lead.new.view (was_full ≡ true) turns.new.items) }
     ensures alone { IfOk result (λ _. All (λ t. t.spent ≡ 0) turns.new.items
         → All (IsPureEntry (G.model g) ask.now.weight) lead.new.entries) }
     // Nothing that a worker has seen at the root is forgotten.

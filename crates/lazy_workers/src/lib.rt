@@ -1,9 +1,11 @@
 //! The search of a whole game by several workers on one board.
 #![tactic(auto)]
 
+mod budgets;
 mod jobs;
 mod summary;
 mod workers;
 
+pub use budgets::Budgets;
 pub use summary::Found;
 pub use workers::{find, find_alone};

@@ -38,13 +38,18 @@ pub(crate) struct Gathered {
     pub was_full: bool,
 }
 
-/// The plans of the best entries of the book.
-pub(crate) fn found_in<G: Game>(g: G, ask: &Ask, gathered: Gathered) -> Result<Found, NoMemory>
+/// The plans of the best entries of the book. No more than `most` turns of a worker were spent before.
+pub(crate) fn found_in<G: Game>(
+    g: G,
+    ask: &Ask,
+    gathered: Gathered,
+    most: u64,
+) -> Result<Found, NoMemory>
     requires ask { IsAskInRange ask.now }
     requires total { gathered.book.total ≡ ask.now.weight }
-    requires searched { IsSearched (G.model g) ask.now
+    requires searched { IsSearched (G.model g) ask.now most
         gathered.book.entries gathered.kept gathered.turns gathered.was_full }
-    ensures { IfOk result (IsFoundFor (G.model g) ask.now) }
+    ensures { IfOk result (IsFoundFor (G.model g) ask.now most) }
 {
     let one = gathered.book.sheet(g, Side::One)?;
     let two = gathered.book.sheet(g, Side::Two)?;

@@ -1,17 +1,19 @@
 //! The search of a whole game.
 
-ghost use Rattle.std.specs.Prelude.{◌≡◌, ◌+◌, ◌≤◌, [], length, All, IfOk};
+ghost use Rattle.std.specs.Prelude.{◌≡◌, ◌+◌, ◌≤◌, ℕ, List, [], length, All, IfOk};
+ghost use Rattle.matrix_game.specs.Budget.{Budget};
 ghost use Rattle.fields.specs.Ranges.{IsAskInRange};
 ghost use Rattle.plan_book.specs.Books.{book_bound};
 ghost use Rattle.shared_board.specs.Values.{IsPassOf};
 ghost use Rattle.lazy_workers.specs.Findings.{IsFoundFor};
+ghost use Rattle.lazy_workers.specs.Keeping.{AreBudgets};
 ghost use Rattle.lazy_workers.specs.Searched.{AnswersToo, IsSearched};
 ghost use Rattle.lazy_workers.specs.Workers.{IsBoardFor, IsLead, IsJob, IsJobDone, IsNoLooser};
 
+use crate::budgets::Budgets;
 use crate::jobs::{Done, Job, join_all, split_all, work};
 use crate::summary::{Found, Gathered, found_in};
 use fields::Ask;
-use matrix_game::Turns;
 use oracle_search::Gate;
 use plan_book::Book;
 use seq::Seq;
@@ -21,46 +23,46 @@ use std::alloc::Global;
 use std::thread;
 use std::thread::Threads;
 
-/// Searches the game by so many workers as asked, each on one board that all share, and gives the best plans found. The
-/// caller does the work of a single worker, and of one whose thread cannot be started.
+/// Searches the game by so many workers as asked, each on one board that all share and with the turns that it has left, and
+/// gives the best plans found. The caller does the work of a single worker, and of one whose thread cannot be started.
 pub fn find<R: Threads + Sync, G: Game + Send + Sync, T: Gate + Sync>(
     rt: &R,
     alloc: Global,
     g: G,
     ask: &Ask,
+    budgets: Budgets,
     gate: &T,
 ) -> Result<Found, NoMemory>
 where
     G::State: Send + Sync,
-    requires { IsAskInRange ask.now }
-    ensures { IfOk result (IsFoundFor (G.model g) ask.now) }
+    requires ask { IsAskInRange ask.now }
+    requires turns { AreBudgets ask.now budgets.most budgets.turns.items }
+    ensures { IfOk result (IsFoundFor (G.model g) ask.now budgets.most) }
 {
+    let most = budgets.most;
     let gathered = if g.rank(g.root()) == 0 {
-        nothing(alloc, g, ask)?
+        nothing(alloc, g, ask, budgets)?
     } else if ask.workers == 1 {
-        search_alone(alloc, g, ask, gate)?
+        search_alone(alloc, g, ask, budgets, gate)?
     } else {
-        search_all(rt, alloc, g, ask, gate)?
+        search_all(rt, alloc, g, ask, budgets, gate)?
     };
-    found_in(g, ask, gathered)
+    found_in(g, ask, gathered, most)
 }
 
 /// What is found where the root is an end: it needs no search.
-fn nothing<G: Game>(alloc: Global, g: G, ask: &Ask) -> Result<Gathered, NoMemory>
+fn nothing<G: Game>(alloc: Global, g: G, ask: &Ask, budgets: Budgets) -> Result<Gathered, NoMemory>
     requires ask { IsAskInRange ask.now }
+    requires turns { AreBudgets ask.now budgets.most budgets.turns.items }
     requires end { (G.model g).rank (G.model g).root ≡ 0 }
     ensures total { IfOk result (λ found. found.book.total ≡ ask.now.weight) }
     ensures searched { IfOk result (λ found.
-        IsSearched (G.model g) ask.now found.book.entries found.kept found.turns found.was_full) }
+        IsSearched (G.model g) ask.now budgets.most found.book.entries found.kept found.turns found.was_full) }
 {
-    let mut turns = Vec::with_capacity(alloc, ask.workers as usize)?;
-    for _worker in 0..ask.workers {
-        turns.push(Turns::new(ask.turns))?;
-    }
     Ok(Gathered {
         book: Book::new(alloc, ask.weight),
         kept: Seq::from_vec(Vec::new(alloc)),
-        turns: Seq::from_vec(turns),
+        turns: Seq::from_vec(budgets.turns),
         was_full: false,
     })
 }
@@ -71,29 +73,32 @@ fn search_all<R: Threads + Sync, G: Game + Send + Sync, T: Gate + Sync>(
     alloc: Global,
     g: G,
     ask: &Ask,
+    budgets: Budgets,
     gate: &T,
 ) -> Result<Gathered, NoMemory>
 where
     G::State: Send + Sync,
     requires ask { IsAskInRange ask.now }
     requires goes_on { 1 ≤ (G.model g).rank (G.model g).root }
+    requires turns { AreBudgets ask.now budgets.most budgets.turns.items }
     ensures total { IfOk result (λ found. found.book.total ≡ ask.now.weight) }
     ensures searched { IfOk result (λ found.
-        IsSearched (G.model g) ask.now found.book.entries found.kept found.turns found.was_full) }
+        IsSearched (G.model g) ask.now budgets.most found.book.entries found.kept found.turns found.was_full) }
 {
+    let most = budgets.most;
     let enough = with_rows_for(g, ask);
     let (board, mut lead) = Board::create(alloc, g, enough.rows, enough.weight)?;
-    let jobs = split_all(alloc, &board, &mut lead, enough.workers)?;
+    let jobs = split_all(alloc, &board, &mut lead, &enough, budgets)?;
     let shared = &board;
     let done = thread::map_vec(
         rt,
         jobs,
         &|job: Job<G>| -> Result<Done<G>, NoMemory>
-            requires { IsBoardFor G.model g shared.now enough × IsJob G.model shared.now job }
-            ensures { IfOk result (IsJobDone G.model g shared.entry.now enough) }
-        { work(alloc, g, shared, &enough, gate, job) },
+            requires { IsBoardFor G.model g shared.now enough × IsJob G.model shared.now enough most job }
+            ensures { IfOk result (IsJobDone G.model g shared.entry.now enough most) }
+        { work(alloc, g, shared, &enough, gate, job, most) },
     )?;
-    gather(alloc, g, board, &enough, lead, done)
+    gather(alloc, g, board, &enough, lead, done, most)
 }
 
 /// What is asked, of a board of no more rows than the game has states and one or two that stay free, so that it is never
@@ -103,6 +108,7 @@ fn with_rows_for<G: Game>(g: G, ask: &Ask) -> Ask
     requires { IsAskInRange ask.now }
     ensures same { AnswersToo (G.model g) result ask.now }
     ensures weight { result.weight ≡ ask.now.weight }
+    ensures turns { (most : ℕ) (turns : List Budget) → AreBudgets ask.now most turns → AreBudgets result most turns }
     ensures in_range { IsAskInRange result }
 {
     let most = g.most_states();
@@ -119,17 +125,20 @@ pub fn find_alone<G: Game, T: Gate>(
     alloc: Global,
     g: G,
     ask: &Ask,
+    budgets: Budgets,
     gate: &T,
 ) -> Result<Found, NoMemory>
-    requires { IsAskInRange ask.now }
-    ensures { IfOk result (IsFoundFor (G.model g) ask.now) }
+    requires ask { IsAskInRange ask.now }
+    requires turns { AreBudgets ask.now budgets.most budgets.turns.items }
+    ensures { IfOk result (IsFoundFor (G.model g) ask.now budgets.most) }
 {
+    let most = budgets.most;
     let gathered = if g.rank(g.root()) == 0 {
-        nothing(alloc, g, ask)?
+        nothing(alloc, g, ask, budgets)?
     } else {
-        search_alone(alloc, g, ask, gate)?
+        search_alone(alloc, g, ask, budgets, gate)?
     };
-    found_in(g, ask, gathered)
+    found_in(g, ask, gathered, most)
 }
 
 /// What all workers find on one board, one after the other.
@@ -137,19 +146,22 @@ fn search_alone<G: Game, T: Gate>(
     alloc: Global,
     g: G,
     ask: &Ask,
+    budgets: Budgets,
     gate: &T,
 ) -> Result<Gathered, NoMemory>
     requires ask { IsAskInRange ask.now }
     requires goes_on { 1 ≤ (G.model g).rank (G.model g).root }
+    requires turns { AreBudgets ask.now budgets.most budgets.turns.items }
     ensures total { IfOk result (λ found. found.book.total ≡ ask.now.weight) }
     ensures searched { IfOk result (λ found.
-        IsSearched (G.model g) ask.now found.book.entries found.kept found.turns found.was_full) }
+        IsSearched (G.model g) ask.now budgets.most found.book.entries found.kept found.turns found.was_full) }
 {
+    let most = budgets.most;
     let enough = with_rows_for(g, ask);
     let (board, mut lead) = Board::create(alloc, g, enough.rows, enough.weight)?;
-    let jobs = split_all(alloc, &board, &mut lead, enough.workers)?;
-    let done = work_all(alloc, g, &board, &enough, gate, jobs)?;
-    gather(alloc, g, board, &enough, lead, done)
+    let jobs = split_all(alloc, &board, &mut lead, &enough, budgets)?;
+    let done = work_all(alloc, g, &board, &enough, gate, jobs, most)?;
+    gather(alloc, g, board, &enough, lead, done, most)
 }
 
 /// Does the work of each job, that of the last first, and stops at want of memory.
@@ -160,17 +172,18 @@ fn work_all<G: Game, T: Gate>(
     ask: &Ask,
     gate: &T,
     mut jobs: Vec<Job<G>>,
+    most: u64,
 ) -> Result<Vec<Result<Done<G>, NoMemory>>, NoMemory>
     requires board { IsBoardFor G.model g board.now ask.now }
-    requires jobs { All (IsJob G.model board.now) jobs.items }
+    requires jobs { All (IsJob G.model board.now ask.now most) jobs.items }
     ensures count { IfOk result (λ found. length found.items ≡ length jobs.items) }
-    ensures done { IfOk result (λ found. All (λ r. IfOk r (IsJobDone G.model g board.now ask.now)) found.items) }
+    ensures done { IfOk result (λ found. All (λ r. IfOk r (IsJobDone G.model g board.now ask.now most)) found.items) }
 {
     match jobs.pop() {
         None => Ok(Vec::new(alloc)),
         Some(job) => {
-            let done = work(alloc, g, board, ask, gate, job)?;
-            let mut all = work_all(alloc, g, board, ask, gate, jobs)?;
+            let done = work(alloc, g, board, ask, gate, job, most)?;
+            let mut all = work_all(alloc, g, board, ask, gate, jobs, most)?;
             all.push(Ok(done))?;
             Ok(all)
         }
@@ -185,22 +198,23 @@ fn gather<G: Game>(
     ask: &Ask,
     mut lead: Pass<G>,
     found: Vec<Result<Done<G>, NoMemory>>,
+    most: u64,
 ) -> Result<Gathered, NoMemory>
     requires board { IsBoardFor G.model g board ask.now }
     requires ours { IsPassOf board lead }
     requires lead { IsLead lead.view (1 + ask.now.workers) 1 }
-    requires found { All (λ r. IfOk r (IsJobDone G.model g board ask.now)) found.items }
+    requires found { All (λ r. IfOk r (IsJobDone G.model g board ask.now most)) found.items }
     requires count { length found.items ≡ ask.now.workers }
     requires entries { lead.entries ≡ [] }
     ensures total { IfOk result (λ found. found.book.total ≡ ask.now.weight) }
     ensures searched { IfOk result (λ found.
-        IsSearched (G.model g) ask.now found.book.entries found.kept found.turns found.was_full) }
+        IsSearched (G.model g) ask.now most found.book.entries found.kept found.turns found.was_full) }
     // Nothing that a worker has seen at the root is forgotten.
     ensures tight { IfOk result (λ all. All (λ r. IfOk r (IsNoLooser G.model g
         (λ side. book_bound (G.model g) all.book.entries side (G.model g).root))) found.items) }
 {
     let mut turns = Vec::with_capacity(alloc, ask.workers as usize)?;
-    let was_full = join_all(g, &board, ask, &mut lead, found, &mut turns)?;
+    let was_full = join_all(g, &board, ask, &mut lead, found, &mut turns, most)?;
     match board.close(lead) {
         Ok(closed) => Ok(Gathered {
             book: closed.book,

@@ -1,5 +1,5 @@
 -- That the report of what was found is a solution.
-use Rattle.std.proofs.Common.{◌≡◌, ℕ, ◌≤◌, ℤ, ◌-ℤ◌, ◌≤ℤ◌, List, [], ◌∷◌, length, All, w64, SFits, to_z, of_z, refl, sym, subst, ◌∙◌, arith}
+use Rattle.std.proofs.Common.{◌≡◌, ℕ, ◌<◌, ◌≤◌, ℤ, ◌-ℤ◌, ◌≤ℤ◌, List, [], ◌∷◌, length, All, w64, SFits, to_z, of_z, refl, sym, subst, ◌∙◌, arith}
 use Rattle.std.specs.List.{AllByRecursion}
 use Rattle.std.proofs.lemmas.Int.{ints, to_z-of_z}
 use Rattle.std.proofs.lemmas.List.{length-map}
@@ -20,9 +20,10 @@ use Rattle.certificate.specs.Versions.{limits_of, version_of}
 use Rattle.certificate.specs.Ranges.{IsSheetInRange, IsInRange}
 use Rattle.matrix_game.specs.Budget.{Budget}
 use Rattle.lazy_workers.specs.declared.summary.Found.{Found}
-use Rattle.lazy_workers.specs.Findings.{found_gap, IsFoundPlan, AreSpent, IsFoundFor}
-use Rattle.lazy_workers.specs.Keeping.{HasLimit}
-use Rattle.lazy_workers.specs.Searched.{HasRoom}
+use Rattle.lazy_workers.specs.Findings.{found_gap, IsFoundPlan, IsIdle, AreSpent, IsGapWide, IsFoundGame, IsFoundFor}
+use Rattle.lazy_workers.specs.Keeping.{HasLimit, AreOwed}
+use Rattle.lazy_workers.specs.Searched.{HasRoom, TooFewTurns}
+use Rattle.lazy_workers.proofs.FoundLemmas.{found_game}
 use Rattle.solution.specs.declared.report.Solved.{Solved}
 use Rattle.solution.specs.Outcomes.{HasGap, IsOutcomeFor}
 use Rattle.solution.specs.Solutions.{spent_of, report_with, IsReportOf, IsSolution, IsSolvedGame}
@@ -33,7 +34,7 @@ from_spent : (P : ℕ → Type 0) (turns : List Budget) → AllByRecursion P (sp
 from_spent P [] each = tt
 from_spent P (t ∷ turns) each = (each.0, from_spent P turns each.1)
 
-module _ {S : Type 0} (m : GameModel S) (ask : Ask) (x : Found) (found : IsFoundFor m ask x) where
+module _ {S : Type 0} (m : GameModel S) (ask : Ask) (x : Found) (found : IsFoundGame m ask x) where
   pub has_gap : HasGap x
   has_gap = record { lower = found.one.small; upper = found.two.small }
 
@@ -49,23 +50,23 @@ module _ {S : Type 0} (m : GameModel S) (ask : Ask) (x : Found) (found : IsFound
     none_spent : All (λ n. n ≡ 0) (spent_of x.turns) → All (λ t. t.spent ≡ 0) x.turns
     none_spent each = All-from_recursion (λ t. t.spent ≡ 0) x.turns (from_spent (λ n. n ≡ 0) x.turns (recursion_from_All (λ n. n ≡ 0) (spent_of x.turns) each))
 
-    in_sheet : (limits : Limits) (side : Side) (sheet : Sheet) (bound : ℤ) → IsFoundPlan m ask x side sheet bound → IsSheetInRange limits side ask.weight sheet
+    in_sheet : (limits : Limits) (side : Side) (sheet : Sheet) (bound : ℤ) → IsFoundPlan m ask (IsIdle m ask x) side sheet bound → IsSheetInRange limits side ask.weight sheet
     in_sheet limits side sheet bound plan =
         let few = plan.few in let rows = asks.rows in let weight = asks.weight in let total = plan.total_is in
         let ranged = sheet_in_range m game limits sheet plan.lawful (omega arith) (omega arith) in
         record { side_is = plan.side_is; total_is = total; few = ranged.few; rows = ranged.rows; moves = ranged.moves; rising = ranged.rising }
 
     allowed : (o : Outcome) → IsOutcomeFor (found_gap x) ask.gap x.resolution x.was_full o → Allows (report_with text ask x o) o
-    allowed Spent e = (record { asked = e.0; resolution = e.1 }, each_spent (λ n. n ≡ ask.turns) (found.spent e.2 e.0 e.1).all)
+    allowed Spent e = (record { asked = e.0; resolution = e.1 }, each_spent (λ n. n ≡ ask.turns) (found.spent e.2 (record { asked = e.0; resolution = e.1 })).all)
     allowed Full e = record { asked = e.0; resolution = e.1 }
     allowed o e = e
 
-    full_by : (o : Outcome) → o ≡ Full → IsOutcomeFor (found_gap x) ask.gap x.resolution x.was_full o → (length x.kept ≡ ask.rows) × (HasRoom m ask → ⊥)
+    full_by : (o : Outcome) → o ≡ Full → IsOutcomeFor (found_gap x) ask.gap x.resolution x.was_full o → HasRoom m ask → ⊥
     full_by Full is e = found.full e.2
     full_by o is e = absurd (cc)
 
-    spent_by : (o : Outcome) → o ≡ Spent → IsOutcomeFor (found_gap x) ask.gap x.resolution x.was_full o → AreSpent m ask x
-    spent_by Spent is e = found.spent e.2 e.0 e.1
+    spent_by : (o : Outcome) → o ≡ Spent → IsOutcomeFor (found_gap x) ask.gap x.resolution x.was_full o → AreSpent m ask (TooFewTurns m ask) x
+    spent_by Spent is e = found.spent e.2 (record { asked = e.0; resolution = e.1 })
     spent_by o is e = absurd (cc)
 
     closed_by : (o : Outcome) → found_gap x ≤ℤ ask.gap → IsOutcomeFor (found_gap x) ask.gap x.resolution x.was_full o → o ≡ Closed
@@ -103,27 +104,44 @@ module _ {S : Type 0} (m : GameModel S) (ask : Ask) (x : Found) (found : IsFound
       upper_guaranteed = found.two.guaranteed;
       one_few = found.one.few;
       two_few = found.two.few;
-      full = λ is. (full_by outcome is ends).1;
+      full = λ is. full_by outcome is ends;
       spent = λ is. (spent_by outcome is ends).too_few;
       pure_lower = found.one.pure;
       pure_upper = found.two.pure;
       at_once = λ has many near.
           let low = found.one.pure has many in let high = found.two.pure has many in
-          (closed_by outcome (omega (arith, ints)) ends, each_spent (λ n. n ≡ 0) (found.at_once has many near));
-    }
-
-    solved_with : IsSolvedGame m text ask (record { report = r; turns = x.turns; kept = x.kept })
-    solved_with = record {
-      solution = solution;
-      within = found.within;
-      spent = refl;
-      one_kept = found.one.kept;
-      two_kept = found.two.kept;
-      left = record { rows = found.rows; rooted = found.rooted; full = λ is. (full_by outcome is ends).0; spent = λ is. (spent_by outcome is ends).owed };
-      root = λ row held at. (found.one.root row held at, found.two.root row held at);
+          (closed_by outcome (omega (arith, ints)) ends, each_spent (λ n. n ≡ 0) (All-weaker (λ t. t.spent ≤ 0) (λ t. t.spent ≡ 0) (λ t few. omega arith) x.turns (found.at_once has many near)));
     }
 
   -- the report of what was found of a game is a solution of it
+  pub found_solution : (text : PositionText) (s : Solved) → IsReportOf text ask x s → IsGame m → IsAskInRange ask → IsPositionInRange text
+      → IsSolution m text ask s.report
+  found_solution text s is game asks place =
+      subst (λ (s : Solved). IsSolution m text ask s.report) (sym is.is_solved) (solution game asks text place is.outcome is.is_outcome)
+
+-- what the closed board shows of the report
+module _ {S : Type 0} (m : GameModel S) (ask : Ask) (x : Found) (found : IsFoundFor m ask 0 x) where
+  module _ (game : IsGame m) (asks : IsAskInRange ask) (text : PositionText) (place : IsPositionInRange text)
+      (outcome : Outcome) (ends : IsOutcomeFor (found_gap x) ask.gap x.resolution x.was_full outcome) where
+    no_row : (o : Outcome) → o ≡ Full → IsOutcomeFor (found_gap x) ask.gap x.resolution x.was_full o → length x.kept ≡ ask.rows
+    no_row Full is e = found.full e.2
+    no_row o is e = absurd (cc)
+
+    owed : (o : Outcome) → o ≡ Spent → IsOutcomeFor (found_gap x) ask.gap x.resolution x.was_full o → length x.kept < ask.rows → AreOwed m ask 0 x.resolution x.kept
+    owed Spent is e = found.owed e.2 (record { asked = e.0; resolution = e.1 })
+    owed o is e = absurd (cc)
+
+    solved_with : IsSolvedGame m text ask (record { report = report_with text ask x outcome; turns = x.turns; kept = x.kept })
+    solved_with = record {
+      solution = solution m ask x (found_game m ask x found) game asks text place outcome ends;
+      within = found.game.within;
+      spent = refl;
+      one_kept = found.one_kept.rows;
+      two_kept = found.two_kept.rows;
+      left = record { rows = found.rows; rooted = found.rooted; full = λ is. no_row outcome is ends; spent = λ is. owed outcome is ends };
+      root = λ row held at. (found.one_kept.root row held at, found.two_kept.root row held at);
+    }
+
   pub solved_game : (text : PositionText) (s : Solved) → IsReportOf text ask x s → IsGame m → IsAskInRange ask → IsPositionInRange text → IsSolvedGame m text ask s
   solved_game text s is game asks place =
       subst (IsSolvedGame m text ask) (sym is.is_solved) (solved_with game asks text place is.outcome is.is_outcome)

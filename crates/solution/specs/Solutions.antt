@@ -91,7 +91,7 @@ pub record IsLeft {S : Type 0} (m : GameModel S) (ask : Ask) (r : Report) (kept 
   -- with a row left on the board, the root has one
   pub rooted : 1 ≤ m.rank m.root → length kept < ask.rows → HasKey kept (m.key m.root)
   pub full : r.outcome ≡ Full → length kept ≡ ask.rows
-  pub spent : r.outcome ≡ Spent → length kept < ask.rows → AreOwed m ask r.resolution kept
+  pub spent : r.outcome ≡ Spent → length kept < ask.rows → AreOwed m ask 0 r.resolution kept
 
 -- what is told of a game: a report that is a solution, the turns of each worker, and the rows of the closed board
 pub record IsSolvedGame {S : Type 0} (m : GameModel S) (text : PositionText) (ask : Ask) (x : Solved) : Type 0 where

@@ -4,11 +4,11 @@ ghost use Rattle.std.specs.Prelude.{◌≡◌, IfOk};
 ghost use Rattle.fields.specs.Ranges.{IsAskInRange, IsPositionInRange};
 ghost use Rattle.fields.specs.declared.positions.PositionText.{PositionText};
 ghost use Rattle.fields.specs.declared.ask.Ask.{Ask};
-ghost use Rattle.lazy_workers.specs.Findings.{IsFoundFor};
+ghost use Rattle.lazy_workers.specs.Findings.{IsFoundGame, IsFoundFor};
 ghost use Rattle.lazy_workers.specs.declared.summary.Found.{Found};
 ghost use Rattle.solution.specs.declared.report.Solved.{Solved};
 ghost use Rattle.solution.specs.Outcomes.{HasGap, IsOutcomeFor};
-ghost use Rattle.solution.specs.Solutions.{spent_of, IsReportOf, IsSolvedGame};
+ghost use Rattle.solution.specs.Solutions.{spent_of, IsReportOf, IsSolution, IsSolvedGame};
 
 use certificate::{Ask, Outcome, PositionText, Report};
 use lazy_workers::Found;
@@ -58,10 +58,13 @@ pub fn report_of(
     })
 }
 
-/// The report of what was found of a game is a solution of the game.
+/// The report of what was found of a game is a solution of the game; and where a board is left, its rows account for it.
 pub fn reports_are_solutions<G: Game>(g: &G)
-    ensures { (text : PositionText) (ask : Ask) (x : Found) → IsAskInRange ask → IsPositionInRange text
-        → IsFoundFor (G.model g.now) ask x → (s : Solved) → IsReportOf text ask x s
+    ensures solutions { (text : PositionText) (ask : Ask) (x : Found) → IsAskInRange ask → IsPositionInRange text
+        → IsFoundGame (G.model g.now) ask x → (s : Solved) → IsReportOf text ask x s
+        → IsSolution (G.model g.now) text ask s.report }
+    ensures rows { (text : PositionText) (ask : Ask) (x : Found) → IsAskInRange ask → IsPositionInRange text
+        → IsFoundFor (G.model g.now) ask 0 x → (s : Solved) → IsReportOf text ask x s
         → IsSolvedGame (G.model g.now) text ask s }
 {}
 

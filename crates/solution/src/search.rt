@@ -7,13 +7,13 @@ ghost use Rattle.solution.specs.Solutions.{IsSolvedGame};
 
 use crate::report::{Solved, report_of};
 use certificate::{Ask, PositionText};
-use lazy_workers::{Found, find, find_alone};
+use lazy_workers::{Budgets, Found, find, find_alone};
 use oracle_search::Gate;
 use sim_game::{Game, NoMemory};
 use std::alloc::Global;
 use std::thread::Threads;
 
-/// Searches the game by so many workers as asked, and reports what was found. The caller does the work of a single
+/// Searches the game by double oracle and so many workers as asked, and reports what was found. The caller does the work of a single
 /// worker, and of one whose thread cannot be started.
 pub fn solve<R: Threads + Sync, G: Game + Send + Sync, T: Gate + Sync>(
     rt: &R,
@@ -29,7 +29,8 @@ where
     requires position { IsPositionInRange position }
     ensures { IfOk result (IsSolvedGame (G.model g) position ask.now) }
 {
-    let found = find(rt, alloc, g, ask, gate)?;
+    let budgets = Budgets::whole(alloc, ask)?;
+    let found = find(rt, alloc, g, ask, budgets, gate)?;
     report_for(alloc, &g, found, position, ask)
 }
 
@@ -45,7 +46,8 @@ pub fn solve_alone<G: Game, T: Gate>(
     requires position { IsPositionInRange position }
     ensures { IfOk result (IsSolvedGame (G.model g) position ask.now) }
 {
-    let found = find_alone(alloc, g, ask, gate)?;
+    let budgets = Budgets::whole(alloc, ask)?;
+    let found = find_alone(alloc, g, ask, budgets, gate)?;
     report_for(alloc, &g, found, position, ask)
 }
 
@@ -59,7 +61,7 @@ fn report_for<G: Game>(
 ) -> Result<Solved, NoMemory>
     requires ask { IsAskInRange ask.now }
     requires position { IsPositionInRange position }
-    requires found { IsFoundFor (G.model g.now) ask.now found }
+    requires found { IsFoundFor (G.model g.now) ask.now 0 found }
     ensures { IfOk result (IsSolvedGame (G.model g.now) position ask.now) }
 {
     report_of(alloc, found, position, ask)

@@ -316,9 +316,11 @@ class Solver:
     def _refusal(self, words: list[str], given: bytes, status: int, text: str,
                  told: str) -> DosolveError:
         if status == 2 and text.startswith("input "):
-            if text == "input 13 unknown field" and b'"stages":' in given:
+            unknown = [f"field `{name}`: ask {name}={absent!r}" for name, absent in
+                       (("search", "oracle"), ("stages", "regret")) if f'"{name}":'.encode() in given]
+            if text == "input 13 unknown field" and unknown:
                 return InputRefusedError(text, "the program is older than this package, and has no "
-                                               "field `stages`: ask stages='regret'")
+                                               f"{unknown[0]}")
             if text in ("input 15 range of pay", "input 15 range of states"):
                 # The package has refused what no program takes.
                 return InputRefusedError(text, "the program is older than this package, and does "
@@ -372,10 +374,12 @@ def _step(position: Position, report: Report | None, seconds: float) -> Progress
 def _most_turns(position: Position, states: int | None) -> int | None:
     """The most turns that a search can take, where that is known and says something. One worker
     with linear stages makes at most three sweeps, each of at most a turn for each state and for
-    each turn that is left in the game; several workers share the states, and each may take all."""
+    each turn that is left in the game; several workers share the states, and each may take all.
+    Induction takes at most as many turns for each state before."""
     limits = [position.turns] if position.turns < _MANY_TURNS else []
     if position.stages == "linear" and position.workers == 1 and states is not None:
-        limits.append(_SWEEPS * (states + position.game.root().rank))
+        before = _SWEEPS * states if position.search == "induction" else 0
+        limits.append(before + _SWEEPS * (states + position.game.root().rank))
     return position.workers * min(limits) if limits else None
 
 

@@ -1,6 +1,4 @@
 use Rattle.std.proofs.Common.{Ok}
-use Rattle.solution.specs.Solutions.{IsSolution, IsSolvedGame}
-use Rattle.position.proofs.GameLemmas.{of_game_weaker}
 use Rattle.commands.proofs.FindLemmas.{found_gap, found_solution}
 use Rattle.commands.proofs.solve.search_task.Goals as goal
 
@@ -13,12 +11,11 @@ pub returns-clause-found : goal.returns-clause-found
 returns-clause-found g c =
     let ask = c.args.task.ask in let text = c.args.task.text in let x = c.in_ok-found.found in let s = c.in_ok-solved.solved in
     let found = c.requires.find.finds c.game.result ask (Ok x) c.in_ok-found.ensures in
-    let solved = found_solution c.game.result ask x found text s c.game.ensures c.requires.ask c.requires.text c.in_ok-solved.ensures in
-    of_game_weaker text (λ S m. IsSolvedGame m text ask s) (λ S m. IsSolution m text ask s.report) (λ S m is. is.solution) solved
+    found_solution c.game.result ask x found text s c.game.ensures c.requires.ask c.requires.text c.in_ok-solved.ensures
 
 pub returns-clause-in_range : goal.returns-clause-in_range
 returns-clause-in_range g c =
     let ask = c.args.task.ask in let text = c.args.task.text in let x = c.in_ok-found.found in let s = c.in_ok-solved.solved in
     let found = c.requires.find.finds c.game.result ask (Ok x) c.in_ok-found.ensures in
     let solved = found_solution c.game.result ask x found text s c.game.ensures c.requires.ask c.requires.text c.in_ok-solved.ensures in
-    solved.2.solution.in_range
+    solved.2.in_range

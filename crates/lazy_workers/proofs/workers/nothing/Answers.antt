@@ -1,4 +1,3 @@
-use Rattle.std.proofs.Common.{rules, ◌≡◌, length}
 use Rattle.lazy_workers.proofs.WorkerLemmas.{nothing_searched}
 use Rattle.lazy_workers.proofs.workers.nothing.Goals as goal
 
@@ -6,7 +5,5 @@ pub returns-clause-searched : goal.returns-clause-searched
 returns-clause-searched g c =
     let m = g.G.Game.model c.args.g in
     let game = g.met.G.Game.lawful c.args.g in
-    let inv = c.loop-worker.invariant in
-    let count : length c.loop-worker.turns.items ≡ c.args.ask.now.workers = search rules in
-    rw (c.new-2.ensures.entries, c.from_vec.ensures, c.new-3.ensures.items, c.from_vec-2.ensures)
-    (nothing_searched m game c.args.ask.now c.requires.end c.requires.ask.gap.0 c.loop-worker.turns.items count inv.1)
+    rw (c.new.ensures.entries, c.from_vec.ensures, c.new-2.ensures.items, c.from_vec-2.ensures)
+    (nothing_searched m game c.args.ask.now c.args.budgets.most c.requires.end c.requires.ask.gap.0 c.args.budgets.turns.items c.requires.turns)

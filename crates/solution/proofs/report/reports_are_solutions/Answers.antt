@@ -1,5 +1,10 @@
-use Rattle.solution.proofs.ReportLemmas.{solved_game}
+use Rattle.solution.proofs.ReportLemmas.{found_solution, solved_game}
 use Rattle.solution.proofs.report.reports_are_solutions.Goals as goal
 
-pub returns : goal.returns
-returns g c = λ text ask x asks place found s is. solved_game (g.G.Game.model c.args.g.now) ask x found text s is (g.met.G.Game.lawful c.args.g.now) asks place
+pub returns-clause-solutions : goal.returns-clause-solutions
+returns-clause-solutions g c = λ text ask x asks place found s is.
+    found_solution (g.G.Game.model c.args.g.now) ask x found text s is (g.met.G.Game.lawful c.args.g.now) asks place
+
+pub returns-clause-rows : goal.returns-clause-rows
+returns-clause-rows g c = λ text ask x asks place found s is.
+    solved_game (g.G.Game.model c.args.g.now) ask x found text s is (g.met.G.Game.lawful c.args.g.now) asks place

@@ -1,0 +1,193 @@
+//! Induction: serial searches of the root first, then plans that floats propose and exact sums certify.
+
+ghost use Rattle.std.specs.Prelude.{◌≡◌, ◌≤◌, ◌⊎◌, ◌-ℤ◌, ◌<ℤ◌, ◌≤ℤ◌, true, unsigned_abs, MatchBool, IfOk};
+ghost use Rattle.fields.specs.Ranges.{IsAskInRange};
+ghost use Rattle.fields.specs.declared.ask.SearchMethod.TheVariants.{Induction};
+ghost use Rattle.plan_book.specs.Sheets.{root_bound};
+ghost use Rattle.induction.specs.Induced.{IsSheetOf};
+ghost use Rattle.induction.specs.Spent.{HasSpentEach};
+ghost use Rattle.lazy_workers.specs.Findings.{found_gap, IsFoundPlan, IsFoundGame};
+ghost use Rattle.game_search.specs.Steps.{found_with, IsPureFound, AreFoundPlans, IsStepOf};
+
+use crate::plan::{BothPlans, Plan};
+use crate::step::{Left, Step};
+use fields::Ask;
+use induction::solve;
+use lazy_workers::{Budgets, Found, find_alone};
+use matrix_game::Turns;
+use oracle_search::Gate;
+use plan_book::Sheet;
+use seq::Seq;
+use sim_game::{Game, NoMemory, Side};
+use std::alloc::Global;
+
+/// Searches the game by pure plans of the root, and where these are not close enough by induction.
+pub(crate) fn induce<G: Game, T: Gate>(
+    alloc: Global,
+    g: G,
+    ask: &Ask,
+    gate: &T,
+) -> Result<Step, NoMemory>
+    requires ask { IsAskInRange ask.now }
+    requires search { ask.now.search ≡ Induction }
+    ensures { IfOk result (IsStepOf (G.model g) ask.now) }
+{
+    let pure = pure_plans(alloc, g, ask, gate)?;
+    if is_near(pure.lower, pure.upper, ask.gap) {
+        Ok(Step::Found(unspent(alloc, g, ask, pure)?))
+    } else {
+        proposed(alloc, g, ask, pure)
+    }
+}
+
+/// What the serial searches of the root find, without a turn.
+fn pure_plans<G: Game, T: Gate>(alloc: Global, g: G, ask: &Ask, gate: &T) -> Result<Found, NoMemory>
+    requires { IsAskInRange ask.now }
+    ensures { IfOk result (IsPureFound (G.model g) ask.now) }
+{
+    let mut first = *ask;
+    first.turns = 0;
+    first.workers = 1;
+    let budgets = Budgets::whole(alloc, &first)?;
+    find_alone(alloc, g, &first, budgets, gate)
+}
+
+/// What was found without a turn, where that is close enough.
+fn unspent<G: Game>(alloc: Global, g: G, ask: &Ask, pure: Found) -> Result<Found, NoMemory>
+    requires ask { IsAskInRange ask.now }
+    requires pure { IsPureFound (G.model g) ask.now pure }
+    requires near { found_gap pure ≤ℤ ask.now.gap }
+    ensures { IfOk result (IsFoundGame (G.model g) ask.now) }
+{
+    let budgets = Budgets::whole(alloc, ask)?;
+    let mut found = pure;
+    found.turns = Seq::from_vec(budgets.turns);
+    Ok(found)
+}
+
+/// The plans of an induction, or the pure ones where these are better; and what is left to do if they are too far apart.
+fn proposed<G: Game>(alloc: Global, g: G, ask: &Ask, pure: Found) -> Result<Step, NoMemory>
+    requires ask { IsAskInRange ask.now }
+    requires search { ask.now.search ≡ Induction }
+    requires pure { IsPureFound (G.model g) ask.now pure }
+    requires far { ask.now.gap <ℤ found_gap pure }
+    ensures { IfOk result (IsStepOf (G.model g) ask.now) }
+{
+    let Found {
+        lower,
+        upper,
+        resolution,
+        one,
+        two,
+        ..
+    } = pure;
+    let pure = BothPlans {
+        one: Plan {
+            sheet: one,
+            bound: lower,
+        },
+        two: Plan {
+            sheet: two,
+            bound: upper,
+        },
+    };
+    let mut turns = Turns::new(ask.turns);
+    let plans = better_plans(alloc, g, ask, pure, &mut turns);
+    let budgets = Budgets::begun(alloc, ask, turns)?;
+    if is_enough(plans.one.bound, plans.two.bound, ask.gap, resolution) {
+        Ok(Step::Found(found_of(alloc, plans, resolution, budgets)))
+    } else {
+        Ok(Step::Left(Left { plans, budgets }))
+    }
+}
+
+/// The plans that an induction finds with the turns of one worker, or those given where these are better.
+fn better_plans<G: Game>(
+    alloc: Global,
+    g: G,
+    ask: &Ask,
+    pure: BothPlans,
+    turns: &mut Turns,
+) -> BothPlans
+    requires ask { IsAskInRange ask.now }
+    requires pure { AreFoundPlans (G.model g) ask.now (Unit {0}) pure }
+    ensures plans { AreFoundPlans (G.model g) ask.now (turns.new.spent ≡ 0) result }
+    ensures spent { HasSpentEach (G.model g) 3 turns.old turns.new }
+    ensures within { turns.new.spent ≤ turns.new.limit }
+{
+    let found = solve(alloc, g, ask.weight, u64::from(ask.rows), turns);
+    let spent = turns.spent();
+    match found {
+        Ok(Some(found)) => BothPlans {
+            one: chosen(g, Side::One, ask, spent, pure.one, found.one, found.lower),
+            two: chosen(g, Side::Two, ask, spent, pure.two, found.two, found.upper),
+        },
+        Ok(None) => pure,
+        Err(NoMemory) => pure,
+    }
+}
+
+/// The better plan of a side, the one held or that of an induction, which needs a turn and no more rows than are asked.
+fn chosen<G: Game>(
+    g: G,
+    side: Side,
+    ask: &Ask,
+    spent: u64,
+    held: Plan,
+    sheet: Sheet,
+    bound: i64,
+) -> Plan
+    requires ask { IsAskInRange ask.now }
+    requires held { IsFoundPlan (G.model g) ask.now (Unit {0}) side held.sheet held.bound }
+    requires sheet { IsSheetOf (G.model g) side ask.now.weight sheet }
+    requires bound { bound ≡ root_bound (G.model g) sheet }
+    ensures { IsFoundPlan (G.model g) ask.now (spent ≡ 0) side result.sheet result.bound }
+{
+    if spent == 0 {
+        return held;
+    }
+    if sheet.rows.len() > ask.rows as usize {
+        return held;
+    }
+    held.better(side, Plan { sheet, bound })
+}
+
+/// Whether bounds are no further apart than the gap.
+fn is_near(lower: i64, upper: i64, gap: i64) -> bool
+    requires lower { unsigned_abs lower ≤ 4000000000 }
+    requires upper { unsigned_abs upper ≤ 4000000000 }
+    ensures { MatchBool result ((upper -ℤ lower) ≤ℤ gap) (gap <ℤ (upper -ℤ lower)) }
+{
+    upper - lower <= gap
+}
+
+/// Whether bounds are no further apart than the gap asked, or than the resolution.
+fn is_enough(lower: i64, upper: i64, asked: i64, resolution: i64) -> bool
+    requires lower { unsigned_abs lower ≤ 4000000000 }
+    requires upper { unsigned_abs upper ≤ 4000000000 }
+    ensures { result ≡ true → ((upper -ℤ lower) ≤ℤ asked) ⊎ ((upper -ℤ lower) ≤ℤ resolution) }
+{
+    if is_near(lower, upper, asked) {
+        return true;
+    }
+    is_near(lower, upper, resolution)
+}
+
+/// What was found by plans that are close enough.
+fn found_of(alloc: Global, plans: BothPlans, resolution: i64, budgets: Budgets) -> Found
+    ensures { result ≡ found_with plans resolution budgets.turns.items }
+{
+    let turns = Seq::from_vec(budgets.turns);
+    let kept = Seq::from_vec(Vec::new(alloc));
+    let BothPlans { one, two } = plans;
+    Found {
+        lower: one.bound,
+        upper: two.bound,
+        resolution,
+        one: one.sheet,
+        two: two.sheet,
+        turns,
+        kept,
+        was_full: false,
+    }
+}

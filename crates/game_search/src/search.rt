@@ -1,0 +1,137 @@
+//! The search of a game, with threads or by the caller alone.
+
+ghost use Rattle.std.specs.Prelude.{◌≡◌, IfOk, MatchBool, All};
+ghost use Rattle.fields.specs.Ranges.{IsAskInRange};
+ghost use Rattle.fields.specs.declared.ask.SearchMethod.TheVariants.{Induction};
+ghost use Rattle.lazy_workers.specs.Findings.{IsFoundFor, IsFoundGame};
+ghost use Rattle.game_search.specs.Steps.{IsUnfinished};
+
+use crate::induced::induce;
+use crate::plan::{BothPlans, Plan};
+use crate::step::{Left, Step};
+use fields::{Ask, SearchMethod};
+use lazy_workers::{Budgets, Found};
+use matrix_game::Turns;
+use oracle_search::Gate;
+use sim_game::{Game, NoMemory, Side};
+use std::alloc::Global;
+use std::thread::Threads;
+
+/// Searches the game by the method that is asked, double oracle by so many workers as asked: the caller does the work of a
+/// single worker, and of one whose thread cannot be started.
+pub fn find<R: Threads + Sync, G: Game + Send + Sync, T: Gate + Sync>(
+    rt: &R,
+    alloc: Global,
+    g: G,
+    ask: &Ask,
+    gate: &T,
+) -> Result<Found, NoMemory>
+where
+    G::State: Send + Sync,
+    requires { IsAskInRange ask.now }
+    ensures { IfOk result (IsFoundGame (G.model g) ask.now) }
+{
+    match ask.search {
+        SearchMethod::Oracle => {
+            let budgets = Budgets::whole(alloc, ask)?;
+            let found = lazy_workers::find(rt, alloc, g, ask, budgets, gate)?;
+            Ok(whole(g, ask, found))
+        }
+        SearchMethod::Induction => match induce(alloc, g, ask, gate)? {
+            Step::Found(found) => Ok(found),
+            Step::Left(Left { plans, budgets }) => {
+                let most = budgets.most;
+                let found = lazy_workers::find(rt, alloc, g, ask, budgets, gate)?;
+                Ok(bettered(g, ask, plans, found, most))
+            }
+        },
+    }
+}
+
+/// As `find`, but the caller does the work of each worker, one after the other. It starts no thread.
+pub fn find_alone<G: Game, T: Gate>(
+    alloc: Global,
+    g: G,
+    ask: &Ask,
+    gate: &T,
+) -> Result<Found, NoMemory>
+    requires { IsAskInRange ask.now }
+    ensures { IfOk result (IsFoundGame (G.model g) ask.now) }
+{
+    match ask.search {
+        SearchMethod::Oracle => {
+            let budgets = Budgets::whole(alloc, ask)?;
+            let found = lazy_workers::find_alone(alloc, g, ask, budgets, gate)?;
+            Ok(whole(g, ask, found))
+        }
+        SearchMethod::Induction => match induce(alloc, g, ask, gate)? {
+            Step::Found(found) => Ok(found),
+            Step::Left(Left { plans, budgets }) => {
+                let most = budgets.most;
+                let found = lazy_workers::find_alone(alloc, g, ask, budgets, gate)?;
+                Ok(bettered(g, ask, plans, found, most))
+            }
+        },
+    }
+}
+
+/// What was found by double oracle alone.
+fn whole<G: Game>(g: G, ask: &Ask, found: Found) -> Found
+    requires { IsFoundFor (G.model g) ask.now 0 found }
+    ensures { IsFoundGame (G.model g) ask.now result }
+{
+    found
+}
+
+/// What was found by double oracle, with the plans of the induction where these are better.
+fn bettered<G: Game>(g: G, ask: &Ask, plans: BothPlans, found: Found, most: u64) -> Found
+    requires search { ask.now.search ≡ Induction }
+    requires left { IsUnfinished (G.model g) ask.now plans most }
+    requires found { IsFoundFor (G.model g) ask.now most found }
+    ensures { IsFoundGame (G.model g) ask.now result }
+{
+    if is_idle(found.turns.as_slice()) {
+        return found;
+    }
+    let Found {
+        lower,
+        upper,
+        resolution,
+        one,
+        two,
+        turns,
+        kept,
+        was_full,
+    } = found;
+    let one = plans.one.better(
+        Side::One,
+        Plan {
+            sheet: one,
+            bound: lower,
+        },
+    );
+    let two = plans.two.better(
+        Side::Two,
+        Plan {
+            sheet: two,
+            bound: upper,
+        },
+    );
+    Found {
+        lower: one.bound,
+        upper: two.bound,
+        resolution,
+        one: one.sheet,
+        two: two.sheet,
+        turns,
+        kept,
+        was_full,
+    }
+}
+
+/// Whether no worker has spent a turn.
+fn is_idle(turns: &[Turns]) -> bool
+    ensures { MatchBool result (All (λ t. t.spent ≡ 0) turns.now) (All (λ t. t.spent ≡ 0) turns.now → ⊥) }
+{
+    turns.iter().all(|own| own.spent() == 0)
+}

@@ -316,8 +316,9 @@ class Solver:
     def _refusal(self, words: list[str], given: bytes, status: int, text: str,
                  told: str) -> DosolveError:
         if status == 2 and text.startswith("input "):
-            unknown = [f"field `{name}`: ask {name}={absent!r}" for name, absent in
-                       (("search", "oracle"), ("stages", "regret")) if f'"{name}":'.encode() in given]
+            newer = (("search", "oracle"), ("stages", "regret"))
+            unknown = [f"field `{name}`: ask {name}={absent!r}" for name, absent in newer
+                       if f'"{name}":'.encode() in given]
             if text == "input 13 unknown field" and unknown:
                 return InputRefusedError(text, "the program is older than this package, and has no "
                                                f"{unknown[0]}")

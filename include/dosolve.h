@@ -48,8 +48,8 @@ enum { DOSOLVE_ONE = 0, DOSOLVE_TWO = 1 };
  * as tests found it. The length in `size` tells in any case. */
 #define DOSOLVE_ROOM 4096
 
-/* Solves the position of the input, JSON of at most 1048576 bytes: the text of a report with bounds of the value and a
- * plan of each side. */
+/* Solves the position of the input, JSON of at most 1048576 bytes, a table with linear stages of 67108864: the text of a
+ * report with bounds of the value and a plan of each side. */
 uint32_t dosolve_solve(const uint8_t *input, size_t count, uint8_t *output, size_t room, uint64_t *size);
 
 /* Verifies the report of the input, at most 1073741824 bytes, or 4294967296 where it begins with the first line of version 3. */
@@ -72,7 +72,7 @@ uint32_t dosolve_sample(uint32_t number, uint8_t *output, size_t room, uint64_t 
  *
  * These calls read a position or a report too, and give numbers in place of a text. Statuses: those of `solve` for
  * dosolve_root; else DOSOLVE_DONE, DOSOLVE_USAGE (no such side, no such number of games), DOSOLVE_FULL (dosolve_replies and
- * dosolve_worst: a plan comes to more than 1048576 states), DOSOLVE_NO_MEMORY and DOSOLVE_REPORT. dosolve_root writes with
+ * dosolve_worst: a plan comes to too many states), DOSOLVE_NO_MEMORY and DOSOLVE_REPORT. dosolve_root writes with
  * DOSOLVE_DONE, DOSOLVE_SETTLED, DOSOLVE_SPENT and DOSOLVE_FULL, the other calls with DOSOLVE_DONE alone; else nothing is
  * written. Why a position is refused dosolve_bounds tells, why a report dosolve_check. The room of an array is told in items;
  * it is filled as far as there is room, and what stands behind stays as it was. A plan need not be lawful: dosolve_check tells

@@ -24,7 +24,7 @@ from .files import (
     aside, naming, read_position, read_report, read_table, require_other, require_output, with_gap,
 )
 from .games.game import SCALE, SIDES, AnyGame, Field, Side
-from .limits import MOST_ROWS
+from .limits import WIDE
 from .players.loading import load_player
 from .players.measuring import Measured, measure, plan_of, solved_text
 from .players.tournaments import tournament
@@ -626,7 +626,7 @@ def _asked(words: Namespace) -> Asked:
 def _counted(game: AnyGame) -> int | str | None:
     """How many states with moves a game has, where it counts them."""
     count = game.count_states()
-    return f"more than {MOST_ROWS}" if count is not None and count > MOST_ROWS else count
+    return f"more than {WIDE.rows}" if count is not None and count > WIDE.rows else count
 
 
 def _tell_size(position: Position) -> None:

@@ -66,7 +66,7 @@ class RefusedError(DosolveError):
 _NAMED: dict[int, str | int] = {
     12: -1, 14: -1, 15: -1, 16: "game", 21: 4, 22: 4, 24: "prizes", 25: "score", 31: "size",
     33: "least", 34: "place", 71: "nodes", 72: "edges", 73: "edges", 74: "edges", 75: -1,
-    76: "rounds",
+    76: "rounds", 91: "weight",
 }
 _FIELDS = _NAMED | {code: "states" for code in range(81, 91)}
 
@@ -74,12 +74,14 @@ _TABLE = {
     81: "the lists of the game's line do not fit each other",
     82: "a table has at least one state, its root",
     83: "a payoff has to be from -4000 to 4000",
-    84: "a state that is no end has to have 1 to 32 rows, one for each move of One",
-    85: "the rows of a state have to be equally long, with 1 to 32 cells",
+    84: "a state that is no end has to have 1 to 32 rows (with linear stages 64), one for each "
+        "move of One",
+    85: "the rows of a state have to be equally long, with 1 to 32 cells (with linear stages 64)",
     86: "a cell has to have 1 to 13 draws",
     87: "the weights of a cell's draws have to be from 1, and to sum to 360360",
     88: "a cell has to lead to states that stand behind its own, and are there",
-    89: "from a state at most 31 turns can be played, and its rank is that of the longest way",
+    89: "from a state at most 31 turns can be played (with linear stages 63), and its rank is that "
+        "of the longest way",
     90: "what One can still get from a state on has to be from -4000 to 4000",
 }
 """What the rules of tables ask for, by the numbers of their refusals."""

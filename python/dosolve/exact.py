@@ -12,7 +12,7 @@ from itertools import repeat
 
 from .errors import InvalidError
 from .games.game import CHANCE, SCALE, SIDES, AnyGame, Side, State, other
-from .limits import MOST_ROWS
+from .limits import MOST_WIDE_ROWS
 from .players.sheets import Row, Sheet
 
 Followed = Callable[[State], tuple[Sequence[int], Sequence[int]]]
@@ -48,7 +48,7 @@ class Graph:
         return sorted(range(len(ranks)), key=ranks.__getitem__)
 
 
-def walk(game: AnyGame, followed: Followed, most: int = MOST_ROWS) -> Graph:
+def walk(game: AnyGame, followed: Followed, most: int = MOST_WIDE_ROWS) -> Graph:
     """The states that moves that are followed, and any draws, reach from the root."""
     graph, index = Graph(), {}
     inner = 0

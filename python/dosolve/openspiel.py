@@ -185,7 +185,7 @@ def load_game(text: str) -> AnyGame:
     `oshi_zumo(coins=10,min_bid=1)`.
 
     What the program does not have is refused with the reason: hidden bids, a first prize that is
-    drawn, more than 31 coins, bids of 0. OpenSpiel numbers the cards from 0, here an action is the
+    drawn, more than 63 coins, bids of 0. OpenSpiel numbers the cards from 0, here an action is the
     card itself.
     """
     found = re.fullmatch(r"\s*(\w+)\s*(?:\((.*)\))?\s*", text)

@@ -5,6 +5,7 @@ from __future__ import annotations
 import json
 import math
 import os
+import re
 from collections.abc import Mapping
 from dataclasses import dataclass, replace
 from pathlib import Path
@@ -17,12 +18,12 @@ from .games.oshi_zumo import OshiZumo
 from .games.pursuit import Pursuit
 from .games.tron import Tron
 from .limits import (
-    LEAST_WEIGHT, MOST_DEPTH, MOST_GAP, MOST_POSITION_BYTES, MOST_ROWS, MOST_TURNS, MOST_WEIGHT,
-    MOST_WORKERS,
+    FEW_VISITS, LEAST_WEIGHT, LEAST_WIDE_WEIGHT, MOST_DEPTH, MOST_GAP, MOST_TURNS, MOST_WEIGHT,
+    MOST_WIDE_WIDTH, MOST_WORKERS, NARROW, WIDE, Limits, limits_of, up_to,
 )
 from .tables.names import require_names, save_names, with_names
 from .tables.table import Table
-from .values import FilePath, Record, as_field, cut, shorten
+from .values import FilePath, Record, as_field, cut, is_whole, shorten
 
 if TYPE_CHECKING:
     from .reports import Report
@@ -33,11 +34,20 @@ _KINDS: tuple[type[AnyGame], ...] = (
 GAMES = {kind.name: kind for kind in _KINDS}
 """The games by the names that positions and reports have for them."""
 
+
+class _Rows(Field):
+    """The field `rows`, whose range is that of the limits."""
+
+    def within(self, limits: Limits) -> Field:
+        about = "" if limits is WIDE else f"with linear stages to {WIDE.rows}"
+        return replace(self, high=limits.rows, about=about)
+
+
 ASKED = (
     Field("gap", 0, MOST_GAP, about="millionths of a payoff"),
     Field("weight", LEAST_WEIGHT, MOST_WEIGHT),
-    Field("turns", 0, MOST_TURNS), Field("visits", 0, MOST_TURNS), Field("rows", 1, MOST_ROWS),
-    Field("workers", 1, MOST_WORKERS),
+    Field("turns", 0, MOST_TURNS), Field("visits", 0, MOST_TURNS),
+    _Rows("rows", 1, WIDE.rows), Field("workers", 1, MOST_WORKERS),
     Field("stages", choices=("regret", "linear"), absent="regret"),
     Field("search", choices=("oracle", "induction"), absent="oracle"),
 )
@@ -48,7 +58,11 @@ differ from it."""
 Asked = Mapping[str, Any]
 """What is asked of the solver, by the names of `ASKED`."""
 
+_ODD_NUMBER = re.compile(rb"-0|[0-9]{19}")
+"""What each number has that is not read as `int` reads it."""
+
 _DEFAULT = cast(int, None)
+_WORD = cast(str, None)
 
 
 @dataclass(frozen=True)
@@ -59,27 +73,32 @@ class Position:
     - `weight`: what the weights of a row sum to (8192 to 1048576); more is finer.
     - `turns`: the budget of matrix games of each worker; a search that runs out of them has few
       bounds or none.
-    - `visits`: the budget of states that each worker's serial searches may enter.
+    - `visits`: the budget of states that each worker's serial searches may enter; left out, 100000
+      with induction, else the most.
     - `rows`: the states that the board has room for; left out, twice as many as the game can
-      have, where that is known, else the most.
+      have, at most 16777216 with linear stages; 1048576 at most with others, and where the game
+      does not count its states or has more.
     - `workers`: the threads, which share one search; left out, one for each processor, at most
       16. One worker gives the same report, byte by byte, each time.
     - `stages`: how matrix games are solved, `linear` (linear programs: fast, small gaps) or
-      `regret` (rounds of regret matching).
+      `regret` (rounds of regret matching). Linear stages give the wide limits too
+      (`dosolve.limits`).
     - `search`: how the game is searched, `oracle` (double oracle) or `induction` (each state once,
       children first; then double oracle, where that is not enough). Where nearly every state
-      matters, as in Goofspiel, induction takes less time and far less memory.
+      matters, as in Goofspiel, induction takes less time and far less memory. Left out, it is
+      induction with linear stages where the board has a row for each state, as far as the game
+      counts them; else, and for Tron, double oracle.
     """
 
     game: AnyGame
     gap: int = 0
     weight: int = MOST_WEIGHT
     turns: int = MOST_TURNS
-    visits: int = MOST_TURNS
+    visits: int = _DEFAULT
     rows: int = _DEFAULT
     workers: int = _DEFAULT
     stages: str = "linear"
-    search: str = "oracle"
+    search: str = _WORD
 
     def __post_init__(self) -> None:
         if type(self.game) not in _KINDS:
@@ -88,14 +107,46 @@ class Position:
                     if isinstance(self.game, State) else "")
             raise InvalidError(f"the program has the games {', '.join(GAMES)}, and "
                                f"{cut(repr(self.game), 60)} is none of them{hint}")
-        if self.rows is None:
-            rows = min(MOST_ROWS, max(1, 2 * self.game.most_states))
-            object.__setattr__(self, "rows", rows)
-        if self.workers is None:
-            object.__setattr__(self, "workers", min(MOST_WORKERS, processors()))
         for field in ASKED:
             object.__setattr__(self, field.name, as_field(getattr(self, field.name)))
-            field.refuse(getattr(self, field.name))
+        for name, fitting in (("rows", self._fitting_rows), ("search", self._fitting_search),
+                              ("visits", self._fitting_visits), ("workers", _fitting_workers)):
+            if getattr(self, name) is None:
+                object.__setattr__(self, name, fitting())
+        for field in ASKED:
+            field.within(self.limits).refuse(getattr(self, field.name))
+        if self.game.is_wide and self.limits is NARROW:
+            self.game.refuse_beyond(NARROW)
+        self._require_weight()
+
+    @property
+    def limits(self) -> Limits:
+        """The limits that the position has, by its stages."""
+        return limits_of(self.stages)
+
+    def _fitting_rows(self) -> int:
+        """The rows of a board for all states of the game, or those of a board that opens at once
+        where they are not counted, or too many."""
+        limits = NARROW if isinstance(self.game, Tron) else self.limits
+        most = limits.rows if self.game.fits(limits.rows) else NARROW.rows
+        return min(most, max(1, 2 * self.game.most_states))
+
+    def _fitting_search(self) -> str:
+        """Induction for a game that counts its states, and a board that has room for them."""
+        counted = self.limits is WIDE and not isinstance(self.game, Tron) and is_whole(self.rows)
+        return "induction" if counted and self.game.fits(self.rows) else "oracle"
+
+    def _fitting_visits(self) -> int:
+        """Those of serial searches that are worth their time."""
+        return FEW_VISITS if self.search == "induction" else MOST_TURNS
+
+    def _require_weight(self) -> None:
+        """Refuses a weight that is too small for linear stages of so many moves."""
+        moves = self.game.most_moves
+        if self.limits is WIDE and moves > MOST_WIDE_WIDTH and self.weight < LEAST_WIDE_WEIGHT:
+            raise InputRefusedError("input 91 weight", (
+                f"the weight {self.weight} has to be from {LEAST_WIDE_WEIGHT} in a game of up to "
+                f"{moves} moves a side, which are more than {MOST_WIDE_WIDTH}"))
 
     def text(self) -> str:
         """The position as one line of JSON."""
@@ -103,10 +154,12 @@ class Position:
         entries |= {field.name: getattr(self, field.name) for field in ASKED
                     if field.absent is None or getattr(self, field.name) != field.absent}
         text = json.dumps(entries, separators=(",", ":")) + "\n"
-        if len(text) > MOST_POSITION_BYTES:
+        table = isinstance(self.game, Table)
+        if len(text) > (self.limits if table else NARROW).bytes:
+            most = up_to(self.limits, "bytes") if table else NARROW.bytes
             raise InputRefusedError("input 50 too long",
                                     f"{self.game.title()} has a text of {len(text)} bytes, and "
-                                    f"{MOST_POSITION_BYTES} are possible")
+                                    f"{most} are possible")
         return text
 
     @classmethod
@@ -132,10 +185,14 @@ class Position:
 
         What the program refuses is refused as the program does it, but for what is asked: where
         budgets are left out, `absent` and then the defaults of `Position` fill them in, with
-        `stages` too. A text that has all that the program requires means what it means there, so
-        that without `stages` it asks for `regret`.
+        `stages` and `search` too. A text that has all that the program requires means what it means
+        there, so that without `stages` it asks for `regret`, and without `search` for `oracle`.
         """
-        entries = _entries(data) | dict(asked or {})
+        entries, size = _entries(data)
+        entries |= dict(asked or {})
+        given = _filled(entries, absent)
+        limits = limits_of(given.get("stages", cls.stages))
+        _require_size(size, entries, limits)
         game = _game(entries)
         unknown = sorted(set(entries) - {"game"} - {each.name for each in (*game.settings, *ASKED)})
         if unknown:
@@ -145,15 +202,11 @@ class Position:
                                     f"fields are game, {names}")
         for field in (*game.settings, *ASKED):
             if field.name in entries:
-                field.refuse(entries[field.name])
+                field.within(limits).refuse(entries[field.name])
             elif field not in ASKED:
                 raise InputRefusedError(f"input 12 missing {field.name}", _missing(game, entries))
         settings = [entries[field.name] for field in game.settings]
-        whole = all(field.name in entries for field in ASKED if field.absent is None)
-        given: dict[str, Any] = {field.name: field.absent for field in ASKED if whole}
-        given |= dict(absent or {})
-        given |= {field.name: entries[field.name] for field in ASKED if field.name in entries}
-        return cls(game(*settings), **given)
+        return cls(game.within(limits, *settings), **given)
 
     @classmethod
     def load(cls, path: FilePath, asked: Asked | None = None) -> Position:
@@ -167,6 +220,11 @@ class Position:
         require_names(self.game, path)
         Path(path).write_text(self.text())
         save_names(self.game, path)
+
+
+def _fitting_workers() -> int:
+    """A worker for each processor."""
+    return min(MOST_WORKERS, processors())
 
 
 def processors() -> int:
@@ -194,6 +252,23 @@ def looks_like_path(data: bytes | str) -> bool:
             and not data.lstrip().startswith(("{", "[")))
 
 
+def _filled(entries: Record, absent: Asked | None) -> dict[str, Any]:
+    """What the fields of a text ask, with what stands for those that it leaves out, as far as
+    `Position` does not fill them in."""
+    whole = all(field.name in entries for field in ASKED if field.absent is None)
+    given: dict[str, Any] = {field.name: field.absent for field in ASKED if whole}
+    given |= dict(absent or {})
+    return given | {field.name: entries[field.name] for field in ASKED if field.name in entries}
+
+
+def _require_size(size: int, entries: Record, limits: Limits) -> None:
+    """Refuses a text that is too long for what it tells."""
+    table = entries.get("game") == Table.name
+    if size > (limits if table else NARROW).bytes:
+        most = up_to(limits, "bytes") if table else NARROW.bytes
+        raise InputRefusedError("input 50 too long", f"{size} bytes are more than {most}")
+
+
 def _game(entries: Record) -> type[AnyGame]:
     if "game" not in entries:
         raise InputRefusedError("input 12 missing game", f"it is one of {', '.join(GAMES)}")
@@ -212,18 +287,29 @@ def _missing(game: type[AnyGame], entries: Record) -> str:
     return f"the position lacks {names}"
 
 
-def _entries(data: bytes | str) -> Record:
-    """The fields of the JSON object that the program sees in these bytes."""
+def _entries(data: bytes | str) -> tuple[Record, int]:
+    """The fields of the JSON object that the program sees in these bytes, and how many they are."""
     if not isinstance(data, (bytes, str)):
         raise InvalidError(f"read takes a text, not {shorten(data)}; load takes a path")
     encoded = data.encode("utf-8", "surrogatepass") if isinstance(data, str) else data
-    if len(encoded) > MOST_POSITION_BYTES:
+    if len(encoded) > WIDE.bytes:
         raise InputRefusedError("input 50 too long",
-                                f"{len(encoded)} bytes are more than {MOST_POSITION_BYTES}")
+                                f"{len(encoded)} bytes are more than {WIDE.bytes}")
     try:
-        value = json.loads(encoded.decode(), parse_int=_integer, parse_float=_float,
-                           parse_constant=_refuse)
-        json.dumps(value, ensure_ascii=False).encode()
+        return _parsed(data, encoded), len(encoded)
+    except InputRefusedError:
+        _require_size(len(encoded), {}, NARROW)
+        raise
+
+
+def _parsed(data: bytes | str, encoded: bytes) -> Record:
+    """The fields of the JSON object in these bytes."""
+    try:
+        # Long texts of plain numbers are read by the parser's own functions.
+        value = json.loads(encoded.decode(), parse_float=_float, parse_constant=_refuse,
+                           parse_int=_integer if _ODD_NUMBER.search(encoded) else None)
+        if b"\\u" in encoded:
+            json.dumps(value, ensure_ascii=False).encode()
     except (ValueError, RecursionError) as fault:
         raise InputRefusedError("input 10 not json", _syntax(data, encoded, fault)) from None
     if _depth(value) > MOST_DEPTH:

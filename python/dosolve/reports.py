@@ -15,9 +15,8 @@ from .exact import steps
 from .games.game import CHANCE, SCALE, SIDES, AnyGame, Side, State, other, side_of
 from .games.python_game import PythonGame
 from .limits import (
-    LEAST_WEIGHT, MOST_BOUND, MOST_GAP, MOST_KEY, MOST_MOVES, MOST_REPORT_BYTES, MOST_RESOLUTION,
-    MOST_ROWS, MOST_TURNS, MOST_WEIGHT, MOST_WIDE_MOVES, MOST_WIDE_REPORT_BYTES, MOST_WIDE_ROWS,
-    MOST_WORKERS, NEWEST_VERSION,
+    LEAST_WEIGHT, MOST_BOUND, MOST_GAP, MOST_KEY, MOST_REPORT_BYTES, MOST_RESOLUTION, MOST_TURNS,
+    MOST_WEIGHT, MOST_WIDE_REPORT_BYTES, MOST_WORKERS, NARROW, NEWEST_VERSION, WIDE, Limits,
 )
 from .players.sheets import Row, Sheet
 from .positions import GAMES, looks_like_path
@@ -139,9 +138,8 @@ class Report:
     def version(self) -> int:
         """The version of the report's form: the first that has its game, or the newest where no
         other tells the game, or a plan of so many rows."""
-        wide = max(len(self.one.rows), len(self.two.rows)) > MOST_ROWS
-        new = wide or self.game.is_new(self.game.line_values())
-        return NEWEST_VERSION if new else self.game.version
+        wide = max(len(self.one.rows), len(self.two.rows)) > NARROW.rows
+        return NEWEST_VERSION if wide or self.game.is_new else self.game.version
 
     @property
     def interval(self) -> tuple[Fraction, Fraction]:
@@ -191,17 +189,18 @@ class Report:
                          "of players")
         if "rows" in self.used_up:
             rows = f" of {self.board} rows" if self.board else ""
-            most = self.board == MOST_ROWS
+            most = self.board == WIDE.rows
+            linear = " with linear stages" if self.board == NARROW.rows else ""
             found.append(f"the board{rows} had no row left" + (
                 more or (": that is the most that is possible" if most else
-                         f": more rows can narrow the gap{self._counted()}")))
+                         f": more rows can narrow the gap{linear}{self._counted()}")))
         return (*found, *table_notes(self.game))
 
     def _more_notes(self) -> str:
         """Why neither seconds nor rows help, where that is known."""
         if self.gap <= self.asked or self.game.fits() is not False:
             return ""
-        return (f": the game has more than {MOST_ROWS} states, the most that a board has room for, "
+        return (f": the game has more than {WIDE.rows} states, the most that a board has room for, "
                 f"so that neither more seconds nor more rows give more than wide bounds")
 
     def _counted(self) -> str:
@@ -562,13 +561,11 @@ class _Reader:
         line.require(line.fields[0] == b"spent" and 2 <= len(line.fields) <= MOST_WORKERS + 1)
         return tuple(line.spelled(field, 0, MOST_TURNS) for field in line.fields[1:])
 
-    def rows(self, side: Side, version: int) -> Iterator[Row]:
-        newest = version == NEWEST_VERSION
-        most = MOST_WIDE_MOVES if newest else MOST_MOVES
+    def rows(self, side: Side, limits: Limits) -> Iterator[Row]:
         before = -1
-        for _ in range(self.named(side, 0, MOST_WIDE_ROWS if newest else MOST_ROWS)):
+        for _ in range(self.named(side, 0, limits.rows)):
             line = self.line()
-            line.require(1 <= len(line.fields) - 2 <= most)
+            line.require(1 <= len(line.fields) - 2 <= limits.moves)
             key = line.spelled(line.fields[0], 0, MOST_KEY)
             bound = line.spelled(line.fields[1], -MOST_BOUND, MOST_BOUND)
             weights = tuple(line.spelled(field, 0, MOST_WEIGHT) for field in line.fields[2:])
@@ -588,6 +585,7 @@ class _Reader:
 
     def report(self) -> Report:
         version = self.head()
+        limits = WIDE if version == NEWEST_VERSION else NARROW
         kind, settings = self.game(version)
         numbers = (self.named("weight", LEAST_WEIGHT, MOST_WEIGHT),
                    self.named("turns", 0, MOST_TURNS), self.named("asked", 0, MOST_GAP),
@@ -596,13 +594,13 @@ class _Reader:
         bounds = (self.named("lower", -MOST_BOUND, MOST_BOUND),
                   self.named("upper", -MOST_BOUND, MOST_BOUND))
         spent = self.spent()
-        one, two = tuple(self.rows("one", version)), tuple(self.rows("two", version))
+        one, two = tuple(self.rows("one", limits)), tuple(self.rows("two", limits))
         end = self.line()
         end.require(end.fields == [b"end"])
         if self.at < len(self.data):
             raise ReportRefusedError("report tail", "something follows the line `end`")
         try:
-            game = kind.of_line(*settings)
+            game = kind.of_line(*settings, limits=limits)
         except InputRefusedError as refusal:
             raise ReportRefusedError(f"report position {refusal.code}", refusal.hint) from None
         sheets = (Sheet(game, "one", numbers[0], one), Sheet(game, "two", numbers[0], two))

@@ -30,7 +30,8 @@ def tables():
 def main(folder, *options):
     """Writes the files."""
     for name, table in tables().items():
-        position = dosolve.Position(table, workers=1)
+        # By the search that all versions of the program have.
+        position = dosolve.Position(table, workers=1, search="oracle")
         position.save(Path(folder, f"{name}.json"))
         if "--reports" in options:
             report = dosolve.solve(position)

@@ -245,7 +245,7 @@ class Steps(unittest.TestCase):
             last = steps[-1]
             self.assertEqual((last.lower, last.upper, last.turns), (report.lower, report.upper, sum(report.spent)))
             self.assertEqual(last.states, sum(not state.is_end for state in position.game.states()))
-            self.assertEqual(last.most, 3 * (last.states + 4))
+            self.assertEqual(last.most, 3 * (2 * last.states + 4))
             self.assertEqual(last.share, Fraction(last.turns, last.most))
             self.assertIn(f"{last.turns} of at most {last.most} turns for {last.states} states", str(last))
 

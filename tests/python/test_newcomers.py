@@ -286,7 +286,7 @@ class PythonGames(unittest.TestCase):
         self.assertEqual(len(Table.from_game(ours).listing), len(Table.from_game(theirs).listing))
 
     def test_more_moves_than_a_report_can_have_are_measured(self):
-        game = Bids(60)
+        game = Bids(70)
         plans = [dosolve.plan(game, side, lambda state, side=side: {state.moves(side)[-1]: 1}, 8192)
                  for side in dosolve.SIDES]
         self.assertEqual(dosolve.respond(plans[0]).value, -1)
@@ -294,7 +294,7 @@ class PythonGames(unittest.TestCase):
         self.assertEqual(dosolve.live_match(game, *plans, games=5).mean, 0)
         for call, words in ((lambda: dosolve.Report.of(*plans), "no report is on a game that is written"),
                             (lambda: dosolve.Position(game), "Table.from_game makes a table of it"),
-                            (lambda: Table.from_game(game), "60 by 60 moves")):
+                            (lambda: Table.from_game(game), "70 by 70 moves")):
             with self.assertRaisesRegex(dosolve.InvalidError, words):
                 call()
 

@@ -39,10 +39,11 @@ class OpenSpiel(unittest.TestCase):
                          dosolve.Goofspiel([1, 2, 3], [1, 2, 3], [3, 2, 1]))
         self.assertEqual(load("goofspiel(points_order=ascending)").pay, "win")
         self.assertEqual(load("oshi_zumo(coins=10,min_bid=1)"), dosolve.OshiZumo(3, 10, 10, 1))
+        self.assertEqual(load("oshi_zumo(min_bid=1)"), dosolve.OshiZumo(3, 50, 50, 1))
         for text, words in (("goofspiel", "points_order=random is not what"), ("chess", "none of"),
                             ("goofspiel(imp_info=True,points_order=ascending)", "imp_info=True"),
                             ("goofspiel(cards=3)", "no parameter 'cards'"),
-                            ("oshi_zumo", "coin range: 50 coins"),
+                            ("oshi_zumo(coins=64)", "coin range: 64 coins"),
                             ("oshi_zumo(coins=9)", "least range: the least bid 0"),
                             ("oshi_zumo(coins=x)", "has to be a whole number")):
             with self.assertRaisesRegex(dosolve.DosolveError, words):

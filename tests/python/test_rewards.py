@@ -129,7 +129,8 @@ class Prizes(unittest.TestCase):
             self.assertEqual([inner] * 2, [drawn.count_states(), drawn.most_states])
         deck = range(1, 14)
         self.assertEqual(dosolve.Goofspiel(deck, deck, deck, 0, "prizes").most_states, 10_400_599)
-        self.assertIs(dosolve.Goofspiel(deck, deck, deck, 0, "prizes").fits(), False)
+        self.assertIs(dosolve.Goofspiel(deck, deck, deck, 0, "prizes").fits(), True)
+        self.assertIs(dosolve.Goofspiel(deck, deck, deck, 0, "prizes").fits(1_048_576), False)
 
     def test_the_value_is_that_of_the_margin(self):
         source = random.Random(3)
@@ -202,13 +203,13 @@ class Versions(unittest.TestCase):
 
     def test_lines_of_the_newest_version_have_wide_ranges(self):
         count = 1_100_000
-        kind, narrow = Table, Table.line_settings(2)
-        self.assertTrue(kind.is_new([(0,) * count, *[()] * 4]))
-        self.assertFalse(kind.is_new([(0,), (0, 0), (5,), (), ()]))
+        narrow = Table.line_settings(2)
+        self.assertFalse(narrow[0].takes((0,) * count))
+        self.assertTrue(Table.line_settings(3)[0].takes((0,) * count))
+        self.assertFalse(Table([5]).is_new)
+        self.assertTrue(Table([1] * 524_289).is_new)
         for place, value in ((0, (524_289,)), (1, (256,)), (2, (1_000_001,)), (3, (1_048_576,)), (4, (1_048_576,))):
-            values = [(0,)] * 5
-            values[place] = value
-            self.assertEqual((len(narrow), kind.is_new(values)), (5, True))
+            self.assertEqual((len(narrow), narrow[place].takes(value)), (5, False))
             self.assertEqual(Table.line_settings(3)[place].takes(value), place != 1)
 
 
@@ -385,7 +386,7 @@ class Markov(unittest.TestCase):
 
     def test_what_is_no_markov_game(self):
         for words, given in (
-                ("rounds is 0", ([[[1]]], [[[0]]], 0)), ("rounds is 32", ([[[1]]], [[[0]]], 32)),
+                ("rounds is 0", ([[[1]]], [[[0]]], 0)), ("rounds is 64", ([[[1]]], [[[0]]], 64)),
                 ("stages is 5, and has to be a dict", (5, [[[0]]], 1)), ("stages is 'x'", ("x", [[[0]]], 1)),
                 ("transitions is .., and", ([[[1]]], [], 1)), ("1 is no stage of both", ([[[1]]], [[[0]], [[0]]], 1)),
                 ("'b' is no stage of both", ({"a": [[1]], "b": [[1]]}, {"a": [["a"]]}, 1)),
@@ -679,7 +680,7 @@ class Shown(unittest.TestCase):
             asked.append(node)
             return (range(4), range(4)) if node[0] else None
 
-        with mock.patch("dosolve.tables.making.MOST_POSITION_BYTES", 10_000), \
+        with mock.patch("dosolve.tables.making.WIDE", mock.Mock(bytes=10_000)), \
                 self.assertRaisesRegex(NoTableError, "more than 10000 bytes"):
             Table.from_functions((5, 0), moves, lambda node, one, two: (node[0] - 1, 16 * node[1] + 4 * one + two),
                                  reward=lambda node, one, two: one - two)

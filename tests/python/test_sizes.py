@@ -10,7 +10,7 @@ from unittest import mock
 
 import dosolve
 from dosolve.__main__ import main
-from dosolve.limits import MOST_POSITION_BYTES, MOST_ROWS
+from dosolve.limits import NARROW, WIDE
 from support import TOP, random_game
 
 HAND = tuple(range(1, 14))
@@ -43,15 +43,17 @@ class Counts(unittest.TestCase):
 
     def test_counts_of_the_pages(self):
         for game, count in ((goofspiel(6), 7625), (goofspiel(7), 39_167), (goofspiel(8), 194_175),
-                            (goofspiel(5, dosolve.GoofspielDrawn), 16_721)):
-            self.assertEqual(game.count_states(), count)
+                            (goofspiel(5, dosolve.GoofspielDrawn), 16_721),
+                            (goofspiel(7, dosolve.GoofspielDrawn), 2_611_895)):
+            self.assertEqual((game.count_states(), game.fits()), (count, True))
 
     def test_what_no_board_has_room_for_is_known_soon(self):
         since = time.process_time()
-        for game in (*map(goofspiel, (10, 11, 12, 13)),
+        for game in (*map(goofspiel, (11, 12, 13)),
                      *(goofspiel(cards, dosolve.GoofspielDrawn) for cards in (8, 10, 13))):
-            self.assertEqual((game.count_states(), game.fits()), (MOST_ROWS + 1, False))
+            self.assertEqual((game.count_states(), game.fits()), (WIDE.rows + 1, False))
         self.assertLess(time.process_time() - since, 10)
+        self.assertEqual((goofspiel(10).fits(), goofspiel(9).fits(NARROW.rows // 2)), (True, False))
         self.assertIs(goofspiel(6).fits(), True)
         self.assertIsNone(dosolve.Tron(6, 6, [], 0, 35).fits())
 
@@ -72,7 +74,7 @@ class Counts(unittest.TestCase):
               mock.patch("dosolve.solver.program.Solver.solve", lambda *_, **__: vacuous(large.game)),
               contextlib.redirect_stdout(io.StringIO())):
             self.assertEqual(main(["solve", "x.json"]), 0)
-        self.assertIn("the game has more than 1048576 states with moves, and a board has room for "
+        self.assertIn("the game has more than 16777216 states with moves, and a board has room for "
                       "no more: only wide bounds are possible", errors.getvalue())
 
 
@@ -82,11 +84,13 @@ class Notes(unittest.TestCase):
         for game, more, wanted, never in (
                 (large, {"stopped": "time"}, "neither more seconds nor more rows", "can narrow"),
                 (small, {"stopped": "time"}, "the time was up: more seconds can narrow the gap", "x"),
-                (large, {"outcome": "full", "board": MOST_ROWS}, "neither more seconds", "can narrow"),
+                (large, {"outcome": "full", "board": NARROW.rows}, "neither more seconds", "can narrow"),
                 (small, {"outcome": "full", "board": 100}, r"the board of 100 rows had no row left: "
                  r"more rows can narrow the gap \(7625 states need one each\)", "neither"),
-                (unknown, {"outcome": "full", "board": MOST_ROWS}, "left: that is the most that is "
+                (unknown, {"outcome": "full", "board": WIDE.rows}, "left: that is the most that is "
                  "possible", "can narrow"),
+                (unknown, {"outcome": "full", "board": NARROW.rows}, "more rows can narrow the gap "
+                 "with linear stages$", "the most that"),
                 (unknown, {"outcome": "full", "board": 9}, "more rows can narrow the gap$", "need")):
             notes = vacuous(game, **more).notes()
             with self.subTest(more):
@@ -123,8 +127,9 @@ class Making(unittest.TestCase):
 
     def test_a_table_that_becomes_too_long_is_refused_soon(self):
         calls = []
-        with self.assertRaisesRegex(dosolve.NoTableError, r"the text of the position would have more "
-                                    r"than 1048576 bytes: \d+ for the first \d+ states, with \d+ pai"):
+        with (mock.patch("dosolve.tables.making.WIDE", NARROW),
+              self.assertRaisesRegex(dosolve.NoTableError, r"the text of the position would have more "
+                                     r"than 1048576 bytes: \d+ for the first \d+ states, with \d+ pai")):
             self.grid(60, calls)
         self.assertLess(len(calls), 30_000)
         self.assertGreater(len(self.grid(6, calls).listing), 500)
@@ -142,7 +147,7 @@ class Making(unittest.TestCase):
                 table = dosolve.Table.from_game(game)
             text = dosolve.Position(table, workers=1).text()
             self.assertLessEqual(max(sizes), len(text.partition('"gap"')[0]))
-        self.assertLess(len(text), MOST_POSITION_BYTES)
+        self.assertLess(len(text), NARROW.bytes)
 
     def test_progress_is_told(self):
         steps, clock = [], iter(range(10**6))

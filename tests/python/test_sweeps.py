@@ -1,6 +1,7 @@
 """Sweeps: in order, resumed, failures kept, nothing lost where a worker is killed, and nothing left
 running where a sweep is stopped."""
 import concurrent.futures
+import contextlib
 import dataclasses
 import importlib.util
 import json
@@ -150,9 +151,10 @@ class Sweeps(unittest.TestCase):
         killed = 0
         while not killed:
             for child in children(os.getpid()):
-                if str(self.folder).encode() in Path(f"/proc/{child}/cmdline").read_bytes():
-                    os.kill(child, signal.SIGKILL)
-                    killed += 1
+                with contextlib.suppress(FileNotFoundError, ProcessLookupError):  # It ended first.
+                    if str(self.folder).encode() in Path(f"/proc/{child}/cmdline").read_bytes():
+                        os.kill(child, signal.SIGKILL)
+                        killed += 1
         results += list(found)
         self.assertEqual([swept.number for swept in results], list(range(40)))
         self.assertEqual([swept.error for swept in results], [None] * 40)

@@ -99,8 +99,9 @@ class CommandLine(unittest.TestCase):
                 ("a.py", "import sys\ndef table(): sys.exit('no')", [], "raised SystemExit: no .*2"),
                 ("a.py", "raise SystemExit", [], "a.py raised SystemExit"),
                 ("a.py", "import dosolve\ndef table(): return dosolve.Table([[[1] * 32] * 32] + "
-                         "[[[1025] * 32] * 32] * 300 + [0] * 725)", [],
-                 "a.py: input 50 too long: table of .* bytes, and 1048576 are possible"),
+                         "[[[1025] * 32] * 32] * 300 + [0] * 725)", ["--stages", "regret"],
+                 r"a.py: input 50 too long: table of .* bytes, and 1048576 \(with linear stages "
+                 r"67108864\) are possible"),
                 ("a.nfg", "5", [], "is no file of Gambit, which begins with NFG or EFG: it begins with '5")):
             with self.subTest(pattern):
                 status, out, told = self.run_table(name, text, *words)

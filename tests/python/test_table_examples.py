@@ -23,7 +23,7 @@ class Examples(unittest.TestCase):
         for name, table in make_tables.tables().items():
             with self.subTest(name):
                 position = dosolve.Position.load(TOP / "examples" / f"{name}.json")
-                self.assertEqual(position, dosolve.Position(table, workers=1))
+                self.assertEqual(position, dosolve.Position(table, workers=1, search="oracle"))
                 self.assertEqual((position.game.state_names, position.game.scale),
                                  (table.state_names, table.scale))
                 for kept, made in zip(position.game.move_names, table.move_names):

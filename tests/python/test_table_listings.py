@@ -3,6 +3,7 @@ import json
 import pickle
 import random
 import unittest
+from unittest import mock
 
 import dosolve
 from dosolve import Table
@@ -110,27 +111,29 @@ class Refusals(unittest.TestCase):
     def test_ranges(self):
         for listing, words in (
                 ([1_000_001], r"states\[0\] is 1000001"), ([[[-1]]], "is -1"),
-                ([[[1_048_576]]], "from 0 to 1048575"), ([[[[[1, 2, 3, 4]]]]], "two numbers from 0"),
+                ([[[16_777_216]]], "from 0 to 16777215"), ([[[[[1, 2, 3, 4]]]]], "two numbers from 0"),
                 ([[[[[1, 360360, 1_000_001]]]], 0],
                  r"states\[0\]\[0\]\[0\]\[0\]\[2\] is 1000001, .* from -1000000 to 1000000"),
                 ([[[[[1, 360360, -1_000_001]]]], 0], "is -1000001"),
-                ([[[[[]]]]], "two numbers"), ([[[[[0, 1_048_576]]]]], "two numbers"),
+                ([[[[[]]]]], "two numbers"), ([[[[[0, 16_777_216]]]]], "two numbers"),
                 ([[[1]] * 256, 0], "at most 255 rows"), ([[[1] * 256], 0], "at most 255 rows"),
-                ([[[[[1, 1]] * 256]], 0], "at most 255 draws"),
-                ([0] * 524_289, "524289 states with 0 cells")):
+                ([[[[[1, 1]] * 256]], 0], "at most 255 draws")):
             self.refused(listing, "input 15 range of states", words)
+        with mock.patch("dosolve.tables.lists.MOST_WIDE_STATES", 5):
+            self.refused([0] * 6, "input 15 range of states", "6 states with 0 cells are more than 5")
+            self.refused([[[1] * 6], 0], "input 15 range of states", "2 states with 6 cells")
 
     def test_each_rule_in_order(self):
-        half, wide = [[1, 180180], [2, 180180]], [[1] * 33]
+        half, wide = [[1, 180180], [2, 180180]], [[1] * 65]
         for listing, text, words in (
                 ([], "82 no states", "at least one state"),
                 ([[[1]], 4001], "83 payoff range 1", "the payoff 4001 of the state 1"),
-                ([[[1]] * 33, 4000], "84 rows range 0", "1 to 32 rows"),
-                ([[], 4000], "84 rows range 0", "1 to 32 rows"),
+                ([[[1]] * 65, 4000], "84 rows range 0", "1 to 64 rows"),
+                ([[], 4000], "84 rows range 0", "1 to 64 rows"),
                 ([[[1]], [], 0], "84 rows range 1", "the state 1"),
                 ([[[1], [1, 1]], 0], "85 cells range 0", "equally many"),
-                ([[[], []], 0], "85 cells range 0", "1 to 32 cells"),
-                ([wide, 0], "85 cells range 0", "1 to 32 cells"),
+                ([[[], []], 0], "85 cells range 0", "1 to 64 cells"),
+                ([wide, 0], "85 cells range 0", "1 to 64 cells"),
                 ([[[1, []]], 0], "86 draws range 0 0 1", r"cell states\[0\]\[0\]\[1\] has 0 draws"),
                 ([[[[[1, 27720]] * 14]], 0], "86 draws range 0 0 0", "has 14 draws"),
                 ([[[1, 1], [1, [[1, 180180], [2, 180181]]]], 0, 1], "87 weights 0 1 1",
@@ -139,7 +142,7 @@ class Refusals(unittest.TestCase):
                 ([[[1], [0]], 0], "88 order 0 1 0", "leads to the state 0"),
                 ([[[1], [2]], 0], "88 order 0 1 0", "of the 2 that there are"),
                 ([[[half]], 0], "88 order 0 0 0", "leads to the state 2"),
-                ([*([[next_one]] for next_one in range(1, 33)), 0], "89 turns 0", "takes 32 turns"),
+                ([*([[next_one]] for next_one in range(1, 65)), 0], "89 turns 0", "takes 64 turns"),
                 ([[[[[1, 360360, 1]]]], 4000], "90 total 0", "can get from 4001 to 4001, and has to"),
                 ([[[[[2, 360360, 1]]]], [[[[2, 360360, -1]]]], -4000], "90 total 1", "-4001 to"),
                 ([[[2]], [[[[2, 360360, -1]]]], -4000], "90 total 1", "the state 1 on"),
@@ -149,7 +152,7 @@ class Refusals(unittest.TestCase):
             self.assertEqual((found.field, found.code), ("states", int(text.split()[0])))
             self.assertEqual(found.place, tuple(map(int, [word for word in text.split()[1:]
                                                           if word.isdecimal()])))
-        self.assertEqual(Table([*([[next_one]] for next_one in range(1, 32)), 0]).root().rank, 31)
+        self.assertEqual(Table([*([[next_one]] for next_one in range(1, 64)), 0]).root().rank, 63)
 
     def test_lists_that_do_not_fit(self):
         good = [(1, 0, 0), (2, 2, 0, 0, 0, 0), (0, 1, -1), (1, 2, 2, 1), ()]

@@ -33,7 +33,7 @@ class Making(unittest.TestCase):
         for given, words in (([[4001, 1]], "as large as 4001"),
                              ([[1], [1, 2]], "row 1 .* has the length 2, and row 0 has 1"),
                              ([], "the matrix is empty"), ([[]], "the matrix is empty"),
-                             ([[1] * 33], "1 by 33 moves"), (5, "a list of rows"),
+                             ([[1] * 65], "1 by 65 moves"), (5, "a list of rows"),
                              ([5], "a list of rows"), ([["x"]], "'x' is no payoff"),
                              ([[float("nan")]], "nan is no payoff"), ([[True]], "True is no"),
                              ([[0.1234567891234]], "near no fraction"), ([["1/0"]], "no payoff"),
@@ -57,8 +57,8 @@ class Making(unittest.TestCase):
         after = table.root().play(one="H", two="H").play(one="H", two="T")
         self.assertEqual((after.name, after.node), ("1 round left", 1))
         self.assertEqual((table.at(1), len(table.listing)), (after, 4))
-        self.assertEqual(Table.repeated([[1, -1], [-1, 1]], 31).root().rank, 31)
-        self.refused("rounds is 32, .* from 1 to 31", Table.repeated, [[1, -1], [-1, 1]], 32)
+        self.assertEqual(Table.repeated([[1, -1], [-1, 1]], 63).root().rank, 63)
+        self.refused("rounds is 64, .* from 1 to 63", Table.repeated, [[1, -1], [-1, 1]], 64)
         self.refused("rounds is 0", Table.repeated, [[1]], 0)
 
     def test_a_game_that_does_not_end_is_refused_at_once(self):
@@ -73,18 +73,18 @@ class Making(unittest.TestCase):
                       lambda node, one, two: [(node + draw, Fraction(1, 16))
                                               for draw in range(1, 17)]):
             asked.clear()
-            self.refused("goes on for more than 31 turns, at .*: let moves return None where it "
+            self.refused("goes on for more than 63 turns, at .*: let moves return None where it "
                          "ends$", Table.from_functions, 0, moves, after, int)
-            self.assertLessEqual(len(asked), 32)
+            self.assertLessEqual(len(asked), 64)
 
         def counted(turns, step=lambda node, one: node + 1):
             return Table.from_functions(0, lambda node: None if node >= turns else (["a", "b"], ["c"]),
                                         lambda node, one, two: step(node, one), lambda node: 0)
 
-        self.assertEqual(counted(31).root().rank, 31)
-        self.refused("more than 31 turns, at 31: let moves", counted, 32)
-        self.refused("takes up to 40 turns", counted, 40, lambda node, one: node + 1 + (one == "a"))
-        self.refused("more than 31 turns, at .*: a table has to end before", Table.from_openspiel,
+        self.assertEqual(counted(63).root().rank, 63)
+        self.refused("more than 63 turns, at 63: let moves", counted, 64)
+        self.refused("takes up to 80 turns", counted, 80, lambda node, one: node + 1 + (one == "a"))
+        self.refused("more than 63 turns, at .*: a table has to end before", Table.from_openspiel,
                      Nim(200))
 
     def test_chances_are_dealt_out(self):
@@ -156,7 +156,7 @@ class Making(unittest.TestCase):
                 ("not hashable", ([0], lambda n: None, None, len)),
                 ("not hashable", (0, lambda n: both, lambda n, a, b: {1}, int)),
                 (r"moves\(0\) is 5, and has to be", (0, lambda n: 5, None, int)),
-                ("33 by 1 moves", (0, lambda n: None if n else (range(33), [0]),
+                ("65 by 1 moves", (0, lambda n: None if n else (range(65), [0]),
                                    lambda n, a, b: 1, int)),
                 ("'x' is no payoff", (0, lambda n: None, None, lambda n: "x"))):
             self.refused(words, Table.from_functions, *given)

@@ -132,7 +132,8 @@ class Positions(unittest.TestCase):
     def test_defaults_serve(self):
         position = dosolve.Position(dosolve.Goofspiel([1, 3], [2, 3], [1, 1]))
         self.assertEqual((position.gap, position.weight, position.stages), (0, 1_048_576, "linear"))
-        self.assertEqual((position.turns, position.visits), (2**40, 2**40))
+        self.assertEqual((position.turns, position.visits, position.search), (2**40, 100_000, "induction"))
+        self.assertEqual(dosolve.Position(position.game, search="oracle").visits, 2**40)
         self.assertEqual(position.workers, min(16, dosolve.processors()))
         self.assertEqual(position.rows, 2 * position.game.most_states)
         thirteen = dosolve.Goofspiel(range(1, 14), range(1, 14), range(1, 14))
@@ -160,7 +161,8 @@ class Positions(unittest.TestCase):
                 self.assertNotEqual(found, said)
                 if not found.startswith("input "):
                     self.assertEqual(whole(found), whole(dosolve.Position.read(found).text()) | whole(text) | {
-                        "stages": json.loads(text).get("stages", "linear")})
+                        "stages": json.loads(text).get("stages", "linear"),
+                        "search": json.loads(text).get("search", dosolve.Position.read(found).search)})
                     told.add(0)
             elif run.returncode == 2:
                 self.assertEqual(found, said, text)

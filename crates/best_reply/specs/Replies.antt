@@ -3,7 +3,7 @@ use Rattle.std.specs.Prelude.{◌≡◌, ◌≢◌, ℕ, ◌+◌, ◌*◌, ◌<�
 use Rattle.std.specs.List.{Contains}
 use Rattle.sim_game.specs.declared.Side.{Side}
 use Rattle.sim_game.specs.declared.Side.TheVariants.{One, Two}
-use Rattle.sums.specs.declared.TheConstants.{MOST_BOUND}
+use Rattle.sums.specs.declared.TheConstants.{MOST_BOUND, MOST_MOVES}
 use Rattle.sums.specs.Sums.{sum_below}
 use Rattle.sim_game.specs.Sides.{IsNoTighter, IsTighter}
 
@@ -21,8 +21,8 @@ worth_in side cells cols weights reply = sum_below (length weights) (λ own. pos
 
 -- the table has a cell for each own move and each reply
 pub record IsPayoffTable (side : Side) (cells : List ℤ) (cols owns replies : ℕ) : Type 0 where
-  pub few_owns : owns ≤ 32
-  pub few_replies : replies ≤ 32
+  pub few_owns : owns ≤ MOST_MOVES
+  pub few_replies : replies ≤ MOST_MOVES
   pub each : (own reply : ℕ) → own < owns → reply < replies → cell_index side cols own reply < length cells
   pub small : (own reply : ℕ) → own < owns → reply < replies → unsigned_abs (cell_in side cells cols own reply) ≤ MOST_BOUND
 

@@ -3,7 +3,7 @@
 
 ghost use Rattle.std.specs.Prelude.{◌≡◌, ◌*◌, ◌/◌, ◌<◌, ◌≤◌, All, length, slice_index, pos, ◌*ℤ◌, unsigned_abs, IsTrue, IsFalse, MatchBool};
 ghost use Rattle.std.specs.List.{Contains};
-ghost use Rattle.sums.specs.declared.TheConstants.{MOST_WEIGHT, MOST_BOUND};
+ghost use Rattle.sums.specs.declared.TheConstants.{MOST_MOVES, MOST_WEIGHT, MOST_BOUND};
 ghost use Rattle.best_reply.specs.Replies.{IsPayoffTable, IsBestReply, IsBefore, IsBehind, cell_index, cell_in, worth_in};
 
 use sim_game::Side;
@@ -23,9 +23,9 @@ pub struct Reply {
 /// The cells stand row by row, in millionths of a payoff to One.
 pub fn reply_two(cells: &[i64], cols: u32, p: &[u32], held: &[u32]) -> Reply
     requires some_row { 1 ≤ length p.now }
-    requires few_rows { length p.now ≤ 32 }
+    requires few_rows { length p.now ≤ MOST_MOVES }
     requires some_col { 1 ≤ cols }
-    requires few_cols { cols ≤ 32 }
+    requires few_cols { cols ≤ MOST_MOVES }
     requires cells { length cells.now ≡ length p.now * cols }
     requires small { All (λ x. unsigned_abs x ≤ MOST_BOUND) cells.now }
     requires light { All (λ x. x ≤ MOST_WEIGHT) p.now }
@@ -40,10 +40,10 @@ pub fn reply_two(cells: &[i64], cols: u32, p: &[u32], held: &[u32]) -> Reply
 /// The cells stand row by row, in millionths of a payoff to One.
 pub fn reply_one(cells: &[i64], cols: u32, v: &[u32], held: &[u32]) -> Reply
     requires some_col { 1 ≤ cols }
-    requires few_cols { cols ≤ 32 }
+    requires few_cols { cols ≤ MOST_MOVES }
     requires weights { length v.now ≡ cols }
     requires some_row { cols ≤ length cells.now }
-    requires few_rows { length cells.now ≤ 32 * cols }
+    requires few_rows { length cells.now ≤ MOST_MOVES * cols }
     requires cells { length cells.now / cols * cols ≡ length cells.now }
     requires small { All (λ x. unsigned_abs x ≤ MOST_BOUND) cells.now }
     requires light { All (λ x. x ≤ MOST_WEIGHT) v.now }
@@ -80,7 +80,7 @@ fn comes_before(side: Side, best: Reply, sum: i64, fresh: bool) -> bool
 
 // Where the cell of an own move and a reply stands.
 fn cell_index(side: Side, cols: u32, own: u32, reply: u32) -> usize
-    requires cols { cols ≤ 32 }
+    requires cols { cols ≤ MOST_MOVES }
     ensures { result ≡ cell_index side cols own reply }
 {
     match side {
@@ -100,7 +100,7 @@ fn part(
     reply: u32,
 ) -> i64
     requires table { IsPayoffTable side cells.now cols (length weights.now) replies }
-    requires cols { cols ≤ 32 }
+    requires cols { cols ≤ MOST_MOVES }
     requires own { own < length weights.now }
     requires reply { reply < replies }
     requires light { All (λ x. x ≤ MOST_WEIGHT) weights.now }
@@ -114,7 +114,7 @@ fn part(
 // What the weights are worth against a reply.
 fn worth(side: Side, cells: &[i64], cols: u32, replies: u32, weights: &[u32], reply: u32) -> i64
     requires table { IsPayoffTable side cells.now cols (length weights.now) replies }
-    requires cols { cols ≤ 32 }
+    requires cols { cols ≤ MOST_MOVES }
     requires reply { reply < replies }
     requires light { All (λ x. x ≤ MOST_WEIGHT) weights.now }
     ensures { result ≡ worth_in side cells.now cols weights.now reply }
@@ -136,7 +136,7 @@ fn find_reply(
     held: &[u32],
 ) -> Reply
     requires table { IsPayoffTable side cells.now cols (length weights.now) replies }
-    requires cols { cols ≤ 32 }
+    requires cols { cols ≤ MOST_MOVES }
     requires some { 1 ≤ replies }
     requires light { All (λ x. x ≤ MOST_WEIGHT) weights.now }
     ensures { IsBestReply side (worth_in side cells.now cols weights.now) replies

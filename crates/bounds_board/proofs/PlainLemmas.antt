@@ -77,7 +77,7 @@ claim_full model g heads slots total entries plain key inner others = record {
   apart = λ row other k l h p q. plain.table.apart row other k p q;
 }
 
-pub few_rows : {S : Type 0} (m : GameModel S) (heads : List ℕ) (slots : List Slot) (total : ℕ) (entries : List Entry) → IsPlain m heads slots total entries → length slots ≤ 1048576
+pub few_rows : {S : Type 0} (m : GameModel S) (heads : List ℕ) (slots : List Slot) (total : ℕ) (entries : List Entry) → IsPlain m heads slots total entries → length slots ≤ 16777216
 few_rows m heads slots total entries plain = omega (arith, few_keys heads (keys_of slots) plain.table, plain.table.rows_high, length-map slots (λ (s : Slot). s.key))
 
 pub claim_later : {S G : Type 0} (model : G → GameModel S) (g : G) (heads : List ℕ) (slots : List Slot) (total : ℕ) (entries : List Entry) (head named : ℕ) (new : Slot)
@@ -115,6 +115,7 @@ module _ {S : Type 0} (m : GameModel S) (heads : List ℕ) (slots : List Slot) (
       let new : Slot = record { key = key; lower = lower; upper = upper } in
       let keys : keys_of (slots ++ new ∷ []) ≡ keys_of slots ++ key ∷ [] = map_push (λ (s : Slot). s.key) slots new in record {
         total_low = plain.total_low;
+        total_fine = plain.total_fine;
         total_high = plain.total_high;
         table = rw (keys, ← length-map slots (λ (s : Slot). s.key)) (table_claims heads (keys_of slots) plain.table key head free);
         inner = rw keys (All-push (IsInnerKey m) (keys_of slots) key plain.inner inner);
@@ -248,6 +249,7 @@ module _ {S : Type 0} (m : GameModel S) (game : IsGame m) (heads : List ℕ) (sl
       → IsPlain m heads (set slots row new) total (entries ++ e ∷ [])
   post_keeps v is lawful = record {
     total_low = plain.total_low;
+    total_fine = plain.total_fine;
     total_high = plain.total_high;
     table = rw keys_stay plain.table;
     inner = rw keys_stay plain.inner;

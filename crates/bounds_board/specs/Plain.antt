@@ -2,6 +2,7 @@
 use Rattle.std.specs.Prelude.{◌≡◌, ℕ, ◌≤◌, List, All, Contains, slice_get}
 use Rattle.sim_game.specs.declared.Side.{Side}
 use Rattle.sim_game.specs.Model.{GameModel}
+use Rattle.sim_game.specs.Resolution.{IsFineWeight}
 use Rattle.plan_book.specs.declared.Entry.{Entry}
 use Rattle.plan_book.specs.Books.{best_posted, IsClosed}
 use Rattle.bounds_board.specs.declared.slots.Slot.{Slot}
@@ -10,6 +11,7 @@ use Rattle.bounds_board.specs.Views.{BoardView, IsInnerKey}
 
 pub record IsPlain {S : Type 0} (m : GameModel S) (heads : List ℕ) (slots : List Slot) (total : ℕ) (entries : List Entry) : Type 0 where
   pub total_low : 8192 ≤ total
+  pub total_fine : IsFineWeight m total
   pub total_high : total ≤ 1048576
   pub table : IsHashTable heads (keys_of slots)
   pub inner : All (IsInnerKey m) (keys_of slots)

@@ -2,6 +2,7 @@
 use Rattle.std.specs.Prelude.{◌≡◌, ◌≢◌, ℕ, ◌+◌, ◌*◌, ◌/◌, ◌%◌, ◌<◌, ◌≤◌, ℤ, min, cond, Some, List, length, map, All, sum_by, slice_get, slice_index}
 use Rattle.sim_game.specs.declared.Side.{Side}
 use Rattle.sim_game.specs.declared.Side.TheVariants.{One, Two}
+use Rattle.sim_game.specs.declared.TheConstants.{MOST_ROWS}
 use Rattle.sim_game.specs.Sides.{better}
 use Rattle.plan_book.specs.Books.{same_side}
 use Rattle.bounds_board.specs.declared.slots.Slot.{Slot}
@@ -56,7 +57,7 @@ pub record IsProbed (heads : List ℕ) (key row : ℕ) : Type 0 where
 -- each row is found by its key
 pub record IsHashTable (heads keys : List ℕ) : Type 0 where
   pub rows_low : 1 ≤ length heads
-  pub rows_high : length heads ≤ 1048576
+  pub rows_high : length heads ≤ MOST_ROWS
   pub named : All (λ named. named ≤ length keys) heads
   pub one_each : taken heads ≡ length keys
   pub probed : (row key : ℕ) → slice_get keys row ≡ Some key → IsProbed heads key row

@@ -1,6 +1,7 @@
 //! What a search asks of a board.
 ghost use Rattle.std.specs.Prelude.{◌≡◌, ◌++◌, ◌∷◌, [], ℕ, ◌≤◌, Some, IfOk, IfErr, OnOk, OnErr, IsSome};
 ghost use Rattle.sim_game.specs.Model.{Reachable};
+ghost use Rattle.sim_game.specs.Resolution.{IsFineWeight};
 ghost use Rattle.bounds_board.specs.Views.{BoardView, IsLater, IsInnerKey, IsFull, IsPostable, IsRead, IsEnclosure, bound_in};
 ghost use Rattle.sim_game.specs.Sides.{IsNoTighter, opening_bound};
 
@@ -56,6 +57,7 @@ pub trait Bounds<G: Game> {
     fn total(&self) -> u32
         ensures total { result ≡ (view self.now).total }
         ensures low { 8192 ≤ result }
+        ensures fine { IsFineWeight (G.model (view self.now).game) result }
         ensures high { result ≤ 1048576 };
 
     /// The row that has the key, claimed if need be. It takes no memory.

@@ -1,5 +1,7 @@
 //! The board of one thread.
 ghost use Rattle.std.specs.Prelude.{◌≡◌, ℕ, ◌≤◌, [], All, Contains, IfOk, length, nat_eq};
+ghost use Rattle.sim_game.specs.declared.TheConstants.{MOST_ROWS};
+ghost use Rattle.sim_game.specs.Resolution.{IsFineWeight};
 ghost use Rattle.bounds_board.specs.Plain.{plain_view};
 
 use crate::bounds::{Bounds, Enclosure, Full};
@@ -48,8 +50,9 @@ impl<G: Game> PlainBoard<G> {
     /// is claimed.
     pub fn new(alloc: Global, game: G, rows: u32, total: u32) -> Result<PlainBoard<G>, NoMemory>
         requires rows_low { 1 ≤ rows }
-        requires rows_high { rows ≤ 1048576 }
+        requires rows_high { rows ≤ MOST_ROWS }
         requires total_low { 8192 ≤ total }
+        requires total_fine { IsFineWeight (G.model game) total }
         requires total_high { total ≤ 1048576 }
         ensures game { IfOk result (λ b. b.game ≡ game) }
         ensures rows { IfOk result (λ b. b.rows ≡ rows) }

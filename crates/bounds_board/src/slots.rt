@@ -1,5 +1,6 @@
 //! The rows of a plain board, and the heads by which a key's row is found.
 ghost use Rattle.std.specs.Prelude.{◌≡◌, ℕ, ◌+◌, ◌%◌, ◌≤◌, ◌<◌, ◌^◌, length, All};
+ghost use Rattle.sim_game.specs.declared.TheConstants.{MOST_ROWS};
 ghost use Rattle.bounds_board.specs.Slots.{head_after, keys_of, IsProbeEnd, IsMet};
 
 use sim_game::Side;
@@ -28,7 +29,7 @@ pub enum ProbeEnd {
 #[inline]
 fn home(key: u64, rows: u32) -> u32
     requires low { 1 ≤ rows }
-    requires high { rows ≤ 1048576 }
+    requires high { rows ≤ MOST_ROWS }
     ensures { result ≡ head_after rows key 0 }
 {
     let hash = key.wrapping_mul(0x9e37_79b9_7f4a_7c15) >> 32;
@@ -47,7 +48,7 @@ pub fn row_behind(row: u32, rows: u32) -> u32
 /// Looks for the key from its home on. A head is 0 while it is free, else 1 plus the number of a row.
 pub(crate) fn probe(heads: &[u32], slots: &[Slot], key: u64) -> ProbeEnd
     requires rows_low { 1 ≤ length heads.now }
-    requires rows_high { length heads.now ≤ 1048576 }
+    requires rows_high { length heads.now ≤ MOST_ROWS }
     requires named { All (λ named. named ≤ length slots.now) heads.now }
     ensures { IsProbeEnd heads.now (keys_of slots.now) key result }
 {

@@ -21,13 +21,13 @@ use Rattle.certificate.specs.Unread.{Unread}
 use Rattle.text.specs.Texts.{line_text, text_of}
 use Rattle.certificate.specs.Versions.{newest_version, game_version, has_game, limits_of, most_rows, most_moves, is_long, needs_newest, version_of}
 use Rattle.certificate.specs.Positions.{position_fields}
-use Rattle.fields.specs.declared.positions.Limits.{Limits}
-use Rattle.fields.specs.declared.positions.Limits.TheVariants.{Narrow, Wide}
+use Rattle.sim_game.specs.declared.Limits.{Limits}
+use Rattle.sim_game.specs.declared.Limits.TheVariants.{Narrow, Wide}
 use Rattle.fields.specs.declared.positions.PositionText.{PositionText}
 use Rattle.fields.specs.declared.positions.GameKind.TheVariants.{Goofspiel, OshiZumo, Tron, GoofspielDrawn, Pursuit, Table}
 use Rattle.fields.specs.Fields.{AllFit}
-use Rattle.fields.specs.Positions.{kind_of, kinds_of, values_of, is_narrow}
-use Rattle.fields.proofs.PositionLemmas.{within_wide, narrow_fits, fits_narrow}
+use Rattle.fields.specs.Positions.{kind_of, kinds_of, values_of, is_small, is_narrow}
+use Rattle.fields.proofs.PositionLemmas.{within_wide, narrow_fits, narrow_by_size}
 use Rattle.certificate.specs.Texts.{outcome_word, row_fields, sheet_lines, report_lines, report_text}
 use Rattle.fields.specs.Ranges.{Within, Between, IsPositionInRange}
 use Rattle.certificate.specs.Ranges.{IsRowInRange, IsSheetInRange, IsInRange}
@@ -565,18 +565,18 @@ own_version version k old e = eqb-true _ _ (left_of (game_version k == version) 
 not_long : (s : Sheet) → length s.rows ≤ most_rows Narrow → is_long s ≡ false
 not_long s few = grind arith
 
-own_below : (version : ℕ) (r : Report) → version ≤ 2 → IsOfVersion version r → version_of r ≡ version
-own_below version r old is =
+own_below : (version : ℕ) (r : Report) → version ≤ 2 → IsOfVersion version r → is_small r.position ≡ true → version_of r ≡ version
+own_below version r old is small =
     let narrow = old_limits version old in
     let Holds : Limits → Type 0 = λ limits. AllFit (kinds_of limits (kind_of r.position)) (values_of r.position) in
-    let place = fits_narrow r.position (subst Holds narrow is.position.values) in
+    let place : is_narrow r.position ≡ true = narrow_by_size r.position (subst Holds narrow is.position.values) ∙ small in
     let one = not_long r.one (subst (λ (limits : Limits). length r.one.rows ≤ most_rows limits) narrow is.one.few) in
     let two = not_long r.two (subst (λ (limits : Limits). length r.two.rows ≤ most_rows limits) narrow is.two.few) in
     rw (place, one, two) (own_version version (kind_of r.position) old is.position.game)
 
--- What is read under a lower version has that version.
-pub read_below : (version : ℕ) (u : Unread) (x : Report × Unread) → version ≤ 2 → report version u ≡ Ok x → version_of x.0 ≡ version
-read_below version u x old e = own_below version x.0 old ((report_law version).takes u x e).1
+-- What is read under a lower version has that version, unless its position is too large for the narrow rules.
+pub read_below : (version : ℕ) (u : Unread) (x : Report × Unread) → version ≤ 2 → report version u ≡ Ok x → is_small x.0.position ≡ true → version_of x.0 ≡ version
+read_below version u x old e small = own_below version x.0 old ((report_law version).takes u x e).1 small
 
 -- ---- how long a text can be
 

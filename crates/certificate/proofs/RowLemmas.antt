@@ -4,7 +4,7 @@ use Rattle.plan_book.specs.declared.SheetRow.{SheetRow}
 use Rattle.certificate.specs.declared.error.TextError.{TextError}
 use Rattle.certificate.specs.declared.error.TextError.TheVariants.{NoMemory}
 use Rattle.certificate.specs.Unread.{Unread}
-use Rattle.fields.specs.declared.positions.Limits.{Limits}
+use Rattle.sim_game.specs.declared.Limits.{Limits}
 use Rattle.certificate.specs.Readers.{◌>>=◌, Fails}
 use Rattle.certificate.specs.Reading.{next_row, rows}
 

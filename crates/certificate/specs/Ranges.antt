@@ -5,7 +5,7 @@ use Rattle.sim_game.specs.declared.Side.{Side}
 use Rattle.sim_game.specs.declared.Side.TheVariants.{One, Two}
 use Rattle.plan_book.specs.declared.Sheet.{Sheet}
 use Rattle.plan_book.specs.declared.SheetRow.{SheetRow}
-use Rattle.fields.specs.declared.positions.Limits.{Limits}
+use Rattle.sim_game.specs.declared.Limits.{Limits}
 use Rattle.certificate.specs.declared.report.Report.{Report}
 use Rattle.certificate.specs.Versions.{limits_of, most_rows, most_moves, version_of}
 use Rattle.fields.specs.Ranges.{Within, Between, IsPositionInRange}

@@ -8,7 +8,7 @@ use Rattle.fields.specs.declared.positions.PositionText.{PositionText}
 use Rattle.certificate.specs.declared.report.Outcome.{Outcome}
 use Rattle.certificate.specs.declared.report.Outcome.TheVariants.{Closed, Settled, Spent, Full}
 use Rattle.certificate.specs.declared.report.Report.{Report}
-use Rattle.fields.specs.declared.positions.Limits.{Limits}
+use Rattle.sim_game.specs.declared.Limits.{Limits}
 use Rattle.certificate.specs.Versions.{newest_version, limits_of, most_rows, most_moves, version_of}
 use Rattle.certificate.specs.Positions.{position}
 use Rattle.certificate.specs.Texts.{outcome_word}

@@ -16,8 +16,8 @@ mod writing;
 
 pub use error::TextError;
 pub use fields::{
-    ASK, ASKED, Absent, Ask, AskRow, Choices, Field, FieldKind, FieldRow, GameKind, LEAST, Limits,
-    Pay, PositionText, StageMethod, Value, Word,
+    ASK, ASKED, Absent, Ask, AskRow, Choices, Field, FieldKind, FieldRow, GameKind, LEAST, Pay,
+    PositionText, StageMethod, Value, Word,
 };
 pub use numbers::natural;
 pub use reading::{
@@ -25,4 +25,6 @@ pub use reading::{
     texts_are_short,
 };
 pub use report::{Outcome, Report};
+pub use sim_game::Limits;
+pub use version::limits_of;
 pub use writing::write;

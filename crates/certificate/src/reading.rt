@@ -1,7 +1,8 @@
 //! The report that a text spells.
 
-ghost use Rattle.std.specs.Prelude.{◌≡◌, ◌≤◌, ◌+◌, ◌*◌, ℕ, List, length, Ok, IfOk};
+ghost use Rattle.std.specs.Prelude.{◌≡◌, ◌≤◌, ◌+◌, ◌*◌, ℕ, true, List, length, Ok, IfOk};
 ghost use Rattle.certificate.specs.declared.report.Report.{Report};
+ghost use Rattle.fields.specs.Positions.{is_small};
 ghost use Rattle.fields.specs.Ranges.{IsPositionInRange};
 ghost use Rattle.certificate.specs.Ranges.{IsInRange};
 ghost use Rattle.certificate.specs.Texts.{report_text};
@@ -12,10 +13,9 @@ ghost use Rattle.certificate.specs.Reading.{Gives, outcome_of, outcome, outcome_
 use crate::lines::{Line, Lines};
 use crate::version::{NEWEST_VERSION, limits_of};
 use crate::{Outcome, Report, TextError};
-use fields::Limits;
 use plan_book::{Sheet, SheetRow};
 use seq::Seq;
-use sim_game::Side;
+use sim_game::{Limits, Side};
 use std::alloc::Global;
 
 impl Line<'_> {
@@ -209,10 +209,11 @@ pub fn reading_undoes_writing()
         → (bytes ≡ report_text r) × IsInRange r }
 {}
 
-/// Below version 3 what is read has the version that its text names, so no text is refused for that.
+/// Below version 3 what is read has the version that its text names, unless the narrow rules refuse its position. So no
+/// text is refused for its version alone.
 pub fn lower_versions_are_their_own()
     ensures { (version : ℕ) (u : Unread) (x : Report × Unread) → version ≤ 2
-        → report version u ≡ Ok x → version_of x.0 ≡ version }
+        → report version u ≡ Ok x → is_small x.0.position ≡ true → version_of x.0 ≡ version }
 {}
 
 /// How long the text of a report can be, in bytes: in all, and below version 3.

@@ -6,9 +6,9 @@ ghost use Rattle.certificate.specs.Reading.{Gives, row_line, rises, next_row, ro
 use crate::TextError;
 use crate::lines::Lines;
 use crate::version::{most_row_fields, most_rows};
-use fields::Limits;
 use plan_book::SheetRow;
 use seq::Seq;
+use sim_game::Limits;
 use std::alloc::Global;
 
 fn is_above(last: Option<u64>, key: u64) -> bool

@@ -4,8 +4,9 @@ ghost use Rattle.std.specs.Prelude.{◌≡◌, ◌+◌};
 ghost use Rattle.certificate.specs.Versions.{game_version, has_game, limits_of, most_rows, most_moves, is_long, needs_newest, version_of};
 
 use crate::Report;
-use fields::{GameKind, Limits};
+use fields::GameKind;
 use plan_book::Sheet;
+use sim_game::Limits;
 
 /// The newest version of reports; the first is 1.
 pub(crate) const NEWEST_VERSION: u32 = 3;
@@ -30,7 +31,8 @@ pub(crate) fn has_game(version: u32, game: GameKind) -> bool
     game_version(game) == version || version == NEWEST_VERSION
 }
 
-pub(crate) fn limits_of(version: u32) -> Limits
+/// The limits of reports of the version: wide from 3 on.
+pub fn limits_of(version: u32) -> Limits
     ensures { result ≡ limits_of version }
 {
     if version == NEWEST_VERSION {

@@ -43,7 +43,7 @@ pub(crate) fn worth<G: Game>(
     requires light { All (λ w. w ≤ 1048576) weights.now }
     requires reply { reply < (G.model g).moves (other_side sheet.now.side) s }
     ensures value { result ≡ worth_of (G.model g) sheet.now weights.now s reply }
-    ensures small { unsigned_abs result ≤ 402653184000000000 }
+    ensures small { unsigned_abs result ≤ 805306368000000000 }
 {
     let mut sum: i64 = 0;
     for own in 0..g.moves(sheet.side, s) {
@@ -64,7 +64,7 @@ fn cell<G: Game>(g: G, sheet: &Sheet, s: G::State, own: u32, reply: u32, recent:
     let side = sheet.side;
     let a = side.move_of_one(own, reply);
     let b = side.move_of_two(own, reply);
-    // A side has at most 32 moves.
+    // Most sides have at most 32 moves; the numbers of more share places.
     let number = own.wrapping_mul(32).wrapping_add(reply) as usize % NUMBERS;
     let mut sum: i64 = 0;
     for d in 0..g.draws(s, a, b) {

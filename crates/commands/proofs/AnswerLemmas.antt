@@ -25,17 +25,17 @@ of_one_report bytes r s P Q R by is it p q =
 
 module _ (side : Side) (bytes : List ℕ) where
   abbrev HasWorst : WorstCase → Report → (S : Type 0) → GameModel S → Type 0
-  HasWorst case r S m = IsWorstCase m (sheet_of side r) most_states case × IsWorst m (sheet_of side r)
+  HasWorst case r S m = IsWorstCase m (sheet_of side r) (most_states r) case × IsWorst m (sheet_of side r)
 
   abbrev IsLarge : Report → (S : Type 0) → GameModel S → Type 0
-  IsLarge r S m = HasMore m (sheet_of side r) most_states
+  IsLarge r S m = HasMore m (sheet_of side r) (most_states r)
 
   never_both : (r s : Report) (case : WorstCase) → report_in bytes ≡ Ok r → report_in bytes ≡ Ok s → OfGame r.position (HasWorst case r) → OfGame s.position (IsLarge s) → ⊥
-  never_both r s case is it p q = of_one_report bytes r s (HasWorst case) IsLarge ⊥ (λ S m game a b. few_or_more m (sheet_of side r) most_states case a.0 b) is it p q
+  never_both r s case is it p q = of_one_report bytes r s (HasWorst case) IsLarge ⊥ (λ S m game a b. few_or_more m (sheet_of side r) (most_states r) case a.0 b) is it p q
 
   pub one_exploited : (text other : List ℕ) (status state : ℕ) → IsExploited side bytes status text → IsExploited side bytes state other → (status ≡ state) × (text ≡ other)
   one_exploited _ _ _ _ (IsExploited.measured r a is p) (IsExploited.measured s b it q) =
-      let same : a.worth ≡ b.worth = of_one_report bytes r s (HasWorst a) (HasWorst b) (a.worth ≡ b.worth) (λ S m game x y. one_worth m game (sheet_of side r) most_states a b x.0 y.0) is it p q in
+      let same : a.worth ≡ b.worth = of_one_report bytes r s (HasWorst a) (HasWorst b) (a.worth ≡ b.worth) (λ S m game x y. one_worth m game (sheet_of side r) (most_states r) a b x.0 y.0) is it p q in
       (refl, ap (measured_text side) same)
   one_exploited _ _ _ _ (IsExploited.measured r a is p) (IsExploited.full s it q) = absurd (never_both r s a is it p q)
   one_exploited _ _ _ _ (IsExploited.measured r a is p) (IsExploited.unread g it) = absurd (cc (is, it))

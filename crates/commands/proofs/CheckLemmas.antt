@@ -7,7 +7,8 @@ use Rattle.certificate.specs.declared.error.TextError.TheVariants as unread
 use Rattle.certificate.specs.declared.report.Report.{Report}
 use Rattle.certificate.specs.Readers.{Fails}
 use Rattle.certificate.specs.Reading.{named_report}
-use Rattle.certificate.specs.Versions.{version_of}
+use Rattle.certificate.specs.Versions.{limits_of, version_of}
+pub use Rattle.position.proofs.LimitLemmas.{built_of}
 use Rattle.position.specs.declared.games.InputError.{InputError}
 use Rattle.position.specs.Games.{fault_of}
 use Rattle.commands.specs.declared.reports.ReportFault.TheVariants as faults
@@ -20,15 +21,15 @@ report_too_long bytes is = rw (lt-ltb (most_report bytes) (length bytes) (omega 
 
 module _ (bytes : List ℕ) (within : length bytes ≤ most_report bytes) where
   module _ (version : ℕ) (r : Report) (is : named_report bytes ≡ Ok (version, r)) where
-    pub report_built : fault_of r.position ≡ None → version_of r ≡ version → report_in bytes ≡ Ok r
+    pub report_built : fault_of (limits_of version) r.position ≡ None → version_of r ≡ version → report_in bytes ≡ Ok r
     unfolding report_in
     report_built none own = rw (le-ltb (most_report bytes) (length bytes) within, is, none, eq-eqb (version_of r) version own) refl
 
-    pub report_other : fault_of r.position ≡ None → version_of r ≢ version → report_in bytes ≡ Err (faults.Text unread.Head)
+    pub report_other : fault_of (limits_of version) r.position ≡ None → version_of r ≢ version → report_in bytes ≡ Err (faults.Text unread.Head)
     unfolding report_in
     report_other none other = rw (le-ltb (most_report bytes) (length bytes) within, is, none, eqb_other (version_of r) version other) refl
 
-    pub report_unbuilt : (e : InputError) → fault_of r.position ≡ Some e → report_in bytes ≡ Err (faults.Position e)
+    pub report_unbuilt : (e : InputError) → fault_of (limits_of version) r.position ≡ Some e → report_in bytes ≡ Err (faults.Position e)
     unfolding report_in
     report_unbuilt e some = rw (le-ltb (most_report bytes) (length bytes) within, is, some) refl
 

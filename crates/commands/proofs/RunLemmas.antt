@@ -2,6 +2,7 @@
 use Rattle.std.proofs.Common.{◌≡◌, ℕ, ◌+◌, List, length, Option, Result, Ok, Err, IfOk, nat_lt, true, refl}
 use Rattle.std.proofs.lemmas.Result.{IfOk-weaker}
 use Rattle.sim_game.specs.declared.NoMemory.{NoMemory}
+use Rattle.position.specs.declared.reading.TheConstants.{MOST_TABLE_BYTES}
 use Rattle.position.specs.declared.games.InputError.{InputError}
 use Rattle.position.specs.declared.games.InputError.TheVariants as errors
 use Rattle.position.specs.Position.{Fails, position_of, object_at}
@@ -40,6 +41,6 @@ pub fails_unless : (bytes : List ℕ) (e : InputError) → Fails e (position_of 
 fails_unless bytes errors.NoMemory is not = absurd (not refl)
 fails_unless bytes e is not = is
 
-pub too_long : (bytes : List ℕ) → length bytes ≡ 1048576 + 1 → position_of bytes ≡ Err errors.TooLong
+pub too_long : (bytes : List ℕ) → length bytes ≡ MOST_TABLE_BYTES + 1 → position_of bytes ≡ Err errors.TooLong
 unfolding position_of object_at
-too_long bytes is = let over : nat_lt 1048576 (length bytes) ≡ true = rw is refl in rw over refl
+too_long bytes is = let over : nat_lt MOST_TABLE_BYTES (length bytes) ≡ true = rw is refl in rw over refl

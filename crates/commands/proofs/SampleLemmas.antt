@@ -1,6 +1,6 @@
 -- The samples.
-use Rattle.std.proofs.Common.{◌≡◌, ℕ, ◌%◌, ◌<◌, ◌≤◌, pos, List, length, take, drop, leb, leb-true, true, None, Some, ◌⊎◌, inl, inr, refl, ap, arith}
-use Rattle.std.proofs.Math.Nat.{mod-lt}
+use Rattle.std.proofs.Common.{◌≡◌, ℕ, ◌+◌, ◌-◌, ◌*◌, ◌%◌, ◌<◌, ◌≤◌, pos, List, length, take, drop, leb, leb-true, true, None, Some, ◌⊎◌, inl, inr, refl, ap, arith}
+use Rattle.std.proofs.Math.Nat.{mod-lt, mul-le-mul}
 use Rattle.std.proofs.lemmas.Int.{ints}
 use Rattle.std.proofs.lemmas.List.Elements.{All-from_recursion, All-append, All-drop, All-take}
 use Rattle.sim_game.specs.Model.{GameModel, HasAtMost}
@@ -11,7 +11,12 @@ use Rattle.fields.specs.Ranges.{IsByteList, IsAskInRange, IsPositionInRange}
 use Rattle.certificate.specs.declared.report.Outcome.{Outcome}
 use Rattle.certificate.specs.declared.report.Outcome.TheVariants.{Closed, Settled, Spent, Full}
 use Rattle.certificate.specs.declared.report.Report.{Report}
-use Rattle.solution.specs.Solutions.{IsSolution}
+use Rattle.goofspiel.specs.CardLaws.{few_cards}
+use Rattle.goofspiel.specs.declared.Goofspiel.{Goofspiel as GoofspielGame}
+use Rattle.goofspiel.specs.Rules.{goofspiel_game}
+use Rattle.position.specs.declared.games.AnyGame.TheVariants.{Goofspiel}
+use Rattle.position.specs.Games.{any_width, IsFineFor}
+use Rattle.solution.specs.Solutions.{HasWidthOf, IsSolution}
 use Rattle.commands.specs.Samples.{sample_cards, rotated_left, sample_prizes, sample_position, sample_ask, IsSampleSolution}
 use Rattle.commands.specs.Runs.{status_of, IsSampled}
 use Rattle.sim_game.proofs.StateLemmas.{more_states}
@@ -48,22 +53,37 @@ asks = record {
   workers = (omega arith, omega arith);
 }
 
--- nothing runs out in so small a game
-closed_or_settled : {S : Type 0} (m : GameModel S) (n : ℕ) (r : Report) → HasAtMost m 3682 → m.rank m.root ≡ 5 → IsSolution m (sample_position n) sample_ask r
-    → (o : Outcome) → r.outcome ≡ o → (r.outcome ≡ Closed) ⊎ (r.outcome ≡ Settled)
-closed_or_settled m n r few rank is Closed e = inl e
-closed_or_settled m n r few rank is Settled e = inr e
-closed_or_settled m n r few rank is Spent e = absurd (let turns = is.spent e 3682 few (omega arith) in omega (arith, turns, rank))
-closed_or_settled m n r few rank is Full e = absurd (is.full e (more_states m 3682 65536 few (omega arith)))
+-- at most 13 cards
+pub sample_few : (g : GoofspielGame) → any_width (Goofspiel g) ≤ 13
+sample_few g = omega (arith, few_cards g.setting.one g.valid.one_small)
 
-pub is_sample_solution : {S : Type 0} (m : GameModel S) (n : ℕ) (r : Report) → HasAtMost m 3682 → m.rank m.root ≡ 5 → tree_size m m.root ≡ 32826
+pub sample_width : (n : ℕ) (g : GoofspielGame) → HasWidthOf (goofspiel_game g.setting) (sample_position n)
+sample_width n g = λ narrow. omega (arith, sample_few g)
+
+-- the weight is fine enough
+pub sample_fine : (g : GoofspielGame) → IsFineFor (Goofspiel g) 8192
+sample_fine g = let small = mul-le-mul (sample_few g) (sample_few g) in omega (arith, small)
+
+-- with at most 13 moves a side at most 25 turns a state
+few_turns : (width rank : ℕ) → width ≤ 13 → rank ≡ 5 → (2 * width - 1) * (3682 + rank + 1) ≤ 25 * 3688
+few_turns width rank narrow is = let each : 2 * width - 1 ≤ 25 = omega (arith, narrow) in let states : 3682 + rank + 1 ≤ 3688 = omega (arith, is) in mul-le-mul each states
+
+-- nothing runs out in so small a game
+closed_or_settled : {S : Type 0} (m : GameModel S) (n : ℕ) (r : Report) → HasAtMost m 3682 → m.rank m.root ≡ 5 → m.width ≤ 13 → IsSolution m (sample_position n) sample_ask r
+    → (o : Outcome) → r.outcome ≡ o → (r.outcome ≡ Closed) ⊎ (r.outcome ≡ Settled)
+closed_or_settled m n r few rank narrow is Closed e = inl e
+closed_or_settled m n r few rank narrow is Settled e = inr e
+closed_or_settled m n r few rank narrow is Spent e = absurd (let turns = is.spent e 3682 few (omega arith) in omega (arith, turns, few_turns m.width (m.rank m.root) narrow rank))
+closed_or_settled m n r few rank narrow is Full e = absurd (is.full e (more_states m 3682 65536 few (omega arith)))
+
+pub is_sample_solution : {S : Type 0} (m : GameModel S) (n : ℕ) (r : Report) → HasAtMost m 3682 → m.rank m.root ≡ 5 → tree_size m m.root ≡ 32826 → m.width ≤ 13
     → IsSolution m (sample_position n) sample_ask r → IsSampleSolution m n r
-is_sample_solution m n r few rank size is =
+is_sample_solution m n r few rank size narrow is =
     let room = more_states m 3682 65536 few (omega arith) in
     let visits : tree_size m m.root ≤ 40000 = omega (arith, size) in
     record {
       solution = is;
-      ends = closed_or_settled m n r few rank is r.outcome refl;
+      ends = closed_or_settled m n r few rank narrow is r.outcome refl;
       pure_lower = is.pure_lower room visits;
       pure_upper = is.pure_upper room visits;
       at_once = is.at_once room visits;

@@ -4,7 +4,7 @@ use Rattle.certificate.specs.declared.error.TextError.{TextError}
 use Rattle.certificate.specs.declared.report.Report.{Report}
 use Rattle.certificate.specs.declared.error.TextError.TheVariants as errors
 use Rattle.certificate.specs.Reading.{named_report}
-use Rattle.certificate.specs.Versions.{version_of}
+use Rattle.certificate.specs.Versions.{limits_of, version_of}
 use Rattle.position.specs.declared.games.InputError.{InputError}
 use Rattle.position.specs.Games.{fault_of}
 use Rattle.checker.specs.declared.verdict.Why.{Why}
@@ -25,13 +25,13 @@ newest_head = codes "dosolve report 3" ++ 10 ∷ []
 abbrev pub most_report : List ℕ → ℕ
 most_report bytes = limit_for 1073741824 newest_head 4294967296 bytes
 
--- a report whose position breaks no rule of its game, under its own version
+-- a report whose position breaks no rule of its game within the limits of its version, under its own version
 abbrev pub if_built : Option InputError → ℕ → Report → Result Report ReportFault
 if_built None version r = if version_of r == version then Ok r else Err (faults.Text errors.Head)
 if_built (Some e) version r = Err (faults.Position e)
 
 abbrev pub if_read : Result (ℕ × Report) TextError → Result Report ReportFault
-if_read (Ok x) = if_built (fault_of x.1.position) x.0 x.1
+if_read (Ok x) = if_built (fault_of (limits_of x.0) x.1.position) x.0 x.1
 if_read (Err e) = Err (faults.Text e)
 
 -- the report of the bytes, or the first fault: of their length, of the text, of the position, of the version that they name

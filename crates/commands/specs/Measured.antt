@@ -12,6 +12,7 @@ use Rattle.exploit.specs.declared.WorstError.{WorstError}
 use Rattle.exploit.specs.Replies.{HasMore, IsWorstCase, IsWorstError}
 use Rattle.exploit.specs.Worst.{IsWorst}
 use Rattle.certificate.specs.declared.report.Report.{Report}
+use Rattle.certificate.specs.Versions.{limits_of, most_rows, version_of}
 use Rattle.position.specs.Games.{OfGame}
 use Rattle.text.specs.Texts.{side_word}
 use Rattle.commands.specs.declared.reports.ReportFault.{ReportFault}
@@ -31,26 +32,26 @@ abbrev pub full_text : List ℕ
 full_text = codes "states full\n"
 
 -- ---- answers
--- to how many states that are no ends a sheet may come
-abbrev pub most_states : ℕ
-most_states = 1048576
+-- to how many states that are no ends a sheet of a report may come, by its version
+abbrev pub most_states : Report → ℕ
+most_states r = most_rows (limits_of (version_of r))
 
 abbrev pub sheet_of : Side → Report → Sheet
 sheet_of One r = r.one
 sheet_of Two r = r.two
 
 -- the case is the sheet's worst, which no plan of the other side undercuts; or the sheet comes to too many states
-pub record IsMeasured {S : Type 0} (m : GameModel S) (sheet : Sheet)
+pub record IsMeasured {S : Type 0} (m : GameModel S) (sheet : Sheet) (most : ℕ)
     (found : Result WorstCase WorstError) : Type 0 where
-  pub case : IfOk found (IsWorstCase m sheet most_states)
-  pub fault : IfErr found (IsWorstError m sheet most_states)
+  pub case : IfOk found (IsWorstCase m sheet most)
+  pub fault : IfErr found (IsWorstError m sheet most)
   pub worst : IsWorst m sheet
 
 -- the status and the text that exploit answers to the bytes, for the sheet of the side
 pub data IsExploited (side : Side) (bytes : List ℕ) : ℕ → List ℕ → Type 0 where
   measured : (r : Report) (case : WorstCase) → report_in bytes ≡ Ok r
-      → OfGame r.position (λ S m. IsWorstCase m (sheet_of side r) most_states case × IsWorst m (sheet_of side r))
+      → OfGame r.position (λ S m. IsWorstCase m (sheet_of side r) (most_states r) case × IsWorst m (sheet_of side r))
       → IsExploited side bytes 0 (measured_text side case.worth)
-  full : (r : Report) → report_in bytes ≡ Ok r → OfGame r.position (λ S m. HasMore m (sheet_of side r) most_states)
+  full : (r : Report) → report_in bytes ≡ Ok r → OfGame r.position (λ S m. HasMore m (sheet_of side r) (most_states r))
       → IsExploited side bytes 5 full_text
   unread : (f : ReportFault) → report_in bytes ≡ Err f → IsExploited side bytes 9 (fault_text f)

@@ -6,6 +6,7 @@ use Rattle.certificate.specs.declared.report.Outcome.TheVariants.{Closed, Settle
 use Rattle.certificate.specs.declared.report.Report.{Report}
 use Rattle.certificate.specs.Texts.{report_text}
 use Rattle.certificate.specs.Reading.{read_report}
+use Rattle.position.specs.declared.reading.TheConstants.{MOST_TABLE_BYTES}
 use Rattle.position.specs.declared.games.InputError.{InputError}
 use Rattle.position.specs.Position.{TaskText, position_of}
 use Rattle.devices.specs.Causes.{Rose}
@@ -61,9 +62,9 @@ IsAnswer (Some (Reading command)) bytes status text = IsAnswerTo command bytes s
 -- ---- what is taken
 -- how many bytes a command reads, of bytes that begin so
 abbrev pub limit_of : ReadingCommand → List ℕ → ℕ
-limit_of Solve bytes = 1048576
+limit_of Solve bytes = MOST_TABLE_BYTES
 limit_of Check bytes = most_report bytes
-limit_of Bounds bytes = 1048576
+limit_of Bounds bytes = MOST_TABLE_BYTES
 limit_of (Exploit side) bytes = most_report bytes
 limit_of (Play games seed) bytes = most_report bytes
 

@@ -4,7 +4,7 @@ ghost use Rattle.std.specs.Prelude.{◌+◌, take, IfErr, IfOk};
 ghost use Rattle.fields.specs.Ranges.{IsAskInRange};
 ghost use Rattle.certificate.specs.Ranges.{IsInRange};
 ghost use Rattle.lazy_workers.specs.Findings.{IsFoundGame};
-ghost use Rattle.position.specs.Games.{OfSame};
+ghost use Rattle.position.specs.Games.{OfSame, IsFineFor};
 ghost use Rattle.position.specs.Objects.{Fails};
 ghost use Rattle.position.specs.Position.{position_of};
 ghost use Rattle.commands.specs.Alone.{CanRun, IsFoundReport, input_of};
@@ -29,7 +29,7 @@ pub fn answer(alloc: Global, command: Option<Command>, bytes: &[u8]) -> Result<A
     ensures { IfOk result (λ a. IsAnswer command (input_of command bytes.now) a.status a.text) }
 {
     let find = |game: AnyGame, ask: Ask| -> Result<Found, NoMemory>
-        requires { IsAskInRange ask }
+        requires { IsAskInRange ask × IsFineFor game ask.weight }
         ensures { OfSame game.entry (λ S m. IfOk result (IsFoundGame m ask)) }
     { find_any_alone(alloc, game, &ask) };
     match command {
@@ -65,7 +65,7 @@ pub fn search(alloc: Global, bytes: &[u8]) -> Result<Report, InputError>
     ensures fault { IfErr result (λ e. Fails e (position_of bytes.now)) }
 {
     let find = |game: AnyGame, ask: Ask| -> Result<Found, NoMemory>
-        requires { IsAskInRange ask }
+        requires { IsAskInRange ask × IsFineFor game ask.weight }
         ensures { OfSame game.entry (λ S m. IfOk result (IsFoundGame m ask)) }
     { find_any_alone(alloc, game, &ask) };
     search_with(alloc, find, bytes)

@@ -1,6 +1,6 @@
 //! The serial bounds of a position.
 
-ghost use Rattle.std.specs.Prelude.{◌≡◌, OnOk, IfOk};
+ghost use Rattle.std.specs.Prelude.{◌≡◌, ◌*◌, ◌≤◌, OnOk, IfOk};
 ghost use Rattle.fields.specs.Ranges.{IsAskInRange};
 ghost use Rattle.text.specs.Texts.{Adds};
 ghost use Rattle.commands.specs.Bounded.{bounds_status, bounds_text, IsSearchedRoot, IsBounded};
@@ -23,7 +23,7 @@ struct RootSearcher {
 impl GameVisitor for RootSearcher {
     type Answer = Result<RootEnd, NoMemory>;
 
-    ghost can_visit = { λ v. IsAskInRange v.ask };
+    ghost can_visit = { λ v width. IsAskInRange v.ask × (8 * (width * width) ≤ v.ask.weight) };
 
     ghost says = { λ v _ m answer. IfOk answer (IsSearchedRoot m v.ask) };
 

@@ -14,7 +14,7 @@ ghost use Rattle.commands.specs.Checks.{most_report, report_in, IsChecked};
 
 use crate::reports::{ReportFault, accepted_text, words};
 use crate::run::{Answer, written};
-use certificate::{NamedReport, Report, TextError, read_named};
+use certificate::{NamedReport, Report, TextError, limits_of, read_named};
 use checker::{Verdict, check};
 use devices::{ReadError, Source, limit_for, read_within};
 use position::{AnyGame, GameVisitor, build, game_of, totals};
@@ -73,8 +73,9 @@ impl ReportedGame {
     }
 }
 
-/// The report of the bytes, which are not too many, where its position has a game; or what is wrong first.
-#[tactic(auto, unfolding(crate::specs::Checks::report_in))]
+/// The report of the bytes, which are not too many, where its position has a game within the limits of its version; or
+/// what is wrong first.
+#[tactic(auto, using(crate::proofs::CheckLemmas::built_of), unfolding(crate::specs::Checks::report_in))]
 pub(crate) fn report_in(alloc: Global, bytes: &[u8]) -> Result<ReportedGame, ReportFault>
     requires { length bytes.now ≤ most_report bytes.now }
     ensures { MatchResult result
@@ -89,7 +90,7 @@ pub(crate) fn report_in(alloc: Global, bytes: &[u8]) -> Result<ReportedGame, Rep
         Ok(totals) => totals,
         Err(_) => return Err(ReportFault::Text(TextError::NoMemory)),
     };
-    if let Err(error) = build(&report.position, &totals) {
+    if let Err(error) = build(limits_of(version), &report.position, &totals) {
         return Err(ReportFault::Position(error));
     }
     if report.version() != version {
@@ -108,7 +109,7 @@ struct Judge<'a> {
 impl<'a> GameVisitor for Judge<'a> {
     type Answer = Result<Verdict, NoMemory>;
 
-    ghost can_visit = { λ v. IsInRange v.report.now };
+    ghost can_visit = { λ v _. IsInRange v.report.now };
 
     ghost says = { λ v _ m answer. IfOk answer (IsVerdict m v.report.now) };
 

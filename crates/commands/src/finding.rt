@@ -4,7 +4,7 @@
 ghost use Rattle.std.specs.Prelude.{IfOk};
 ghost use Rattle.fields.specs.Ranges.{IsAskInRange};
 ghost use Rattle.lazy_workers.specs.Findings.{IsFoundGame};
-ghost use Rattle.position.specs.Games.{OfSame};
+ghost use Rattle.position.specs.Games.{OfSame, IsFineFor};
 
 use certificate::Ask;
 use game_search::{find, find_alone};
@@ -23,7 +23,8 @@ pub(crate) fn find_any<R: Threads + Sync, T: Gate + Sync>(
     ask: &Ask,
     gate: &T,
 ) -> Result<Found, NoMemory>
-    requires { IsAskInRange ask.now }
+    requires ask { IsAskInRange ask.now }
+    requires fine { IsFineFor game ask.now.weight }
     ensures { OfSame game.entry (λ S m. IfOk result (IsFoundGame m ask.now)) }
 {
     with_game!(game, g => find(rt, alloc, g, ask, gate))
@@ -31,7 +32,8 @@ pub(crate) fn find_any<R: Threads + Sync, T: Gate + Sync>(
 
 /// As `find_any`, but the caller does the work of each worker, one after the other.
 pub(crate) fn find_any_alone(alloc: Global, game: AnyGame, ask: &Ask) -> Result<Found, NoMemory>
-    requires { IsAskInRange ask.now }
+    requires ask { IsAskInRange ask.now }
+    requires fine { IsFineFor game ask.now.weight }
     ensures { OfSame game.entry (λ S m. IfOk result (IsFoundGame m ask.now)) }
 {
     with_game!(game, g => find_alone(alloc, g, ask, &OpenGate))

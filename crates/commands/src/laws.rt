@@ -1,6 +1,6 @@
 //! What the answers of the commands say of each other.
 
-ghost use Rattle.std.specs.Prelude.{◌≡◌, ◌≢◌, ◌⊎◌, ℕ, List};
+ghost use Rattle.std.specs.Prelude.{◌≡◌, ◌≢◌, ◌⊎◌, ◌≤◌, ℕ, List, length, Ok};
 ghost use Rattle.sim_game.specs.Model.{HasAtMost};
 ghost use Rattle.sim_game.specs.declared.Side.{Side};
 ghost use Rattle.plan_book.specs.Serial.{tree_size};
@@ -12,7 +12,8 @@ ghost use Rattle.checker.specs.Verdicts.{IsVerdict};
 ghost use Rattle.solution.specs.Solutions.{IsSolution};
 ghost use Rattle.certificate.specs.Texts.{report_text};
 ghost use Rattle.certificate.specs.declared.report.Report.{Report};
-ghost use Rattle.commands.specs.Checks.{IsChecked};
+ghost use Rattle.position.specs.Position.{TaskText, position_of};
+ghost use Rattle.commands.specs.Checks.{most_report, IsChecked};
 ghost use Rattle.commands.specs.Measured.{IsExploited};
 ghost use Rattle.commands.specs.Matches.{IsPlayedMatch};
 ghost use Rattle.commands.specs.Reports.{accepted_text};
@@ -58,14 +59,17 @@ pub fn solutions_are_accepted<G: Game>(g: &G, r: &Report)
     one_verdict(g, r);
 }
 
-/// `check` accepts each report that `solve` prints, and has no other answer to it. Of `solve`'s statuses 2 alone is
-/// that of a refusal.
+/// `check` accepts each report that `solve` prints and that is not too long, and has no other answer to it. None is too
+/// long where at most 1048576 rows were asked for. Of `solve`'s statuses 2 alone is that of a refusal.
 #[tactic(auto, using(crate::proofs::LawLemmas::reported_accepted, crate::proofs::LawLemmas::accepted_alone))]
 pub fn printed_reports_are_accepted()
     ensures accepted { (bytes text : List ℕ) (status : ℕ) → IsSolved bytes status text → status ≢ 2
+        → length text ≤ most_report text
         → (r : Report) × (text ≡ report_text r) × IsChecked text 0 (accepted_text r) }
     ensures only { (bytes text answer : List ℕ) (status state : ℕ) → IsSolved bytes status text → status ≢ 2
-        → IsChecked text state answer → state ≡ 0 }
+        → length text ≤ most_report text → IsChecked text state answer → state ≡ 0 }
+    ensures short { (bytes text : List ℕ) (status : ℕ) (task : TaskText) → position_of bytes ≡ Ok task
+        → task.ask.rows ≤ 1048576 → IsSolved bytes status text → status ≢ 2 → length text ≤ most_report text }
 {}
 
 /// The game of each sample has at most 3682 states, and 32826 nodes in its tree.

@@ -5,11 +5,11 @@ ghost use Rattle.text.specs.Texts.{Adds};
 ghost use Rattle.certificate.specs.Ranges.{IsInRange};
 ghost use Rattle.position.specs.Games.{OfGame};
 ghost use Rattle.commands.specs.Checks.{most_report};
-ghost use Rattle.commands.specs.Measured.{IsExploited, IsMeasured, full_text, measured_text, sheet_of, worth_words};
+ghost use Rattle.commands.specs.Measured.{IsExploited, IsMeasured, full_text, measured_text, most_states, sheet_of, worth_words};
 
 use crate::check::{ReportedGame, faulty, report_in};
 use crate::run::{Answer, written};
-use certificate::Report;
+use certificate::{Limits, Report, limits_of};
 use exploit::{WorstCase, WorstError, Worth, is_worst, worst};
 use plan_book::Sheet;
 use position::GameVisitor;
@@ -17,8 +17,15 @@ use sim_game::{Game, NoMemory, Side};
 use std::alloc::Global;
 use text::Text;
 
-/// To how many states that are no ends a sheet may come.
-const MOST_STATES: u32 = 1_048_576;
+/// To how many states that are no ends a sheet of the report may come, by its version.
+fn most_states(report: &Report) -> u32
+    ensures { result ≡ most_states report.now }
+{
+    match limits_of(report.version()) {
+        Limits::Narrow => 1_048_576,
+        Limits::Wide => 16_777_216,
+    }
+}
 
 /// Finds the worst case of the plan of a side.
 #[derive(Drop)]
@@ -31,9 +38,9 @@ struct Measurer<'a> {
 impl<'a> GameVisitor for Measurer<'a> {
     type Answer = Result<WorstCase, WorstError>;
 
-    ghost can_visit = { λ v. IsInRange v.report.now };
+    ghost can_visit = { λ v _. IsInRange v.report.now };
 
-    ghost says = { λ v _ m answer. IsMeasured m (sheet_of v.side v.report.now) answer };
+    ghost says = { λ v _ m answer. IsMeasured m (sheet_of v.side v.report.now) (most_states v.report.now) answer };
 
     fn visit<G: Game + Send + Sync>(self, game: G) -> Result<WorstCase, WorstError>
     where
@@ -41,7 +48,7 @@ impl<'a> GameVisitor for Measurer<'a> {
     {
         let sheet = sheet_of(self.report, self.side);
         is_worst(&game, sheet);
-        worst(self.alloc, game, sheet, MOST_STATES)
+        worst(self.alloc, game, sheet, most_states(self.report))
     }
 }
 
@@ -56,10 +63,11 @@ pub fn sheet_of<'a>(report: &'a Report, side: Side) -> &'a Sheet
 }
 
 /// The worst case of the plan of a side of a report, which need not be lawful, where it comes to at most 1048576 states
-/// that are no ends.
+/// that are no ends, under version 3 to 16777216.
 pub fn worst_of(alloc: Global, found: &ReportedGame, side: Side) -> Result<WorstCase, WorstError>
     requires { IsInRange found.now.report }
-    ensures { let r = found.now.report in OfGame r.position (λ S m. IsMeasured m (sheet_of side r) result) }
+    ensures { let r = found.now.report in
+        OfGame r.position (λ S m. IsMeasured m (sheet_of side r) (most_states r) result) }
 {
     found.game().accept(Measurer {
         alloc,

@@ -29,7 +29,7 @@ struct Referee<'a> {
 impl<'a> GameVisitor for Referee<'a> {
     type Answer = Result<Text, NoMemory>;
 
-    ghost can_visit = { λ v. IsInRange v.report.now × (1 ≤ v.games) × (v.games ≤ 100000) };
+    ghost can_visit = { λ v _. IsInRange v.report.now × (1 ≤ v.games) × (v.games ≤ 100000) };
 
     ghost says = { λ v _ m answer. IfOk answer (λ text. IsMatch m v.report.now v.games v.seed text) };
 

@@ -6,7 +6,7 @@ ghost use Rattle.devices.specs.Causes.{Rose, IsCalm};
 ghost use Rattle.devices.specs.Taken.{TakesPast, TakesWithin};
 ghost use Rattle.fields.specs.Ranges.{IsAskInRange};
 ghost use Rattle.lazy_workers.specs.Findings.{IsFoundGame};
-ghost use Rattle.position.specs.Games.{OfSame};
+ghost use Rattle.position.specs.Games.{OfSame, IsFineFor};
 ghost use Rattle.commands.specs.Finding.{IsFinder};
 ghost use Rattle.commands.specs.Words.{HasFewGames, command_of};
 ghost use Rattle.commands.specs.Texts.{usage_text, input_text};
@@ -24,7 +24,9 @@ use crate::words::{Command, ReadingCommand, command_of};
 use certificate::Ask;
 use lazy_workers::Found;
 use oracle_search::Gate;
-use position::{AnyGame, InputError, ReadError, Sink, Source, read_all, write_all};
+use position::{
+    AnyGame, InputError, MOST_TABLE_BYTES, ReadError, Sink, Source, read_all, write_all,
+};
 use seq::Seq;
 use sim_game::NoMemory;
 use std::alloc::Global;
@@ -65,7 +67,7 @@ pub fn run<R: Threads + Sync, S: Source, K: Sink, T: Gate + Sync>(
         (S.state source.old) (S.state source.new) (K.state sink.old) (K.state sink.new) result }
 {
     let find = |game: AnyGame, ask: Ask| -> Result<Found, NoMemory>
-        requires { IsAskInRange ask }
+        requires { IsAskInRange ask × IsFineFor game ask.weight }
         ensures { OfSame game.entry (λ S m. IfOk result (IsFoundGame m ask)) }
     { find_any(rt, alloc, game, &ask, gate) };
     match command_of(words) {
@@ -80,8 +82,8 @@ pub fn run<R: Threads + Sync, S: Source, K: Sink, T: Gate + Sync>(
     }
 }
 
-/// How many bytes a position may have.
-const MOST_POSITION: u64 = 1_048_576;
+/// How many bytes a position may have; all but tables with linear stages have fewer.
+const MOST_POSITION: u64 = MOST_TABLE_BYTES as u64;
 
 /// The most bytes that a command reads, of bytes that begin so.
 pub(crate) fn limit_of(command: ReadingCommand, bytes: &[u8]) -> u64

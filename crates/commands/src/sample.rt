@@ -37,6 +37,7 @@ const ASK: Ask = Ask {
 };
 
 /// The answer to the number of a sample.
+#[tactic(auto, using(crate::proofs::SampleLemmas::sample_fine, crate::proofs::SampleLemmas::asks))]
 pub(crate) fn sampled<F: FnOnce(AnyGame, Ask) -> Result<Found, NoMemory>>(
     alloc: Global,
     find: F,

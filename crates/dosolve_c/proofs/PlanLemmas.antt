@@ -13,7 +13,7 @@ use Rattle.position.specs.Position.{position_of}
 use Rattle.commands.specs.declared.reports.ReportFault.{ReportFault}
 use Rattle.commands.specs.declared.reports.ReportFault.TheVariants as faults
 use Rattle.commands.specs.Checks.{report_in}
-use Rattle.commands.specs.Measured.{sheet_of, IsMeasured}
+use Rattle.commands.specs.Measured.{most_states, sheet_of, IsMeasured}
 use Rattle.dosolve_c.specs.declared.plans.RootBounds.{RootBounds}
 use Rattle.dosolve_c.specs.declared.plans.WorstPayoff.{WorstPayoff}
 use Rattle.dosolve_c.specs.Plans.{status_of_fault, status_of_refusal, IsReportIn, IsPlanIn, IsUnread, IsFault, IsRootTold, IsWorstOf, IsUnmeasured, AreRepliesTold, AreWorstTold}
@@ -28,10 +28,10 @@ unread bytes (faults.Text texts.NoMemory) is = IsUnread.no_memory
 unread bytes f is = IsUnread.fault f (is (λ e. absurd (cc)))
 
 -- ---- what was measured
-pub worst_case : (r : Report) (side : Side) (case : WorstCase) → OfGame r.position (λ S m. IsMeasured m (sheet_of side r) (Ok case)) → IsWorstOf side r case
+pub worst_case : (r : Report) (side : Side) (case : WorstCase) → OfGame r.position (λ S m. IsMeasured m (sheet_of side r) (most_states r) (Ok case)) → IsWorstOf side r case
 worst_case r side case (g, is, found) = (g, is, (found.case, found.worst))
 
-pub too_many : (r : Report) (side : Side) (limit : ℕ) → OfGame r.position (λ S m. IsMeasured m (sheet_of side r) (Err (TooMany limit))) → IsUnmeasured side r 5
+pub too_many : (r : Report) (side : Side) (limit : ℕ) → OfGame r.position (λ S m. IsMeasured m (sheet_of side r) (most_states r) (Err (TooMany limit))) → IsUnmeasured side r 5
 too_many r side limit (g, is, found) = IsUnmeasured.full (g, is, found.fault.1)
 
 -- nothing is written where the plan was not measured

@@ -119,11 +119,11 @@ IsWorthTold (Between low high) told = IsBetweenTold low high told
 
 -- the worst case of the plan of the side, which no plan of the other side undercuts
 abbrev pub IsWorstOf : Side → Report → WorstCase → Type 0
-IsWorstOf s r case = OfGame r.position (λ S m. IsWorstCase m (sheet_of s r) most_states case × IsWorst m (sheet_of s r))
+IsWorstOf s r case = OfGame r.position (λ S m. IsWorstCase m (sheet_of s r) (most_states r) case × IsWorst m (sheet_of s r))
 
 -- the plan of the side comes to too many states
 abbrev pub HasTooMany : Side → Report → Type 0
-HasTooMany s r = OfGame r.position (λ S m. HasMore m (sheet_of s r) most_states)
+HasTooMany s r = OfGame r.position (λ S m. HasMore m (sheet_of s r) (most_states r))
 
 -- or memory is wanting
 pub data IsUnmeasured (s : Side) (r : Report) : ℕ → Type 0 where

@@ -69,7 +69,7 @@ struct Series<'a> {
 impl<'a> GameVisitor for Series<'a> {
     type Answer = Result<Vec<MatchPayoffs>, NoMemory>;
 
-    ghost can_visit = { λ v. IsInRange v.report.now × (1 ≤ v.games) × (v.games ≤ 100000) };
+    ghost can_visit = { λ v _. IsInRange v.report.now × (1 ≤ v.games) × (v.games ≤ 100000) };
 
     ghost says = { λ v _ m answer. IfOk answer (λ told. AreMatchesTold m v.report.now v.games v.seeds.now told.items) };
 

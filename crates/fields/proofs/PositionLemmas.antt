@@ -16,11 +16,12 @@ use Rattle.fields.specs.declared.positions.PositionText.{PositionText}
 use Rattle.fields.specs.declared.positions.PositionText.TheVariants as texts
 use Rattle.fields.specs.declared.positions.GameKind.{GameKind}
 use Rattle.fields.specs.declared.positions.GameKind.TheVariants.{Goofspiel, OshiZumo, Tron, GoofspielDrawn, Pursuit, Table}
-use Rattle.fields.specs.declared.positions.Limits.{Limits}
-use Rattle.fields.specs.declared.positions.Limits.TheVariants.{Narrow, Wide}
+use Rattle.sim_game.specs.declared.Limits.{Limits}
+use Rattle.sim_game.specs.declared.Limits.TheVariants.{Narrow, Wide}
 use Rattle.fields.specs.Numbers.{Between, IsNumberList}
 use Rattle.fields.specs.Fields.{Fits, AllFit}
-use Rattle.fields.specs.Positions.{kinds_of, kind_of, pay_named, pay_word, values_of, number_in_value, list_in_value, numbers_in_value, HoldsNumbers, optional_in_value, HoldsOptional, word_in_value, position_with, IsPositionInRange, is_between, numbers_fit, is_narrow}
+use Rattle.fields.specs.Positions.{kinds_of, kind_of, pay_named, pay_word, values_of, number_in_value, list_in_value, numbers_in_value, HoldsNumbers, optional_in_value, HoldsOptional, word_in_value, position_with, IsPositionInRange, is_between, numbers_fit, fits_narrow, is_small, is_narrow}
+use Rattle.fields.specs.Asks.{asked_kinds}
 
 pub as_many : (ks : List FieldKind) (vs : List Value) → AllFit ks vs → length vs ≡ length ks
 as_many [] [] fits = refl
@@ -157,6 +158,10 @@ wider_numbers : (low high low' high' : ℤ) (most most' : ℕ) → low' ≤ℤ l
 wider_numbers low high low' high' most most' below above more (Numbers zs) fits = wider low high low' high' most most' zs below above more fits
 wider_numbers low high low' high' most most' below above more v fits = absurd fits
 
+wider_number : (low high low' high' : ℤ) → low' ≤ℤ low → high ≤ℤ high' → Widens (NumberOf low high) (NumberOf low' high')
+wider_number low high low' high' below above (Number z) fits = (omega (arith, ints, fits.0, below), omega (arith, ints, fits.1, above))
+wider_number low high low' high' below above v fits = absurd fits
+
 wider_optional : (low high low' high' : ℤ) (most most' : ℕ) → low' ≤ℤ low → high ≤ℤ high' → most ≤ most' → Widens (OptionalOf low high most) (OptionalOf low' high' most')
 wider_optional low high low' high' most most' below above more (Optional zs) fits = wider low high low' high' most most' zs below above more fits
 wider_optional low high low' high' most most' below above more v fits = absurd fits
@@ -228,33 +233,49 @@ none : (zs : List ℤ) → (length zs == 0) ≡ true → IsNumberList (pos 0) (p
 none [] h = record { few = omega arith; within = All-nil (Between (pos 0) (pos 0)) }
 none (z ∷ zs) h = absurd (omega (arith, eqb-true (length (z ∷ zs)) 0 h))
 
-pub narrow_fits : (text : PositionText) → IsPositionInRange text → is_narrow text ≡ true → AllFit (kinds_of Narrow (kind_of text)) (values_of text)
-narrow_fits (texts.Goofspiel one two prizes score Prizes) f h = absurd cc
-narrow_fits (texts.Goofspiel one two prizes score Margin) f h = (f.0, (f.1.0, (f.1.1.0, (f.1.1.1.0, (refl, tt)))))
-narrow_fits (texts.Goofspiel one two prizes score Win) f h = (f.0, (f.1.0, (f.1.1.0, (f.1.1.1.0, (refl, tt)))))
-narrow_fits (texts.GoofspielDrawn one two prizes score Prizes) f h = absurd cc
-narrow_fits (texts.GoofspielDrawn one two prizes score Margin) f h = (f.0, (f.1.0, (f.1.1.0, (f.1.1.1.0, (refl, tt)))))
-narrow_fits (texts.GoofspielDrawn one two prizes score Win) f h = (f.0, (f.1.0, (f.1.1.0, (f.1.1.1.0, (refl, tt)))))
-narrow_fits (texts.Table ranks moves values cells draws rewards) f h =
+narrow_values : (text : PositionText) → IsPositionInRange text → fits_narrow text ≡ true → AllFit (kinds_of Narrow (kind_of text)) (values_of text)
+narrow_values (texts.Goofspiel one two prizes score Prizes) f h = absurd cc
+narrow_values (texts.Goofspiel one two prizes score Margin) f h = (f.0, (f.1.0, (f.1.1.0, (f.1.1.1.0, (refl, tt)))))
+narrow_values (texts.Goofspiel one two prizes score Win) f h = (f.0, (f.1.0, (f.1.1.0, (f.1.1.1.0, (refl, tt)))))
+narrow_values (texts.GoofspielDrawn one two prizes score Prizes) f h = absurd cc
+narrow_values (texts.GoofspielDrawn one two prizes score Margin) f h = (f.0, (f.1.0, (f.1.1.0, (f.1.1.1.0, (refl, tt)))))
+narrow_values (texts.GoofspielDrawn one two prizes score Win) f h = (f.0, (f.1.0, (f.1.1.0, (f.1.1.1.0, (refl, tt)))))
+narrow_values (texts.Table ranks moves values cells draws rewards) f h =
     let a = and_parts _ _ h in
     let b = and_parts _ _ a.1 in
     let c = and_parts _ _ b.1 in
     let d = and_parts _ _ c.1 in
     let e = and_parts _ _ d.1 in
     (list_fits _ _ _ ranks b.0, (list_fits _ _ _ moves c.0, (list_fits _ _ _ values d.0, (list_fits _ _ _ cells e.0, (list_fits _ _ _ draws e.1, (none rewards a.0, tt))))))
-narrow_fits text f h = f
+narrow_values text f h = f
 
 no_numbers : (zs : List ℤ) → length zs ≤ 0 → (length zs == 0) ≡ true
 no_numbers [] few = refl
 no_numbers (z ∷ zs) few = absurd (omega (arith, few))
 
-pub fits_narrow : (text : PositionText) → AllFit (kinds_of Narrow (kind_of text)) (values_of text) → is_narrow text ≡ true
-fits_narrow (texts.Goofspiel one two prizes score Prizes) f = absurd (let x = f.1.1.1.1.0 in cc)
-fits_narrow (texts.GoofspielDrawn one two prizes score Prizes) f = absurd (let x = f.1.1.1.1.0 in cc)
-fits_narrow (texts.Goofspiel one two prizes score pay) f = refl
-fits_narrow (texts.GoofspielDrawn one two prizes score pay) f = refl
-fits_narrow (texts.Table ranks moves values cells draws rewards) f =
+values_narrow : (text : PositionText) → AllFit (kinds_of Narrow (kind_of text)) (values_of text) → fits_narrow text ≡ true
+values_narrow (texts.Goofspiel one two prizes score Prizes) f = absurd (let x = f.1.1.1.1.0 in cc)
+values_narrow (texts.GoofspielDrawn one two prizes score Prizes) f = absurd (let x = f.1.1.1.1.0 in cc)
+values_narrow (texts.Goofspiel one two prizes score pay) f = refl
+values_narrow (texts.GoofspielDrawn one two prizes score pay) f = refl
+values_narrow (texts.Table ranks moves values cells draws rewards) f =
     let later = f.1.1 in
     let unpaid = no_numbers rewards later.1.1.1.0.few in
     rw (unpaid, fits_list _ _ _ ranks f.0, fits_list _ _ _ moves f.1.0, fits_list _ _ _ values later.0, fits_list _ _ _ cells later.1.0, fits_list _ _ _ draws later.1.1.0) refl
-fits_narrow text f = refl
+values_narrow text f = refl
+
+pub narrow_fits : (text : PositionText) → IsPositionInRange text → is_narrow text ≡ true → AllFit (kinds_of Narrow (kind_of text)) (values_of text)
+narrow_fits text place narrow = narrow_values text place (and_parts (fits_narrow text) (is_small text) narrow).0
+
+-- what fits the narrow fields is within the narrow limits, unless a number is too large for the narrow rules
+pub narrow_by_size : (text : PositionText) → AllFit (kinds_of Narrow (kind_of text)) (values_of text) → is_narrow text ≡ is_small text
+narrow_by_size text fits = rw (values_narrow text fits) refl
+
+-- ---- what is asked
+asks_wide : AllWiden (asked_kinds Narrow) (asked_kinds Wide)
+asks_wide = (λ v f. f, (λ v f. f, (λ v f. f, (λ v f. f, (wider_number _ _ _ _ (omega (arith, ints)) (omega (arith, ints)), (λ v f. f, (λ v f. f, (λ v f. f, tt))))))))
+
+-- what can be asked within any limits can be asked within the wide ones
+pub asked_wide : (limits : Limits) (vs : List Value) → AllFit (asked_kinds limits) vs → AllFit (asked_kinds Wide) vs
+asked_wide Wide vs fits = fits
+asked_wide Narrow vs fits = all_widen (asked_kinds Narrow) (asked_kinds Wide) vs asks_wide fits

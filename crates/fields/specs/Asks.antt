@@ -9,16 +9,28 @@ use Rattle.fields.specs.declared.ask.StageMethod.{StageMethod}
 use Rattle.fields.specs.declared.ask.StageMethod.TheVariants.{Regret, Linear}
 use Rattle.fields.specs.declared.ask.SearchMethod.{SearchMethod}
 use Rattle.fields.specs.declared.ask.SearchMethod.TheVariants.{Oracle, Induction}
-use Rattle.fields.specs.declared.ask.TheConstants.{ASK}
+use Rattle.fields.specs.declared.ask.TheConstants.{ASK, NARROW_ASK}
+use Rattle.sim_game.specs.declared.Limits.{Limits}
+use Rattle.sim_game.specs.declared.Limits.TheVariants.{Narrow, Wide}
 use Rattle.fields.specs.Fields.{AskRow}
 use Rattle.fields.specs.Positions.{number_at, count_at, word_value_at}
 
-abbrev pub asked_kinds : List FieldKind
-asked_kinds = map (λ (row : AskRow). row.1) ASK
+-- the fields of what is asked within the limits, in the order of refusals
+abbrev pub ask_fields : Limits → List AskRow
+ask_fields Narrow = NARROW_ASK
+ask_fields Wide = ASK
+
+abbrev pub asked_kinds : Limits → List FieldKind
+asked_kinds limits = map (λ (row : AskRow). row.1) (ask_fields limits)
 
 abbrev pub method_of : Word → StageMethod
 method_of words.Linear = Linear
 method_of word = Regret
+
+-- the limits of the positions whose stages are solved so
+abbrev pub limits_with : StageMethod → Limits
+limits_with Regret = Narrow
+limits_with Linear = Wide
 
 abbrev pub search_of : Word → SearchMethod
 search_of words.Induction = Induction

@@ -9,9 +9,9 @@ use Rattle.fields.specs.declared.field.Value.{Value}
 use Rattle.fields.specs.declared.field.Value.TheVariants as values_are
 use Rattle.fields.specs.declared.field.Word.{Word}
 use Rattle.fields.specs.declared.field.Word.TheVariants as words
-use Rattle.fields.specs.declared.positions.TheConstants.{GAMES, GOOFSPIEL, NARROW_GOOFSPIEL, OSHI_ZUMO, TRON, PURSUIT, TABLE, NARROW_TABLE}
-use Rattle.fields.specs.declared.positions.Limits.{Limits}
-use Rattle.fields.specs.declared.positions.Limits.TheVariants.{Narrow, Wide}
+use Rattle.fields.specs.declared.positions.TheConstants.{GAMES, GOOFSPIEL, NARROW_GOOFSPIEL, OSHI_ZUMO, TRON, PURSUIT, TABLE, NARROW_TABLE, NARROW_COINS, NARROW_MOVES, NARROW_TURNS}
+use Rattle.sim_game.specs.declared.Limits.{Limits}
+use Rattle.sim_game.specs.declared.Limits.TheVariants.{Narrow, Wide}
 use Rattle.fields.specs.declared.positions.PositionText.{PositionText}
 use Rattle.fields.specs.declared.positions.PositionText.TheVariants as texts
 use Rattle.fields.specs.declared.positions.Shown.{Shown}
@@ -158,16 +158,35 @@ is_paid_at_end pay = true
 abbrev narrow_kind : ℕ → FieldKind
 narrow_kind i = get_or (kinds_in NARROW_TABLE) i (holds.List 0)
 
--- The position is within the narrow limits: no prize is paid when it is won, no turn of a table pays, and no list of a
--- table is longer, or has a number beyond, what the narrow fields allow.
-abbrev pub is_narrow : PositionText → Bool
-is_narrow (texts.Goofspiel one two prizes score pay) = is_paid_at_end pay
-is_narrow (texts.GoofspielDrawn one two prizes score pay) = is_paid_at_end pay
-is_narrow (texts.Table ranks moves values cells draws rewards) =
+-- The position fits the narrow fields of its game: no prize is paid when it is won, no turn of a table pays, and no list
+-- of a table is longer, or has a number beyond, what these fields allow.
+abbrev pub fits_narrow : PositionText → Bool
+fits_narrow (texts.Goofspiel one two prizes score pay) = is_paid_at_end pay
+fits_narrow (texts.GoofspielDrawn one two prizes score pay) = is_paid_at_end pay
+fits_narrow (texts.Table ranks moves values cells draws rewards) =
     length rewards == 0
     && (numbers_fit (narrow_kind 0) ranks && (numbers_fit (narrow_kind 1) moves && (numbers_fit (narrow_kind 2) values
     && (numbers_fit (narrow_kind 3) cells && numbers_fit (narrow_kind 4) draws))))
-is_narrow text = true
+fits_narrow text = true
+
+-- a number of turns or of moves that the narrow rules allow
+abbrev pub are_narrow_turns : ℤ → Bool
+are_narrow_turns turns = int_le turns (pos NARROW_TURNS)
+
+abbrev pub are_narrow_moves : ℤ → Bool
+are_narrow_moves moves = int_le moves (pos NARROW_MOVES)
+
+-- No number is one that the wide rules of the game allow and the narrow ones refuse. Goofspiel and Tron have no such rule.
+abbrev pub is_small : PositionText → Bool
+is_small (texts.OshiZumo size one two least place) =
+    nat_le one NARROW_COINS && (nat_le two NARROW_COINS && nat_le least NARROW_COINS)
+is_small (texts.Pursuit nodes edges one two rounds) = nat_le nodes NARROW_MOVES && nat_le rounds NARROW_TURNS
+is_small (texts.Table ranks moves values cells draws rewards) = list_all are_narrow_turns ranks && list_all are_narrow_moves moves
+is_small text = true
+
+-- the position is within the narrow limits
+abbrev pub is_narrow : PositionText → Bool
+is_narrow text = fits_narrow text && is_small text
 
 -- a value that is shown by reference
 abbrev pub shown_value : Shown → Value

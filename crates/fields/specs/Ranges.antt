@@ -1,5 +1,6 @@
 -- The positions and the asks whose numbers are all in range.
 use Rattle.std.specs.Prelude.{◌≤◌, pos}
+use Rattle.sim_game.specs.declared.TheConstants.{MOST_ROWS}
 use Rattle.fields.specs.declared.ask.Ask.{Ask}
 pub use Rattle.fields.specs.Numbers.{Within, Between, IsByteList}
 pub use Rattle.fields.specs.Positions.{IsPositionInRange}
@@ -9,5 +10,5 @@ pub record IsAskInRange (ask : Ask) : Type 0 where
   pub weight : Within 8192 1048576 ask.weight
   pub turns : ask.turns ≤ 1099511627776
   pub visits : ask.visits ≤ 1099511627776
-  pub rows : Within 1 1048576 ask.rows
+  pub rows : Within 1 MOST_ROWS ask.rows
   pub workers : Within 1 16 ask.workers

@@ -1,11 +1,13 @@
 //! What is asked of a search.
 
 ghost use Rattle.std.specs.Prelude.{◌≡◌};
-ghost use Rattle.fields.specs.Asks.{method_of, search_of, asked_kinds, ask_with};
+ghost use Rattle.sim_game.specs.declared.Limits.TheVariants.{Wide};
+ghost use Rattle.fields.specs.Asks.{method_of, limits_with, search_of, asked_kinds, ask_with};
 ghost use Rattle.fields.specs.Fields.{AllFit};
 ghost use Rattle.fields.specs.Ranges.{IsAskInRange};
 
 use crate::{Absent, AskRow, Choices, Field, FieldKind, Value, Word};
+use sim_game::Limits;
 
 /// How the matrix game of a state is solved.
 #[derive(Clone, Copy, Debug, PartialEq, Eq)]
@@ -23,6 +25,16 @@ impl StageMethod {
         match word {
             Word::Linear => StageMethod::Linear,
             _ => StageMethod::Regret,
+        }
+    }
+
+    /// The limits of the positions whose stages are solved so.
+    pub fn limits(self) -> Limits
+        ensures { result ≡ limits_with self }
+    {
+        match self {
+            StageMethod::Regret => Limits::Narrow,
+            StageMethod::Linear => Limits::Wide,
         }
     }
 }
@@ -81,51 +93,76 @@ pub const LEAST: Ask = Ask {
 /// How many fields tell what is asked.
 pub const ASKED: usize = 8;
 
+const GAP: AskRow = (
+    Field::Gap,
+    FieldKind::Number(0, 8_000_000_000),
+    Absent::Refused,
+);
+
+const WEIGHT: AskRow = (
+    Field::Weight,
+    FieldKind::Number(8192, 1_048_576),
+    Absent::Refused,
+);
+
+const TURNS: AskRow = (
+    Field::Turns,
+    FieldKind::Number(0, 1_099_511_627_776),
+    Absent::Refused,
+);
+
+const VISITS: AskRow = (
+    Field::Visits,
+    FieldKind::Number(0, 1_099_511_627_776),
+    Absent::Refused,
+);
+
+const ROWS: AskRow = (
+    Field::Rows,
+    FieldKind::Number(1, 16_777_216),
+    Absent::Refused,
+);
+
+const NARROW_ROWS: AskRow = (
+    Field::Rows,
+    FieldKind::Number(1, 1_048_576),
+    Absent::Refused,
+);
+
+const WORKERS: AskRow = (Field::Workers, FieldKind::Number(1, 16), Absent::Refused);
+
+const STAGES: AskRow = (
+    Field::Stages,
+    FieldKind::Word(Choices::Stages),
+    Absent::Word(Word::Regret),
+);
+
+const SEARCH: AskRow = (
+    Field::Search,
+    FieldKind::Word(Choices::Search),
+    Absent::Word(Word::Oracle),
+);
+
 /// These fields, in the order of refusals.
-pub const ASK: [AskRow; ASKED] = [
-    (
-        Field::Gap,
-        FieldKind::Number(0, 8_000_000_000),
-        Absent::Refused,
-    ),
-    (
-        Field::Weight,
-        FieldKind::Number(8192, 1_048_576),
-        Absent::Refused,
-    ),
-    (
-        Field::Turns,
-        FieldKind::Number(0, 1_099_511_627_776),
-        Absent::Refused,
-    ),
-    (
-        Field::Visits,
-        FieldKind::Number(0, 1_099_511_627_776),
-        Absent::Refused,
-    ),
-    (
-        Field::Rows,
-        FieldKind::Number(1, 1_048_576),
-        Absent::Refused,
-    ),
-    (Field::Workers, FieldKind::Number(1, 16), Absent::Refused),
-    (
-        Field::Stages,
-        FieldKind::Word(Choices::Stages),
-        Absent::Word(Word::Regret),
-    ),
-    (
-        Field::Search,
-        FieldKind::Word(Choices::Search),
-        Absent::Word(Word::Oracle),
-    ),
+pub const ASK: [AskRow; ASKED] = [GAP, WEIGHT, TURNS, VISITS, ROWS, WORKERS, STAGES, SEARCH];
+
+/// The same within the narrow limits.
+pub const NARROW_ASK: [AskRow; ASKED] = [
+    GAP,
+    WEIGHT,
+    TURNS,
+    VISITS,
+    NARROW_ROWS,
+    WORKERS,
+    STAGES,
+    SEARCH,
 ];
 
-/// Does the same with each of these fields.
+/// Does the same with each of such fields.
 #[macro_export]
 macro_rules! each_asked {
-    ($row:ident => $then:expr) => {{
-        let [a, b, c, d, e, f, g, h] = $crate::ASK;
+    ($fields:expr, $row:ident => $then:expr) => {{
+        let [a, b, c, d, e, f, g, h] = $fields;
         [
             { let $row = a; $then },
             { let $row = b; $then },
@@ -142,7 +179,7 @@ macro_rules! each_asked {
 impl Ask {
     /// What these values of the fields ask.
     pub fn with_values(values: [Value; ASKED]) -> Ask
-        requires { AllFit asked_kinds values }
+        requires { AllFit (asked_kinds Wide) values }
         ensures exact { result ≡ ask_with values }
         ensures in_range { IsAskInRange result }
     {

@@ -5,7 +5,10 @@ mod ask;
 mod field;
 mod positions;
 
-pub use ask::{ASK, ASKED, Ask, LEAST, SearchMethod, StageMethod};
+pub use ask::{ASK, ASKED, Ask, LEAST, NARROW_ASK, SearchMethod, StageMethod};
 pub use field::{Absent, AskRow, Choices, Field, FieldKind, FieldRow, Value, Word};
 pub use goofspiel::Pay;
-pub use positions::{GAMES, GameKind, Limits, PositionText, Shown, narrow_positions_fit};
+pub use positions::{
+    GAMES, GameKind, NARROW_COINS, NARROW_MOVES, NARROW_TURNS, PositionText, Shown,
+    narrow_positions_fit,
+};

@@ -2,14 +2,15 @@
 
 ghost use Rattle.std.specs.Prelude.{◌≡◌, ℕ, pos, true, length, map, IfOk};
 ghost use Rattle.std.specs.List.{list_all};
-ghost use Rattle.fields.specs.declared.positions.Limits.TheVariants.{Narrow, Wide};
+ghost use Rattle.sim_game.specs.declared.Limits.TheVariants.{Narrow, Wide};
 ghost use Rattle.fields.specs.declared.positions.PositionText.{PositionText};
 ghost use Rattle.fields.specs.Fields.{Fits, AllFit};
-ghost use Rattle.fields.specs.Positions.{game_word, fields_of, kinds_of, kind_of, pay_word, HoldsNumbers, HoldsOptional, shown_value, values_of, position_with, IsPositionInRange, game_of, is_between, numbers_fit, is_paid_at_end, is_narrow};
+ghost use Rattle.fields.specs.Positions.{game_word, fields_of, kinds_of, kind_of, pay_word, HoldsNumbers, HoldsOptional, shown_value, values_of, position_with, IsPositionInRange, game_of, is_between, numbers_fit, is_paid_at_end, fits_narrow, are_narrow_turns, are_narrow_moves, is_small, is_narrow};
 ghost use Rattle.fields.specs.declared.positions.TheConstants.{BYTE, SCORE, PLACE};
 
 use crate::{Choices, Field, FieldKind, FieldRow, Pay, Value, Word};
 use seq::Seq;
+use sim_game::Limits;
 use std::alloc::{AllocError, Global};
 
 const BYTE: FieldKind = FieldKind::Number(0, 255);
@@ -19,13 +20,6 @@ const SCORE: FieldKind = FieldKind::Number(-1_000_000, 1_000_000);
 const PLACE: FieldKind = FieldKind::Number(-128, 127);
 
 const BYTES: FieldKind = FieldKind::List(255);
-
-/// How much a report of a version can hold: narrow limits are those of the versions below 3.
-#[derive(Clone, Copy, Debug, PartialEq, Eq)]
-pub enum Limits {
-    Narrow,
-    Wide,
-}
 
 /// The fields of each game, in the order of refusals.
 pub const GOOFSPIEL: [FieldRow; 5] = [
@@ -101,6 +95,15 @@ pub const NARROW_TABLE: [FieldRow; 6] = [
     (Field::States, FieldKind::Numbers(0, 1_048_575, 524_288)),
     (Field::States, FieldKind::Optional(0, 0, 0)),
 ];
+
+/// The most coins of a side, and the greatest least bid, by the narrow rules.
+pub const NARROW_COINS: u8 = 31;
+
+/// The most moves of a side, and the most nodes of a graph, by the narrow rules.
+pub const NARROW_MOVES: u8 = 32;
+
+/// The most turns by the narrow rules.
+pub const NARROW_TURNS: u8 = 31;
 
 /// The kinds of games.
 #[derive(Clone, Copy, Debug, PartialEq, Eq)]
@@ -464,6 +467,20 @@ fn is_paid_at_end(pay: Pay) -> bool
     !matches!(pay, Pay::Prizes)
 }
 
+/// Whether these are numbers of turns that the narrow rules allow.
+fn are_narrow_turns(zs: &[i32]) -> bool
+    ensures { result ≡ list_all are_narrow_turns zs.now }
+{
+    zs.iter().all(|z| *z <= NARROW_TURNS as i32)
+}
+
+/// Whether these are numbers of moves that the narrow rules allow.
+fn are_narrow_moves(zs: &[i32]) -> bool
+    ensures { result ≡ list_all are_narrow_moves zs.now }
+{
+    zs.iter().all(|z| *z <= NARROW_MOVES as i32)
+}
+
 impl PositionText {
     /// The position of the game that has these values in its fields.
     #[tactic(auto, using(crate::proofs::PositionLemmas::in_range_with))]
@@ -579,9 +596,9 @@ impl PositionText {
         }
     }
 
-    /// Whether the position is within the narrow limits.
-    pub fn is_narrow(&self) -> bool
-        ensures { result ≡ is_narrow self.now }
+    /// Whether the position fits the narrow fields of its game.
+    fn fits_narrow(&self) -> bool
+        ensures { result ≡ fits_narrow self.now }
     {
         match self {
             PositionText::Goofspiel { pay, .. } | PositionText::GoofspielDrawn { pay, .. } => {
@@ -607,6 +624,35 @@ impl PositionText {
         }
     }
 
+    /// Whether no number is one that the wide rules of the game allow and the narrow ones refuse.
+    fn is_small(&self) -> bool
+        ensures { result ≡ is_small self.now }
+    {
+        match self {
+            PositionText::OshiZumo {
+                one,
+                two,
+                least,
+                ..
+            } => *one <= NARROW_COINS && *two <= NARROW_COINS && *least <= NARROW_COINS,
+            PositionText::Pursuit { nodes, rounds, .. } => {
+                *nodes <= NARROW_MOVES && *rounds <= NARROW_TURNS
+            }
+            PositionText::Table { ranks, moves, .. } => {
+                are_narrow_turns(ranks.as_slice()) && are_narrow_moves(moves.as_slice())
+            }
+            _ => true,
+        }
+    }
+
+    /// Whether the position is within the narrow limits: it fits the narrow fields of its game, and no number is one
+    /// that the wide rules alone allow.
+    pub fn is_narrow(&self) -> bool
+        ensures { result ≡ is_narrow self.now }
+    {
+        self.fits_narrow() && self.is_small()
+    }
+
     /// The game of the position.
     pub fn game(&self) -> GameKind
         ensures { result ≡ kind_of self.now }
@@ -622,10 +668,11 @@ impl PositionText {
     }
 }
 
-/// A position is within the narrow limits exactly if its values fit the narrow fields of its game.
+/// A position fits the narrow fields of its game exactly if its values do. Within the narrow limits it does, and no number
+/// is one that the wide rules alone allow.
 pub fn narrow_positions_fit()
     ensures fits { (text : PositionText) → IsPositionInRange text → is_narrow text ≡ true
         → AllFit (kinds_of Narrow (kind_of text)) (values_of text) }
     ensures only { (text : PositionText) → AllFit (kinds_of Narrow (kind_of text)) (values_of text)
-        → IsPositionInRange text × (is_narrow text ≡ true) }
+        → IsPositionInRange text × (is_narrow text ≡ is_small text) }
 {}

@@ -16,7 +16,7 @@ use Rattle.induction.specs.Undecided.{HasUndecided}
 use Rattle.induction.specs.Spent.{HasSpentEach}
 use Rattle.lazy_workers.specs.declared.summary.Found.{Found}
 use Rattle.lazy_workers.specs.Findings.{found_gap, IsFoundPlan, IsIdle, AreSpent, IsGapWide, IsFoundAfter, IsFoundGame, IsFoundFor}
-use Rattle.lazy_workers.specs.Keeping.{HasLimit, AreBudgets}
+use Rattle.lazy_workers.specs.Keeping.{HasLimit, oracle_turns, AreBudgets}
 use Rattle.lazy_workers.specs.Searched.{HasRoom, HasVisits, IsPureClose, turns_each, TooFewAfter, TooFewTurns}
 use Rattle.game_search.specs.declared.plan.Plan.{Plan}
 use Rattle.game_search.specs.declared.plan.BothPlans.{BothPlans}
@@ -102,12 +102,15 @@ module _ {S : Type 0} (m : GameModel S) (ask : Ask) where
     }
 
   -- ---- double oracle after an induction
+  few_after : (turns most count n rank asked : ℕ) → count ≤ n → most ≤ 3 * count → asked < most + turns * (n + rank + 1) → asked < (3 + turns) * (n + rank + 1)
+  few_after turns most count n rank asked inside few less = omega (arith, less, inside, few)
+
   -- too few turns for what the induction has left are too few by induction
   few_turns : (most count : ℕ) → HasUndecided m count → most ≤ 3 * count → ask.search ≡ Induction → TooFewAfter most m ask → TooFewTurns m ask
   few_turns most count undecided each search few n has rows =
       let inside : count ≤ n = has.few count undecided.states undecided.reachable undecided.apart in
       let less = few n has rows in
-      rw search (omega (arith, less, inside, each))
+      rw search (few_after (oracle_turns m ask.stages) most count n (m.rank m.root) ask.turns inside each less)
 
   pub bettered_found : (plans : BothPlans) (most : ℕ) (x : Found) (one two : Plan) → ask.search ≡ Induction → IsUnfinished m ask plans most → IsFoundFor m ask most x
       → IsFoundPlan m ask (IsIdle m ask x) One one.sheet one.bound → IsFoundPlan m ask (IsIdle m ask x) Two two.sheet two.bound

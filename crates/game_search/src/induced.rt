@@ -1,6 +1,7 @@
 //! Induction: serial searches of the root first, then plans that floats propose and exact sums certify.
 
 ghost use Rattle.std.specs.Prelude.{◌≡◌, ◌≤◌, ◌⊎◌, ◌-ℤ◌, ◌<ℤ◌, ◌≤ℤ◌, true, unsigned_abs, MatchBool, IfOk};
+ghost use Rattle.sim_game.specs.Resolution.{IsFineWeight};
 ghost use Rattle.fields.specs.Ranges.{IsAskInRange};
 ghost use Rattle.fields.specs.declared.ask.SearchMethod.TheVariants.{Induction};
 ghost use Rattle.plan_book.specs.Sheets.{root_bound};
@@ -29,6 +30,7 @@ pub(crate) fn induce<G: Game, T: Gate>(
     gate: &T,
 ) -> Result<Step, NoMemory>
     requires ask { IsAskInRange ask.now }
+    requires fine { IsFineWeight (G.model g) ask.now.weight }
     requires search { ask.now.search ≡ Induction }
     ensures { IfOk result (IsStepOf (G.model g) ask.now) }
 {
@@ -42,7 +44,8 @@ pub(crate) fn induce<G: Game, T: Gate>(
 
 /// What the serial searches of the root find, without a turn.
 fn pure_plans<G: Game, T: Gate>(alloc: Global, g: G, ask: &Ask, gate: &T) -> Result<Found, NoMemory>
-    requires { IsAskInRange ask.now }
+    requires ask { IsAskInRange ask.now }
+    requires fine { IsFineWeight (G.model g) ask.now.weight }
     ensures { IfOk result (IsPureFound (G.model g) ask.now) }
 {
     let mut first = *ask;

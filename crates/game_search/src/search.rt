@@ -1,6 +1,7 @@
 //! The search of a game, with threads or by the caller alone.
 
 ghost use Rattle.std.specs.Prelude.{◌≡◌, IfOk, MatchBool, All};
+ghost use Rattle.sim_game.specs.Resolution.{IsFineWeight};
 ghost use Rattle.fields.specs.Ranges.{IsAskInRange};
 ghost use Rattle.fields.specs.declared.ask.SearchMethod.TheVariants.{Induction};
 ghost use Rattle.lazy_workers.specs.Findings.{IsFoundFor, IsFoundGame};
@@ -28,7 +29,8 @@ pub fn find<R: Threads + Sync, G: Game + Send + Sync, T: Gate + Sync>(
 ) -> Result<Found, NoMemory>
 where
     G::State: Send + Sync,
-    requires { IsAskInRange ask.now }
+    requires ask { IsAskInRange ask.now }
+    requires fine { IsFineWeight (G.model g) ask.now.weight }
     ensures { IfOk result (IsFoundGame (G.model g) ask.now) }
 {
     match ask.search {
@@ -55,7 +57,8 @@ pub fn find_alone<G: Game, T: Gate>(
     ask: &Ask,
     gate: &T,
 ) -> Result<Found, NoMemory>
-    requires { IsAskInRange ask.now }
+    requires ask { IsAskInRange ask.now }
+    requires fine { IsFineWeight (G.model g) ask.now.weight }
     ensures { IfOk result (IsFoundGame (G.model g) ask.now) }
 {
     match ask.search {

@@ -11,7 +11,7 @@ use Rattle.goofspiel.specs.DrawnRules.{DrawnDeal, after_draw, draw_count, drawn_
 use Rattle.goofspiel.specs.Counts.{choose}
 use Rattle.goofspiel.specs.DealLaws.{spread}
 use Rattle.goofspiel.specs.Position.{first_fault}
-use Rattle.goofspiel.proofs.CountLemmas.{deals}
+use Rattle.goofspiel.specs.Places.{deals}
 use Rattle.sums.specs.Sums.{count_below}
 use Rattle.goofspiel.specs.Rules.{Deal, after_bids, goofspiel_key, least_sum, most_sum, paid, prizes_left, won_by}
 

@@ -83,7 +83,7 @@ abbrev pub IsRisingFrom : ℕ → List ℕ → Type 0
 IsRisingFrom low [] = Unit {0}
 IsRisingFrom low (x ∷ xs) = (low ≤ x) × IsRisingFrom (suc x) xs
 
-rising_weaker : (low : ℕ) (xs : List ℕ) → IsRisingFrom (suc low) xs → IsRisingFrom low xs
+pub rising_weaker : (low : ℕ) (xs : List ℕ) → IsRisingFrom (suc low) xs → IsRisingFrom low xs
 rising_weaker low [] h = tt
 rising_weaker low (x ∷ xs) h = (omega (arith, h.0), h.1)
 

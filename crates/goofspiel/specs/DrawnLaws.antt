@@ -35,7 +35,7 @@ pub members_empty : (n low : ℕ) → members n low 0 ≡ []
 members_empty zero low = members_none low 0
 members_empty (suc n) low = let e : 2 * 0 ≡ 0 = omega arith in subst (λ (m : ℕ). members (suc n) low m ≡ []) e (members_even n low 0 ∙ members_empty n (suc low))
 
-members_full : (n m low : ℕ) → m ≤ n → members n low (2 ^ m - 1) ≡ range_with_len low m
+pub members_full : (n m low : ℕ) → m ≤ n → members n low (2 ^ m - 1) ≡ range_with_len low m
 members_full n zero low h = members_empty n low
 members_full zero (suc m) low h = absurd (omega arith)
 members_full (suc n) (suc m) low h =

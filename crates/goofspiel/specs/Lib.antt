@@ -5,6 +5,8 @@ pub mod DealLaws
 pub mod DrawnLaws
 pub mod DrawnRules
 pub mod Laws
+pub mod PlaceLaws
+pub mod Places
 pub mod Position
 pub mod Refusals
 pub mod Rules

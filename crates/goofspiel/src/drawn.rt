@@ -1,7 +1,7 @@
 //! Goofspiel with prizes drawn by chance: the first prize is bid for first, and after both bids each of those that
 //! are left is the next one with equal chances.
 
-ghost use Rattle.std.specs.Prelude.{◌≡◌, ℕ, ℤ, List, ◌<◌, ◌≤◌, ◌^◌, length, slice_index, sum, MatchResult, None, Some};
+ghost use Rattle.std.specs.Prelude.{◌≡◌, ℕ, ℤ, List, ◌+◌, ◌*◌, ◌<◌, ◌≤◌, ◌^◌, max, length, slice_index, sum, MatchResult, None, Some};
 ghost use Rattle.goofspiel.specs.declared.Pay.TheVariants.{Margin, Prizes};
 ghost use Rattle.goofspiel.specs.SameTree.{with_pay, HasSameSerialBounds, HasSameTree};
 ghost use Rattle.goofspiel.specs.DrawnLaws.{drawn_is_game};
@@ -9,12 +9,15 @@ ghost use Rattle.goofspiel.specs.DrawnRules.{drawn_deal_of, drawn_game, drawn_le
 ghost use Rattle.sim_game.specs.Model.{Reachable};
 ghost use Rattle.std.specs.List.{sum_by};
 ghost use Rattle.goofspiel.specs.Cards.{places};
+ghost use Rattle.goofspiel.specs.PlaceLaws.{drawn_numbered};
+ghost use Rattle.goofspiel.specs.Places.{drawn_deals_with, drawn_far, drawn_numbering, sets};
 ghost use Rattle.goofspiel.specs.Position.{first_fault, prizes_of, IsPosition, IsSettingOf};
 ghost use Rattle.goofspiel.specs.Rules.{high_of, low_of};
+ghost use Rattle.sums.specs.Sums.{count_below};
 
 use crate::counts::{choose, deals, spread};
 use crate::hands::{hands_key, play, won_by};
-use crate::position::prize_sum;
+use crate::places::{deal_number, part_number};
 use crate::sets::{number_at, size, take_out};
 use crate::{Goofspiel, GoofspielError, Pay, Setting, State};
 use sim_game::{CHANCE, Game, Side};
@@ -99,10 +102,63 @@ impl GoofspielDrawn {
     }
 }
 
+impl GoofspielDrawn {
+    /// How far the score can be from the first one.
+    #[inline]
+    fn spread(&self) -> u32
+        ensures is { result ≡ drawn_far self.now.setting }
+        ensures few { result ≤ 3315 }
+    {
+        spread(
+            self.setting.pay,
+            &self.setting.prizes[..self.setting.count as usize],
+        )
+    }
+
+    /// How many places the current prize can have: one at an end without prizes too.
+    #[inline]
+    fn place_count(&self) -> u64
+        ensures { result ≡ max 1 self.now.setting.count }
+    {
+        1.max(self.setting.count as u64)
+    }
+
+    /// How many sets of undrawn places there are where each side has so many cards.
+    #[inline]
+    fn sets(&self, left: u32) -> u64
+        requires { left ≤ self.now.setting.count }
+        ensures is { result ≡ sets self.now.setting left }
+        ensures few { result ≤ 8192 }
+    {
+        choose(
+            (self.setting.count as u32).saturating_sub(1),
+            left.saturating_sub(1),
+        )
+    }
+
+    /// How many deals there are with fewer cards a side: with so many cards left, besides what `Goofspiel` counts, one
+    /// set of places fewer by one than the cards is not drawn, and any place is bid for.
+    fn deals_below(&self, size: u32) -> u64
+        requires { size ≤ self.now.setting.count + 1 }
+        ensures is { result ≡ count_below size (drawn_deals_with self.now.setting) }
+        ensures few { result ≤ size * 2 ^ 56 }
+    {
+        let count = self.setting.count as u32;
+        let far = self.spread();
+        let mut sum = 0;
+        for left in 0..size {
+            sum += self.place_count() * (self.sets(left) * deals(choose(count, left), far));
+        }
+        sum
+    }
+}
+
 impl Game for GoofspielDrawn {
     type State = DrawnState;
 
     ghost model = { λ game. drawn_game game.setting };
+
+    ghost numbering = { λ game. drawn_numbering game.setting };
 
     fn root(&self) -> DrawnState {
         let later = self.setting.count.saturating_sub(1);
@@ -173,21 +229,17 @@ impl Game for GoofspielDrawn {
         put(later, s.place as u64, 4).0
     }
 
-    /// With so many cards left, besides, one set of places fewer by one than the cards is not drawn, and any place is bid
-    /// for; the score differs from the first one by no more than the sum of the prizes, or not at all where they are paid
-    /// when they are won.
     fn most_states(&self) -> u64 {
-        let count = self.setting.count as u32;
-        let later = count.saturating_sub(1);
-        let total = prize_sum(&self.setting.prizes[..count as usize]);
-        let far = spread(self.setting.pay, total);
-        let mut most = 0;
-        for left in 0..count + 1 {
-            let sets = choose(later, left.saturating_sub(1));
-            let deals = deals(choose(count, left), far);
-            most += 1.max(count) as u64 * (sets * deals);
-        }
-        most
+        self.deals_below(self.setting.count as u32 + 1)
+    }
+
+    #[inline]
+    fn place(&self, s: DrawnState) -> u64 {
+        let left = self.rank(s);
+        let deal = deal_number(&self.setting, self.spread(), s.hands);
+        let undrawn = part_number(self.root().undrawn, s.undrawn);
+        let number = deal * self.sets(left) + undrawn;
+        self.deals_below(left) + (number * self.place_count() + s.place as u64)
     }
 
     #[inline]
@@ -246,6 +298,8 @@ impl Game for GoofspielDrawn {
     }
 
     ghost lawful = { λ game. drawn_is_game game.setting game.valid };
+
+    ghost numbered = { λ game. drawn_numbered game.setting game.valid };
 }
 
 /// The states stand for hands of cards, a score and places, and every call answers by the rules on these, draws and

@@ -1,29 +1,34 @@
 //! Goofspiel: two players bid their cards for prizes.
 #![tactic(auto)]
 
-ghost use Rattle.std.specs.Prelude.{◌≡◌, ◌<◌, ◌≤◌, ◌^◌, length, sum, unsigned_abs, MatchResult, None, Some};
+ghost use Rattle.std.specs.Prelude.{◌≡◌, ◌+◌, ◌*◌, ◌<◌, ◌≤◌, ◌^◌, length, sum, unsigned_abs, MatchResult, None, Some};
 ghost use Rattle.goofspiel.specs.declared.Pay.TheVariants.{Margin, Prizes};
 ghost use Rattle.goofspiel.specs.declared.Setting.{Setting};
 ghost use Rattle.goofspiel.specs.Laws.{goofspiel_is_game};
+ghost use Rattle.goofspiel.specs.PlaceLaws.{goofspiel_numbered};
+ghost use Rattle.goofspiel.specs.Places.{deals_with, far_with, goofspiel_numbering};
 ghost use Rattle.goofspiel.specs.SameTree.{with_pay, HasSameSerialBounds, HasSameTree};
 ghost use Rattle.goofspiel.specs.Position.{first_fault, prizes_of, IsPosition, IsSettingOf};
 ghost use Rattle.goofspiel.specs.Rules.{deal_of, goofspiel_game, high_of, low_of, next_prize, prizes_left, KeepsRules};
 ghost use Rattle.sim_game.specs.Model.{Reachable};
 ghost use Rattle.goofspiel.specs.Cards.{cards};
+ghost use Rattle.sums.specs.Sums.{count_below};
 
 mod counts;
 mod drawn;
 mod hands;
+mod places;
 mod position;
 mod refusals;
 mod sets;
 
-use counts::{choose, deals, spread};
+use counts::{choose, deals, pairs_below, spread};
 pub use drawn::{
     DrawnState, GoofspielDrawn, drawn_margin_by_prizes, drawn_position_has_one_game,
     drawn_same_serial_bounds, keeps_drawn_rules,
 };
 use hands::{hands_key, play, won_by};
+use places::deal_number;
 pub use position::position_has_one_game;
 use position::{
     check_cards, check_lengths, check_prizes, check_score, hand_of, prize_array, prize_sum,
@@ -181,10 +186,52 @@ impl Goofspiel {
     }
 }
 
+impl Goofspiel {
+    /// How far the score can be from the first one where each side has so many cards.
+    #[inline]
+    fn spread(&self, left: u32) -> u32
+        requires { left ≤ self.now.setting.count }
+        ensures is { result ≡ far_with self.now.setting left }
+        ensures few { result ≤ 3315 }
+    {
+        let gone = self.setting.count as usize - left as usize;
+        spread(self.setting.pay, &self.setting.prizes[..gone])
+    }
+
+    /// How many deals there are with fewer cards a side.
+    #[inline]
+    fn deals_below(&self, size: u32) -> u64
+        requires { size ≤ self.now.setting.count + 1 }
+        ensures is { result ≡ count_below size (deals_with self.now.setting) }
+        ensures few { result ≤ size * 2 ^ 39 }
+    {
+        match self.setting.pay {
+            Pay::Margin | Pay::Win => self.deals_summed(size),
+            Pay::Prizes => pairs_below(self.setting.count as u32, size),
+        }
+    }
+
+    /// How many deals there are with fewer cards a side, summed up: with so many cards left, each side has one of the
+    /// sets of so many of its cards, and the score differs from the first one by no more than the prizes that are gone.
+    fn deals_summed(&self, size: u32) -> u64
+        requires { size ≤ self.now.setting.count + 1 }
+        ensures is { result ≡ count_below size (deals_with self.now.setting) }
+        ensures few { result ≤ size * 2 ^ 39 }
+    {
+        let mut sum = 0;
+        for left in 0..size {
+            sum += deals(choose(self.setting.count as u32, left), self.spread(left));
+        }
+        sum
+    }
+}
+
 impl Game for Goofspiel {
     type State = State;
 
     ghost model = { λ game. goofspiel_game game.setting };
+
+    ghost numbering = { λ game. goofspiel_numbering game.setting };
 
     fn root(&self) -> State {
         State {
@@ -249,17 +296,14 @@ impl Game for Goofspiel {
         hands_key(s).0
     }
 
-    /// With so many cards left, each side has one of the sets of so many of its cards, and the score differs from the
-    /// first one by no more than the prizes that are gone, or not at all where they are paid when they are won.
     fn most_states(&self) -> u64 {
-        let count = self.setting.count;
-        let mut most = 0;
-        for left in 0..count + 1 {
-            let gone = prize_sum(&self.setting.prizes[..(count - left) as usize]);
-            let far = spread(self.setting.pay, gone);
-            most += deals(choose(count as u32, left as u32), far);
-        }
-        most
+        self.deals_below(self.setting.count as u32 + 1)
+    }
+
+    #[inline]
+    fn place(&self, s: State) -> u64 {
+        let left = self.rank(s);
+        self.deals_below(left) + deal_number(&self.setting, self.spread(left), s)
     }
 
     #[inline]
@@ -304,6 +348,8 @@ impl Game for Goofspiel {
     }
 
     ghost lawful = { λ game. goofspiel_is_game game.setting game.valid };
+
+    ghost numbered = { λ game. goofspiel_numbered game.setting game.valid };
 }
 
 /// The states stand for hands of cards and a score, and every call answers by the rules on these.

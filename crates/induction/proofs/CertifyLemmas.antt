@@ -1,5 +1,5 @@
 -- Rows that are certified one after another, children first, are a lawful sheet.
-use Rattle.std.proofs.Common.{◌≡◌, ℕ, ◌+◌, ◌<◌, ◌≤◌, ℤ, ◌+ℤ◌, Bool, false, cond, eqb, Option, None, Some, List, [], ◌∷◌, ◌++◌, map, length, take, get_or, refl, sym, ap, subst, ◌∙◌, append_assoc, length-append, arith}
+use Rattle.std.proofs.Common.{◌≡◌, ℕ, ◌+◌, ◌<◌, ◌≤◌, ℤ, pos, ◌+ℤ◌, Bool, true, false, cond, eqb, Option, None, Some, List, [], ◌∷◌, ◌++◌, map, length, take, get_or, option_and_then, slice_get, refl, sym, ap, subst, ◌∙◌, append_assoc, length-append, arith}
 use Rattle.std.proofs.lemmas.List.{get_or_default, take_all, length-map, length_push}
 use Rattle.std.proofs.lemmas.List.Elements.{All-weaker, All-push, All-nil}
 use Rattle.std.proofs.lemmas.Cmp.{nat_eq_equiv}
@@ -7,7 +7,8 @@ use Rattle.std.proofs.lemmas.List.Sorted.{All-permutation, IsPermutation-map, le
 use Rattle.std.proofs.lemmas.Map.Keys.{IsDistinct-IsPermutation}
 use Rattle.std.specs.List.{All, IsDistinct}
 use Rattle.std.specs.List.Sorted.{IsNonDecreasingBy, IsPermutation}
-use Rattle.std.specs.Option.{is_some}
+use Rattle.std.proofs.lemmas.Option.{slice_get-get_or}
+use Rattle.std.specs.Option.{IfSome, is_some}
 use Rattle.sim_game.specs.declared.Side.{Side}
 use Rattle.sim_game.specs.Model.{GameModel, IsGame, Reachable}
 use Rattle.sim_game.specs.Sides.{other_side, turn_of, draws_of, child_of, turn_reward}
@@ -159,6 +160,13 @@ module _ {S : Type 0} (m : GameModel S) (game : IsGame m) (side : Side) (total :
       }
 
 -- ---- the next of them
+no_place_yet : (rows : List SheetRow) (place : Option ℕ) → IfSome place (λ i. i < length rows) → is_some (option_and_then (slice_get rows) place) ≡ false → is_some place ≡ false
+no_place_yet rows None within none = refl
+no_place_yet rows (Some i) within none =
+    absurd (let row : SheetRow = record { key = 0; bound = pos 0; weights = [] } in
+    let some = ap is_some (slice_get-get_or rows i row within) in
+    let no : true ≡ false = sym some ∙ none in cc)
+
 item_there : {X : Type 0} (xs ys : List X) (x : X) → x ≡ get_or (xs ++ x ∷ ys) (length xs) x
 item_there [] ys x = refl
 item_there (y ∷ xs) ys x = item_there xs ys x
@@ -190,6 +198,15 @@ module _ {S : Type 0} (m : GameModel S) (side : Side) (total : ℕ) (ps done res
       certified_more m game side total ps (done ++ p ∷ left) ordered_here (length done) p (there done left p) (item_there done left p) rows row places now here key weights best put in
       subst (λ (n : ℕ). AreCertified m side total (planned ps) ((done ++ p ∷ []) ++ left) n (rows ++ row ∷ []) now) (sym (length_push done p))
       (subst (λ (l : List (PlannedState S)). AreCertified m side total (planned ps) l (length done + 1) (rows ++ row ∷ []) now) moved_on more)
+
+  pub new_place : (rows : List SheetRow) (places : ℕ → Option ℕ) (key : ℕ) → AreCertified m side total (planned ps) (done ++ rest) (length done) rows places → key ≡ p.key
+      → is_some (places key) ≡ false
+  new_place rows places key old same =
+      let here : AreCertified m side total (planned ps) (done ++ p ∷ left) (length done) rows places =
+      subst (λ (l : List (PlannedState S)). AreCertified m side total (planned ps) (done ++ l) (length done) rows places) split old in
+      let new : is_some (row_at rows key) ≡ false =
+      rw same (next_is_new (done ++ p ∷ left) (length done) p rows ordered_here.distinct (there done left p) (item_there done left p) here.filled) in
+      no_place_yet rows (places key) (here.placed.within key) (ap is_some (here.placed.found key) ∙ new)
 
 pub none_left : {X : Type 0} (done rest : List X) (n : ℕ) → n ≡ length rest → n ≡ 0 → length (done ++ rest) ≤ length done
 none_left done rest n long none = rw length-append (omega (arith, long, none))

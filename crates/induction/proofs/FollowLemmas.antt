@@ -81,7 +81,7 @@ none_followed m side total seen none = record {
   plan = record { distinct = tt; each = All-nil _ };
   undecided = All-nil _;
   keys = λ key. ap is_some (none key);
-  known = none_known m _ 0 refl;
+  known = none_known m m.key _ 0 refl;
 }
 
 is_some_step : (here : Bool) (place : ℕ) (row : SheetRow) (o : Option ℕ) (r : Option SheetRow) → is_some o ≡ is_some r → is_some (cond here (Some place) o) ≡ is_some (cond here (Some row) r)
@@ -124,8 +124,8 @@ module _ {S : Type 0} (m : GameModel S) (side : Side) (total place : ℕ) (seen 
           (still p (record { is_key = is_key; is_rank = is_rank; goes_on = (let on = mine.goes_on in omega (arith, on, is_rank)); reached = reached; whole = whole }));
     };
     undecided = All-push (λ x. IsUndecided m x.state) states p old.undecided mine;
-    known = subst (KnowsUndecided m (λ q. is_some (now q))) (sym (length_push states p))
-        (known_more m (λ q. is_some (seen q)) (length states) old.known p.state (reached_reachable m side (planned states) p.state reached) mine
+    known = subst (KnowsUndecided m m.key (λ q. is_some (now q))) (sym (length_push states p))
+        (known_more m m.key (λ q. is_some (seen q)) (length states) old.known p.state (reached_reachable m side (planned states) p.state reached) mine
         (ap (λ (k : ℕ). is_some (seen k)) is_key ∙ new) (λ q. is_some (now q))
         (λ q. ap is_some (put q) ∙ some_put (eqb p.key q) place (seen q) ∙ ap (λ (k : ℕ). cond (eqb k q) true (is_some (seen q))) (sym is_key)));
     keys = λ q. ap is_some (put q) ∙ is_some_step (eqb p.key q) place (open_row p) (seen q) (planned states q) (old.keys q) ∙ ap is_some (sym (here q));

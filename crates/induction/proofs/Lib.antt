@@ -5,3 +5,5 @@ pub mod UndecidedLemmas
 pub mod FollowLemmas
 pub mod ValueLemmas
 pub mod SpentLemmas
+mod KeyLemmas
+mod PlaceLemmas

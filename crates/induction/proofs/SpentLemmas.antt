@@ -29,15 +29,17 @@ stopped_later m Many i j a b c e p q = record { why = q.why; count = q.count; un
 pub stopped_at : {S : Type 0} (m : GameModel S) (Many : Type 0) (i j : ℕ) (a b : Budget) (e : GaveUp) → IsReason Many b e → HasUndecided m j → HasSpent i j a b → IsStopped m Many i a b e
 stopped_at m Many i j a b e why undecided spent = record { why = why; count = j; undecided = undecided; spent = spent }
 
--- it gave up at a state whose key is not known
-pub stopped_here : {S : Type 0} (m : GameModel S) (Many : Type 0) (known : ℕ → Bool) (n : ℕ) → KnowsUndecided m known n → (s : S) → Reachable m s → IsUndecided m s → known (m.key s) ≡ false
+-- it gave up at a state whose number is not known
+pub stopped_here : {S : Type 0} (m : GameModel S) (Many : Type 0) (number : S → ℕ) (known : ℕ → Bool) (n : ℕ) → KnowsUndecided m number known n
+    → (s : S) → Reachable m s → IsUndecided m s → known (number s) ≡ false
     → (a b : Budget) (e : GaveUp) → HasSpent 0 1 a b → IsReason Many b e → IsStopped m Many n a b e
-stopped_here m Many known n old s reach mine new a b e spent why =
-    stopped_at m Many n (n + 1) a b e why (one_more_undecided m known n old s reach mine new) (spent_one n a b spent)
+stopped_here m Many number known n old s reach mine new a b e spent why =
+    stopped_at m Many n (n + 1) a b e why (one_more_undecided m number known n old s reach mine new) (spent_one n a b spent)
 
 -- it gave up before that, and the turns are as before
-pub stopped_before : {S : Type 0} (m : GameModel S) (Many : Type 0) (known : ℕ → Bool) (n : ℕ) → KnowsUndecided m known n → (a : Budget) (e : GaveUp) → IsReason Many a e → IsStopped m Many n a a e
-stopped_before m Many known n old a e why = stopped_at m Many n n a a e why old.undecided (none_spent n a)
+pub stopped_before : {S : Type 0} (m : GameModel S) (Many : Type 0) (number : S → ℕ) (known : ℕ → Bool) (n : ℕ) → KnowsUndecided m number known n
+    → (a : Budget) (e : GaveUp) → IsReason Many a e → IsStopped m Many n a a e
+stopped_before m Many number known n old a e why = stopped_at m Many n n a a e why old.undecided (none_spent n a)
 
 pub reason_up : (Many : Type 0) (b : Budget) (e : GaveUp) → IsReason ⊥ b e → IsReason Many b e
 reason_up Many b TooManyStates h = absurd h
@@ -55,7 +57,7 @@ no_memory Many b e is = subst (IsReason Many b) (sym is) tt
 -- ---- three times
 module _ {S : Type 0} (m : GameModel S) where
   nothing : HasUndecided m 0
-  nothing = (none_known m (λ key. false) 0 refl).undecided
+  nothing = (none_known m m.key (λ key. false) 0 refl).undecided
 
   pub each_one : (i : ℕ) (a b : Budget) → HasUndecided m i → HasSpent 0 i a b → HasSpentEach m 3 a b
   each_one i a b u p = spent_each m a b i 0 0 p.same p.more (let few = p.few in omega (arith, few)) u nothing nothing

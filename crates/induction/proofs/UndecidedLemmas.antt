@@ -15,15 +15,15 @@ some_put true x o = refl
 some_put false x o = refl
 
 module _ {S : Type 0} (m : GameModel S) where
-  pub none_known : (known : ℕ → Bool) (count : ℕ) → count ≡ 0 → KnowsUndecided m known count
-  none_known known count e = record {
+  pub none_known : (number : S → ℕ) (known : ℕ → Bool) (count : ℕ) → count ≡ 0 → KnowsUndecided m number known count
+  none_known number known count e = record {
     undecided = record {
       states = λ i. m.root;
       reachable = λ i l. absurd (omega (arith, e));
       each = λ i l. absurd (omega (arith, e));
       apart = λ i j l h. absurd (omega (arith, e));
     };
-    keys = λ i l. absurd (omega (arith, e));
+    each = λ i l. absurd (omega (arith, e));
   }
 
   pub fewer : (count less : ℕ) → HasUndecided m count → less ≤ count → HasUndecided m less
@@ -34,8 +34,8 @@ module _ {S : Type 0} (m : GameModel S) where
     apart = λ i j l k. h.apart i j l (omega (arith, k, few));
   }
 
-  -- ---- one state more, whose key is not known yet
-  module _ (known : ℕ → Bool) (count : ℕ) (old : KnowsUndecided m known count) (s : S) (reach : Reachable m s) (mine : IsUndecided m s) (new : known (m.key s) ≡ false) where
+  -- ---- one state more, whose number is not known yet
+  module _ (number : S → ℕ) (known : ℕ → Bool) (count : ℕ) (old : KnowsUndecided m number known count) (s : S) (reach : Reachable m s) (mine : IsUndecided m s) (new : known (number s) ≡ false) where
     abbrev further : ℕ → S
     further i = cond (eqb i count) s (old.undecided.states i)
 
@@ -52,7 +52,7 @@ module _ {S : Type 0} (m : GameModel S) where
     ]
 
     other : (i : ℕ) → i < count → old.undecided.states i ≢ s
-    other i l e = absurd (let yes : known (m.key s) ≡ true = ap (λ (x : S). known (m.key x)) (sym e) ∙ old.keys i l in let no : true ≡ false = sym yes ∙ new in cc)
+    other i l e = absurd (let yes : known (number s) ≡ true = ap (λ (x : S). known (number x)) (sym e) ∙ old.each i l in let no : true ≡ false = sym yes ∙ new in cc)
 
     apart_more : (i j : ℕ) → i < j → j < count + 1 → further i ≢ further j
     apart_more i j l h = elim (cases_lt j count) [
@@ -70,19 +70,19 @@ module _ {S : Type 0} (m : GameModel S) where
       apart = apart_more;
     }
 
-    still : (now : ℕ → Bool) → ((q : ℕ) → now q ≡ cond (eqb (m.key s) q) true (known q)) → (q : ℕ) → known q ≡ true → now q ≡ true
-    still now put q h = put q ∙ ap (λ (b : Bool). cond (eqb (m.key s) q) true b) h ∙ either (eqb (m.key s) q)
+    still : (now : ℕ → Bool) → ((q : ℕ) → now q ≡ cond (eqb (number s) q) true (known q)) → (q : ℕ) → known q ≡ true → now q ≡ true
+    still now put q h = put q ∙ ap (λ (b : Bool). cond (eqb (number s) q) true b) h ∙ either (eqb (number s) q)
       where
         either : (b : Bool) → cond b true true ≡ true
         either true = refl
         either false = refl
 
-    pub known_more : (now : ℕ → Bool) → ((q : ℕ) → now q ≡ cond (eqb (m.key s) q) true (known q)) → KnowsUndecided m now (count + 1)
+    pub known_more : (now : ℕ → Bool) → ((q : ℕ) → now q ≡ cond (eqb (number s) q) true (known q)) → KnowsUndecided m number now (count + 1)
     unfolding one_more_undecided
     known_more now put = record {
       undecided = one_more_undecided;
-      keys = for_each (λ x. now (m.key x) ≡ true) (λ i l. still now put (m.key (old.undecided.states i)) (old.keys i l))
-          (put (m.key s) ∙ ap (λ (b : Bool). cond b true (known (m.key s))) (is_same (m.key s) (m.key s) refl));
+      each = for_each (λ x. now (number x) ≡ true) (λ i l. still now put (number (old.undecided.states i)) (old.each i l))
+          (put (number s) ∙ ap (λ (b : Bool). cond b true (known (number s))) (is_same (number s) (number s) refl));
     }
 
   -- ---- the most of three

@@ -24,42 +24,47 @@ item_after m game side weights s k child r h item =
     let there : child ≡ after_turn m s t = item ∙ c.is in
     record { reachable = rw there (reachable_turn m s t r legal); lower = rw there (game.rank_falls s t r legal) }
 
--- ---- while the states that follow a state are explored
-pub record IsExploring {S : Type 0} (m : GameModel S) (s : S) (rows : ℕ) (old new : ℕ → Bool) (count : ℕ) : Type 0 where
-  pub known : KnowsUndecided m new count
-  pub few : count ≤ rows
-  pub others : (t : S) → Reachable m t → m.rank s ≤ m.rank t → new (m.key t) ≡ old (m.key t)
+pub item_in : {S : Type 0} (m : GameModel S) → IsGame m → (side : Side) (weights : List ℕ) (s : S) (items : List S) → items ≡ children_of m side weights s → (k : ℕ) (child : S) → Reachable m s
+    → k < length items → child ≡ get_or items k child → IsAfter m s child
+item_in m game side weights s items is k child r h item = item_after m game side weights s k child r (rw (← is) h) (rw (← is) item)
 
-module _ {S : Type 0} (m : GameModel S) (s : S) (rows : ℕ) (old : ℕ → Bool) where
-  pub explored_already : (count : ℕ) → KnowsUndecided m old count → count ≤ rows → IsExplored m s rows old old count
+-- ---- while the states that follow a state are explored
+pub record IsExploring {S : Type 0} (m : GameModel S) (number : S → ℕ) (s : S) (rows : ℕ) (old new : ℕ → Bool) (count : ℕ) : Type 0 where
+  pub known : KnowsUndecided m number new count
+  pub few : count ≤ rows
+  pub others : (t : S) → Reachable m t → m.rank s ≤ m.rank t → new (number t) ≡ old (number t)
+
+module _ {S : Type 0} (m : GameModel S) (number : S → ℕ) (s : S) (rows : ℕ) (old : ℕ → Bool) where
+  pub explored_already : (count : ℕ) → KnowsUndecided m number old count → count ≤ rows → IsExplored m number s rows old old count
   explored_already count known few = record { known = known; few = few; others = λ t r l. refl }
 
-  pub exploring_first : (count : ℕ) → KnowsUndecided m old count → count ≤ rows → IsExploring m s rows old old count
+  pub exploring_first : (count : ℕ) → KnowsUndecided m number old count → count ≤ rows → IsExploring m number s rows old old count
   exploring_first count known few = record { known = known; few = few; others = λ t r l. refl }
 
-  pub exploring_more : (mid new : ℕ → Bool) (count more : ℕ) (child : S) → m.rank child < m.rank s → IsExploring m s rows old mid count → IsExplored m child rows mid new more
-      → IsExploring m s rows old new more
+  pub exploring_more : (mid new : ℕ → Bool) (count more : ℕ) (child : S) → m.rank child < m.rank s → IsExploring m number s rows old mid count → IsExplored m number child rows mid new more
+      → IsExploring m number s rows old new more
   exploring_more mid new count more child lower at next = record {
     known = next.known;
     few = next.few;
     others = λ t r l. next.others t r (omega (arith, lower, l)) ∙ at.others t r l;
   }
 
-  module _ (game : IsGame m) (mid : ℕ → Bool) (count : ℕ) (at : IsExploring m s rows old mid count) (reach : Reachable m s) (new : old (m.key s) ≡ false) where
-    pub still_new : mid (m.key s) ≡ false
+  module _ (mid : ℕ → Bool) (count : ℕ) (at : IsExploring m number s rows old mid count) (reach : Reachable m s) (new : old (number s) ≡ false) where
+    pub still_new : mid (number s) ≡ false
     still_new = at.others s reach (omega arith) ∙ new
 
-    pub explored_here : IsUndecided m s → count < rows → (now : ℕ → Bool) → ((q : ℕ) → now q ≡ cond (eqb (m.key s) q) true (mid q)) → IsExplored m s rows old now (count + 1)
-    explored_here mine room now put = record {
-      known = known_more m mid count at.known s reach mine still_new now put;
+    pub explored_here : ((t : S) → Reachable m t → number s ≡ number t → s ≡ t) → IsUndecided m s → count < rows
+        → (now : ℕ → Bool) → ((q : ℕ) → now q ≡ cond (eqb (number s) q) true (mid q)) → IsExplored m number s rows old now (count + 1)
+    explored_here apart mine room now put = record {
+      known = known_more m number mid count at.known s reach mine still_new now put;
       few = omega (arith, room);
       others = λ t r l.
-          put (m.key t)
-          ∙ ap (λ (b : Bool). cond b true (mid (m.key t))) (is_other (m.key s) (m.key t) (λ e. let same : s ≡ t = game.same_key s t reach r e in
+          put (number t)
+          ∙ ap (λ (b : Bool). cond b true (mid (number t))) (is_other (number s) (number t) (λ e. let same : s ≡ t = apart t r e in
           let rank : m.rank s ≡ m.rank t = ap m.rank same in absurd (omega (arith, rank, l))))
           ∙ at.others t r (omega (arith, l));
     }
 
     pub too_many : IsUndecided m s → rows ≤ count → HasUndecided m (rows + 1)
     too_many mine full = let all : count ≡ rows = (let few = at.few in omega (arith, few, full)) in
-        subst (λ (n : ℕ). HasUndecided m (n + 1)) all (one_more_undecided m mid count at.known s reach mine still_new)
+        subst (λ (n : ℕ). HasUndecided m (n + 1)) all (one_more_undecided m number mid count at.known s reach mine still_new)

@@ -3,3 +3,5 @@ pub mod Planned
 pub mod Certified
 pub mod Spent
 pub mod Induced
+pub mod Keys
+pub mod Places

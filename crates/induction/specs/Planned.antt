@@ -56,7 +56,7 @@ pub record AreFollowed {S : Type 0} (m : GameModel S) (side : Side) (total : ℕ
   pub plan : ArePlanned m side total states
   pub undecided : All (λ p. IsUndecided m p.state) states
   pub keys : (key : ℕ) → is_some (seen key) ≡ is_some (planned states key)
-  pub known : KnowsUndecided m (λ key. is_some (seen key)) (length states)
+  pub known : KnowsUndecided m m.key (λ key. is_some (seen key)) (length states)
 
 -- from the states before a visit of a state to those after it: all that follow the further ones are there
 pub record IsVisited {S : Type 0} (m : GameModel S) (side : Side) (old new : List (PlannedState S)) (s : S) : Type 0 where

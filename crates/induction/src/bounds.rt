@@ -1,17 +1,17 @@
 //! The best bound that weights prove at a state over rows of the states that follow.
 
-ghost use Rattle.std.specs.Prelude.{◌≡◌, ◌<◌, ◌≤◌, ◌+ℤ◌, length, nat_eq, unsigned_abs, All};
-ghost use Rattle.std.specs.HashMap.{get};
+ghost use Rattle.std.specs.Prelude.{◌≡◌, ◌<◌, ◌≤◌, ◌+ℤ◌, length, unsigned_abs, All};
 ghost use Rattle.sim_game.specs.Model.{Reachable};
 ghost use Rattle.sim_game.specs.Sides.{other_side};
 ghost use Rattle.plan_book.specs.Plans.{AreWeights};
 ghost use Rattle.plan_book.specs.Sheets.{bound_at};
 ghost use Rattle.plan_book.specs.Steps.{cell, worth};
+ghost use Rattle.induction.specs.Keys.{key_place};
 ghost use Rattle.induction.specs.Certified.{ArePlaced, IsBestStep, turn_numbers};
 
+use crate::keys::KeyTable;
 use plan_book::SheetRow;
 use sim_game::{CHANCE, Game, Side, end_bound, state_bound, turn_reward};
-use std::collections::HashMap;
 use sums::weighted;
 
 /// A turn's reward, with a bound at the state that follows.
@@ -24,19 +24,13 @@ fn with_reward(reward: i64, bound: i64) -> i64
 }
 
 /// The bound of the state's row, else the payoff of an end, else what holds of every value of the state; in millionths.
-fn bound_by<G: Game>(
-    g: G,
-    side: Side,
-    rows: &[SheetRow],
-    places: &HashMap<u64, usize>,
-    s: G::State,
-) -> i64
-    requires placed { ArePlaced (G.model g) rows.now (get nat_eq places.now) }
+fn bound_by<G: Game>(g: G, side: Side, rows: &[SheetRow], places: &KeyTable, s: G::State) -> i64
+    requires placed { ArePlaced (G.model g) rows.now (key_place places.now) }
     requires reachable { Reachable (G.model g) s }
     ensures { result ≡ bound_at (G.model g) side rows.now s }
 {
-    match places.get(&g.key(s)) {
-        Some(&place) => rows[place].bound,
+    match places.place(g.key(s)) {
+        Some(place) => rows[place].bound,
         None if g.rank(s) == 0 => end_bound(g, s),
         None => state_bound(g, side, s),
     }
@@ -47,12 +41,12 @@ fn cell<G: Game>(
     g: G,
     side: Side,
     rows: &[SheetRow],
-    places: &HashMap<u64, usize>,
+    places: &KeyTable,
     s: G::State,
     own: u32,
     reply: u32,
 ) -> i64
-    requires placed { ArePlaced (G.model g) rows.now (get nat_eq places.now) }
+    requires placed { ArePlaced (G.model g) rows.now (key_place places.now) }
     requires reachable { Reachable (G.model g) s }
     requires own { own < (G.model g).moves side s }
     requires reply { reply < (G.model g).moves (other_side side) s }
@@ -75,18 +69,18 @@ fn worth<G: Game>(
     g: G,
     side: Side,
     rows: &[SheetRow],
-    places: &HashMap<u64, usize>,
+    places: &KeyTable,
     weights: &[u32],
     s: G::State,
     reply: u32,
 ) -> i64
-    requires placed { ArePlaced (G.model g) rows.now (get nat_eq places.now) }
+    requires placed { ArePlaced (G.model g) rows.now (key_place places.now) }
     requires reachable { Reachable (G.model g) s }
     requires one_each { length weights.now ≡ (G.model g).moves side s }
     requires light { All (λ w. w ≤ 1048576) weights.now }
     requires reply { reply < (G.model g).moves (other_side side) s }
     ensures value { result ≡ worth (G.model g) side s weights.now (turn_numbers (G.model g) side rows.now s) reply }
-    ensures small { unsigned_abs result ≤ 134217728000000000 }
+    ensures small { unsigned_abs result ≤ 268435456000000000 }
 {
     let mut sum: i64 = 0;
     for own in 0..g.moves(side, s) {
@@ -105,11 +99,11 @@ pub(crate) fn best_bound<G: Game>(
     side: Side,
     total: u32,
     rows: &[SheetRow],
-    places: &HashMap<u64, usize>,
+    places: &KeyTable,
     weights: &[u32],
     s: G::State,
 ) -> i64
-    requires placed { ArePlaced (G.model g) rows.now (get nat_eq places.now) }
+    requires placed { ArePlaced (G.model g) rows.now (key_place places.now) }
     requires reachable { Reachable (G.model g) s }
     requires goes_on { 1 ≤ (G.model g).rank s }
     requires some { 1 ≤ total }

@@ -1,22 +1,22 @@
 //! Plans from the root down.
 
-ghost use Rattle.std.specs.Prelude.{◌≡◌, ◌≤◌, length, nat_eq, IfOk, IfErr, OnOk};
-ghost use Rattle.std.specs.HashMap.{get};
+ghost use Rattle.std.specs.Prelude.{◌≡◌, ◌≤◌, length, IfOk, IfErr, OnOk};
 ghost use Rattle.sim_game.specs.Model.{Reachable};
 ghost use Rattle.plan_book.specs.Plans.{AreWeights};
 ghost use Rattle.plan_book.specs.Sheets.{IsReached};
 ghost use Rattle.matrix_game.specs.Budget.{Budget};
+ghost use Rattle.induction.specs.Keys.{key_place};
 ghost use Rattle.induction.specs.Spent.{HasSpent, IsReason, IsStopped};
 ghost use Rattle.induction.specs.Undecided.{HasUndecided};
 ghost use Rattle.induction.specs.Planned.{AreFollowed, IsVisited, IsWholePlan, planned};
 
 use crate::decided::is_decided;
+use crate::keys::KeyTable;
 use crate::{GaveUp, PlannedState};
 use plan_book::children;
 use seq::Seq;
 use sim_game::{Game, Side};
 use std::alloc::Global;
-use std::collections::HashMap;
 
 /// What proposes weights.
 pub trait Proposer<G: Game> {
@@ -45,8 +45,8 @@ pub trait Proposer<G: Game> {
 /// The states that a walk has come to.
 #[derive(Drop)]
 struct Walk<S> {
-    // The place of each state's key.
-    seen: HashMap<u64, usize>,
+    // The keys of the states.
+    seen: KeyTable,
     states: Vec<PlannedState<S>>,
 }
 
@@ -68,7 +68,7 @@ pub fn plan_from<G: Game, P: Proposer<G>>(
         HasSpent 0 (length states.items) (P.turns proposer.old) (P.turns proposer.new)) }
     ensures err { IfErr result (IsStopped (G.model g) ⊥ 0 (P.turns proposer.old) (P.turns proposer.new)) }
 {
-    let seen = HashMap::new(alloc);
+    let seen = KeyTable::new(alloc);
     let states = Vec::new(alloc);
     let mut walk = Walk { seen, states };
     visit(alloc, g, side, total, g.root(), proposer, &mut walk)?;
@@ -89,9 +89,9 @@ fn visit<G: Game, P: Proposer<G>>(
     requires some { 1 ≤ total }
     requires light { total ≤ 1048576 }
     requires reached { IsReached (G.model g) side (planned walk.old.states.items) s }
-    requires followed { AreFollowed (G.model g) side total (get nat_eq walk.old.seen) walk.old.states.items }
+    requires followed { AreFollowed (G.model g) side total (key_place walk.old.seen) walk.old.states.items }
     ensures followed { OnOk result
-        (AreFollowed (G.model g) side total (get nat_eq walk.new.seen) walk.new.states.items) }
+        (AreFollowed (G.model g) side total (key_place walk.new.seen) walk.new.states.items) }
     ensures visited { OnOk result (IsVisited (G.model g) side walk.old.states.items walk.new.states.items s) }
     ensures spent { OnOk result (HasSpent (length walk.old.states.items) (length walk.new.states.items)
         (P.turns proposer.old) (P.turns proposer.new)) }
@@ -102,14 +102,14 @@ fn visit<G: Game, P: Proposer<G>>(
         return Ok(());
     }
     let key = g.key(s);
-    if walk.seen.contains_key(&key) {
+    if walk.seen.contains(key) {
         return Ok(());
     }
     let rank = g.rank(s);
     let weights = proposer.propose(alloc, g, side, total, s)?;
     let below = children(alloc, g, side, weights.as_slice(), s)?;
     let weights = Seq::from_vec(weights);
-    walk.seen.insert(key, walk.states.len())?;
+    walk.seen.add(alloc, key)?;
     walk.states.push(PlannedState {
         state: s,
         key,

@@ -1,13 +1,13 @@
 //! Lawful sheets of both sides, by one pass over the states and one over each side's plan.
 
 ghost use Rattle.std.specs.Prelude.{◌≡◌, ◌⊎◌, ◌+◌, ◌≤◌, length, IfOk, IfErr, IfSome, IfNone};
-ghost use Rattle.std.specs.HashMap.{hash_map_len};
 ghost use Rattle.matrix_game.specs.Budget.{left_of};
 ghost use Rattle.induction.specs.Spent.{HasSpent, HasSpentEach, IsReason, IsStopped};
 ghost use Rattle.induction.specs.Undecided.{HasUndecided};
 ghost use Rattle.induction.specs.Induced.{IsInduced, IsSheetOf};
 
-use crate::values::{Values, explore};
+use crate::places::PlaceTable;
+use crate::values::{Stage, Values, explore};
 use crate::{GaveUp, certify, plan_from};
 use matrix_game::Turns;
 use plan_book::{Sheet, bound_of};
@@ -47,14 +47,14 @@ fn sheet_of<G: Game>(
 fn sheets<G: Game>(alloc: Global, g: G, total: u32, values: &mut Values) -> Result<Induced, GaveUp>
     requires some { 1 ≤ total }
     requires light { total ≤ 1048576 }
-    requires none { hash_map_len values.old.known ≡ 0 }
+    requires none { values.old.count ≡ 0 }
     ensures sheets { IfOk result (IsInduced (G.model g) total) }
     ensures few { IfOk result (λ found. HasSpent 0
         (values.old.rows + length found.one.rows + length found.two.rows) values.old.turns values.new.turns) }
     ensures spent { HasSpentEach (G.model g) 3 values.old.turns values.new.turns }
     ensures err { IfErr result (IsReason (HasUndecided (G.model g) (values.old.rows + 1)) values.new.turns) }
 {
-    explore(alloc, g, total, g.root(), values)?;
+    explore(alloc, g, g.root(), values)?;
     let one = sheet_of(alloc, g, Side::One, total, values)?;
     let two = sheet_of(alloc, g, Side::Two, total, values)?;
     let lower = bound_of(g, &one, g.root());
@@ -86,7 +86,9 @@ pub fn solve<G: Game>(
         ((left_of turns.new ≡ 0) ⊎ HasUndecided (G.model g) (rows + 1))) }
     ensures spent { HasSpentEach (G.model g) 3 turns.old turns.new }
 {
-    let mut values = Values::new(alloc, g, rows, mem::replace(turns, Turns::new(0)));
+    let stage = Stage::new(alloc)?;
+    let known = PlaceTable::new(alloc, g.most_states(), rows)?;
+    let mut values = Values::new(known, rows, mem::replace(turns, Turns::new(0)), stage);
     let found = sheets(alloc, g, total, &mut values);
     *turns = values.into_turns();
     match found {

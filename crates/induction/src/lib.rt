@@ -7,6 +7,8 @@ mod decided;
 mod follow;
 mod gave_up;
 mod induced;
+mod keys;
+mod places;
 mod sheets;
 mod values;
 

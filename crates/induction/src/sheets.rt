@@ -1,20 +1,20 @@
 //! A lawful sheet of a plan.
 
-ghost use Rattle.std.specs.Prelude.{◌≡◌, ◌≤◌, ℕ, length, IfOk, nat_eq};
-ghost use Rattle.std.specs.HashMap.{get};
+ghost use Rattle.std.specs.Prelude.{◌≡◌, ◌≤◌, ℕ, length, IfOk};
 ghost use Rattle.sim_game.specs.Model.{Reachable};
 ghost use Rattle.plan_book.specs.Plans.{AreWeights};
 ghost use Rattle.plan_book.specs.Sheets.{row_at, IsLawful};
+ghost use Rattle.induction.specs.Keys.{key_place};
 ghost use Rattle.induction.specs.Certified.{ArePlaced, IsBestStep, HasBestBounds};
 ghost use Rattle.induction.specs.Planned.{ArePlanned, planned, weights_of_row};
 
 use crate::PlannedState;
 use crate::bounds::best_bound;
+use crate::keys::KeyTable;
 use plan_book::{Sheet, SheetRow};
 use seq::Seq;
 use sim_game::{Game, NoMemory, Side};
 use std::alloc::Global;
-use std::collections::HashMap;
 
 /// The sheet of planned states with their weights: for each the best bound that its weights prove over the bounds of the
 /// states that follow. Ranks fall with each turn, so states of lower rank come first. The sheet is lawful, whatever the
@@ -40,10 +40,10 @@ pub fn certify<G: Game>(
     let mut states = states;
     states.sort_unstable_by_key(|state| state.rank);
     let mut rows: Vec<SheetRow> = Vec::new(alloc);
-    let mut places: HashMap<u64, usize> = HashMap::new(alloc);
+    let mut places = KeyTable::new(alloc);
     for state in states {
         let row = row_of(g, side, total, &rows, &places, state);
-        places.insert(row.key, rows.len())?;
+        places.add(alloc, row.key)?;
         rows.push(row)?;
     }
     rows.sort_unstable_by_key(|row| row.key);
@@ -60,10 +60,10 @@ fn row_of<G: Game>(
     side: Side,
     total: u32,
     rows: &[SheetRow],
-    places: &HashMap<u64, usize>,
+    places: &KeyTable,
     planned: PlannedState<G::State>,
 ) -> SheetRow
-    requires placed { ArePlaced (G.model g) rows.now (get nat_eq places.now) }
+    requires placed { ArePlaced (G.model g) rows.now (key_place places.now) }
     requires reachable { Reachable (G.model g) planned.state }
     requires goes_on { 1 ≤ (G.model g).rank planned.state }
     requires some { 1 ≤ total }

@@ -1,49 +1,159 @@
 //! Values of states by linear programs, children first, and the weights that they propose. Nothing is promised of how near
 //! the values are.
 
-ghost use Rattle.std.specs.Prelude.{◌≡◌, ℕ, ◌<◌, ◌≤◌, ◌+◌, ◌*◌, length, All, unsigned_abs, is_some, cond, true, false, nat_eq, IfOk, IfErr, OnOk};
-ghost use Rattle.std.specs.HashMap.{get, hash_map_len};
+ghost use Rattle.std.specs.Prelude.{◌≡◌, ℕ, ◌<◌, ◌≤◌, ◌+◌, ◌*◌, length, cond, true, false, nat_eq, IfOk, IfErr, OnOk};
 ghost use Rattle.sim_game.specs.Model.{Reachable};
-ghost use Rattle.matrix_game.specs.Grid.{IsSmallCell};
-ghost use Rattle.matrix_game.specs.Rounds.{IsWeighted};
+ghost use Rattle.sim_game.specs.Sides.{other_side};
+ghost use Rattle.plan_book.specs.Plans.{AreWeights};
+ghost use Rattle.matrix_game.specs.Budget.{left_of, after_one_turn};
+ghost use Rattle.induction.specs.Places.{is_put, place_word};
 ghost use Rattle.induction.specs.Spent.{HasSpent, IsReason, IsStopped};
 ghost use Rattle.induction.specs.Undecided.{IsUndecided, HasUndecided, KnowsUndecided, IsExplored};
 
 use crate::decided::is_decided;
+use crate::places::PlaceTable;
 use crate::{GaveUp, Proposer};
-use matrix_game::{Matrix, SolverKind, StageError, StagePlans, StageSolver, Turns};
+use matrix_game::{FloatSolver, Turns};
 use plan_book::children;
 use sim_game::{CHANCE, Game, Side};
 use std::alloc::{AllocError, Global};
-use std::collections::HashMap;
-use sums::MOST_BOUND;
+use std::num::{f64_from_bits_with_nan, f64_to_bits_with_nan};
 
-/// Values of states by their keys, in parts of a payoff that are as small as the cells of a matrix allow.
+// One for each move that a side may have.
+const ONES: [u32; 64] = [1; 64];
+
+/// The values that are known, and the turns that programs take.
 #[derive(Drop)]
 pub(crate) struct Values {
-    known: HashMap<u64, i64>,
+    // The bits of each value, by the place of its state.
+    known: PlaceTable,
+    // How many there are.
+    count: u64,
     // How many states may be given values.
     rows: u64,
-    // The parts that a payoff of 1 has.
-    unit: i64,
     turns: Turns,
-    solver: StageSolver,
+    stage: Stage,
+}
+
+/// What states are solved in, kept from one to the next.
+#[derive(Drop)]
+pub(crate) struct Stage {
+    cells: Vec<f64>,
+    solver: FloatSolver,
+}
+
+impl Stage {
+    /// That of no state yet.
+    pub(crate) fn new(alloc: Global) -> Result<Stage, AllocError> {
+        Ok(Stage {
+            cells: Vec::new(alloc),
+            solver: FloatSolver::new(alloc)?,
+        })
+    }
+}
+
+/// The value that a state was given, else the payoff of an end, else the least that One can still get, which is the
+/// value of a decided state.
+#[inline]
+fn value<G: Game>(known: &PlaceTable, g: G, s: G::State) -> f64
+    requires { Reachable (G.model g) s }
+{
+    match known.word(g.place(s)) {
+        0 => decided_value(g, s),
+        bits => f64_from_bits_with_nan(bits),
+    }
+}
+
+/// The payoff of an end, else the least that One can still get.
+fn decided_value<G: Game>(g: G, s: G::State) -> f64
+    requires { Reachable (G.model g) s }
+{
+    if g.rank(s) == 0 {
+        f64::from(g.payoff(s))
+    } else {
+        f64::from(g.least(s))
+    }
+}
+
+/// A number as a side sees it.
+fn seen_by(side: Side, number: f64) -> f64 {
+    match side {
+        Side::One => number,
+        Side::Two => -number,
+    }
+}
+
+/// The mean, over the draws of an own move and a reply, of the turn's reward with the value of the state that follows, as the
+/// side sees it.
+fn cell<G: Game>(known: &PlaceTable, g: G, side: Side, s: G::State, own: u32, reply: u32) -> f64
+    requires reachable { Reachable (G.model g) s }
+    requires own { own < (G.model g).moves side s }
+    requires reply { reply < (G.model g).moves (other_side side) s }
+{
+    let a = side.move_of_one(own, reply);
+    let b = side.move_of_two(own, reply);
+    let mut mean = 0.0;
+    for d in 0..g.draws(s, a, b) {
+        let next = value(known, g, g.drawn(s, a, b, d));
+        let number = next + f64::from(g.reward(s, a, b, d));
+        mean += number * (f64::from(g.chance(s, a, b, d)) / f64::from(CHANCE));
+    }
+    seen_by(side, mean)
+}
+
+/// Adds the cells of a side's move, as the side sees them.
+fn add_row<G: Game>(
+    known: &PlaceTable,
+    g: G,
+    side: Side,
+    s: G::State,
+    own: u32,
+    cells: &mut Vec<f64>,
+) -> Result<(), AllocError>
+    requires reachable { Reachable (G.model g) s }
+    requires own { own < (G.model g).moves side s }
+    ensures more { OnOk result
+        (length cells.new.items ≡ length cells.old.items + (G.model g).moves (other_side side) s) }
+{
+    for reply in 0..g.moves(side.other(), s) {
+        cells.push(cell(known, g, side, s, own, reply))?;
+    }
+    Ok(())
+}
+
+/// Takes on the cells of a state, as the side sees them, whose moves are the rows.
+fn read<G: Game>(
+    known: &PlaceTable,
+    g: G,
+    side: Side,
+    s: G::State,
+    cells: &mut Vec<f64>,
+) -> Result<(), AllocError>
+    requires { Reachable (G.model g) s }
+    ensures { OnOk result
+        (length cells.new.items ≡ (G.model g).moves side s * (G.model g).moves (other_side side) s) }
+{
+    cells.clear();
+    for own in 0..g.moves(side, s) {
+        add_row(known, g, side, s, own, cells)?;
+    }
+    Ok(())
 }
 
 impl Values {
-    /// No values yet, and room for so many. Each value and each proposal takes a turn.
-    pub(crate) fn new<G: Game>(alloc: Global, g: G, rows: u64, turns: Turns) -> Values
-        ensures none { hash_map_len result.known ≡ 0 }
+    /// No values yet, for no more states than `rows`. Each value and each proposal takes a turn.
+    pub(crate) fn new(known: PlaceTable, rows: u64, turns: Turns, stage: Stage) -> Values
+        ensures known { result.known ≡ known }
+        ensures none { result.count ≡ 0 }
         ensures rows { result.rows ≡ rows }
         ensures turns { result.turns ≡ turns }
     {
-        let most = g.low().unsigned_abs().max(g.high().unsigned_abs()).max(1);
         Values {
-            known: HashMap::new(alloc),
+            known,
+            count: 0,
             rows,
-            unit: (MOST_BOUND / u64::from(most)) as i64,
             turns,
-            solver: StageSolver::new(SolverKind::Linear),
+            stage,
         }
     }
 
@@ -55,128 +165,30 @@ impl Values {
         turns
     }
 
-    /// The value that a state was given, else the payoff of an end, else the least that One can still get, which is the
-    /// value of a decided state.
-    fn value<G: Game>(&self, g: G, s: G::State) -> i64
-        requires { Reachable (G.model g) s }
-    {
-        if g.rank(s) == 0 {
-            return i64::from(g.payoff(s)).wrapping_mul(self.unit);
-        }
-        match self.known.get(&g.key(s)) {
-            Some(value) => *value,
-            None => i64::from(g.least(s)).wrapping_mul(self.unit),
-        }
-    }
-
-    /// The mean, over the draws of a pair of moves, of the turn's reward with the value of the state that follows.
-    fn cell<G: Game>(&self, g: G, s: G::State, a: u32, b: u32) -> i64
-        requires reachable { Reachable (G.model g) s }
-        requires one { a < (G.model g).moves Side.One s }
-        requires two { b < (G.model g).moves Side.Two s }
-        ensures { IsSmallCell result }
-    {
-        let mut sum: i64 = 0;
-        for d in 0..g.draws(s, a, b) {
-            let reward = i64::from(g.reward(s, a, b, d)).wrapping_mul(self.unit);
-            let number = self.value(g, g.drawn(s, a, b, d)).wrapping_add(reward);
-            sum = sum.wrapping_add(number.wrapping_mul(i64::from(g.chance(s, a, b, d))));
-        }
-        let most = MOST_BOUND as i64;
-        (sum / i64::from(CHANCE)).max(-most).min(most)
-    }
-
-    /// Adds the cells of a move of One.
-    fn add_row<G: Game>(
-        &self,
-        g: G,
-        s: G::State,
-        a: u32,
-        cells: &mut Vec<i64>,
-    ) -> Result<(), AllocError>
-        requires reachable { Reachable (G.model g) s }
-        requires one { a < (G.model g).moves Side.One s }
-        requires small { All IsSmallCell cells.old.items }
-        ensures small { OnOk result (All IsSmallCell cells.new.items) }
-        ensures more { OnOk result (length cells.new.items ≡ length cells.old.items + (G.model g).moves Side.Two s) }
-    {
-        for b in 0..g.moves(Side::Two, s) {
-            cells.push(self.cell(g, s, a, b))?;
-        }
-        Ok(())
-    }
-
-    /// The cells of a state, row by row.
-    fn cells<G: Game>(&self, alloc: Global, g: G, s: G::State) -> Result<Vec<i64>, AllocError>
-        requires { Reachable (G.model g) s }
-        ensures small { IfOk result (λ cells. All IsSmallCell cells.items) }
-        ensures all { IfOk result (λ cells.
-            length cells.items ≡ (G.model g).moves Side.One s * (G.model g).moves Side.Two s) }
-    {
-        let mut cells = Vec::new(alloc);
-        for a in 0..g.moves(Side::One, s) {
-            self.add_row(g, s, a, &mut cells)?;
-        }
-        Ok(cells)
-    }
-
-    /// Weights of both sides that solve a state over the values below it, or nearly so, for one turn.
-    fn plans<G: Game>(
-        &mut self,
-        alloc: Global,
-        g: G,
-        total: u32,
-        s: G::State,
-    ) -> Result<StagePlans, GaveUp>
-        requires reachable { Reachable (G.model g) s }
-        requires goes_on { 1 ≤ (G.model g).rank s }
-        requires some { 1 ≤ total }
-        requires light { total ≤ 1048576 }
-        ensures one { IfOk result (λ plans. IsWeighted ((G.model g).moves Side.One s) total plans.p) }
-        ensures two { IfOk result (λ plans. IsWeighted ((G.model g).moves Side.Two s) total plans.v) }
-        ensures spent { HasSpent 0 1 self.old.turns self.new.turns }
-        ensures err { IfErr result (IsReason ⊥ self.new.turns) }
-        ensures known { self.new.known ≡ self.old.known }
-        ensures rows { self.new.rows ≡ self.old.rows }
-    {
-        let cells = self.cells(alloc, g, s)?;
-        let rows = g.moves(Side::One, s);
-        let cols = g.moves(Side::Two, s);
-        let matrix = match Matrix::new(rows, cols, cells) {
-            Ok(matrix) => matrix,
-            Err(_) => unreachable!(),
-        };
-        match self.solver.solve(alloc, &matrix, total, &mut self.turns) {
-            Ok(plans) => Ok(plans),
-            Err(StageError::Spent) => Err(GaveUp::Spent),
-            Err(StageError::NoMemory) => Err(GaveUp::NoMemory),
-        }
-    }
-
     /// Gives a value to a state that has none, by those below it, for one turn.
-    fn settle<G: Game>(
-        &mut self,
-        alloc: Global,
-        g: G,
-        total: u32,
-        s: G::State,
-    ) -> Result<(), GaveUp>
+    fn settle<G: Game>(&mut self, alloc: Global, g: G, s: G::State) -> Result<(), GaveUp>
         requires reachable { Reachable (G.model g) s }
         requires goes_on { 1 ≤ (G.model g).rank s }
-        requires some { 1 ≤ total }
-        requires light { total ≤ 1048576 }
-        requires new { is_some (get nat_eq self.old.known ((G.model g).key s)) ≡ false }
-        ensures known { OnOk result ((key : ℕ) → is_some (get nat_eq self.new.known key)
-            ≡ cond (nat_eq ((G.model g).key s) key) true (is_some (get nat_eq self.old.known key))) }
-        ensures more { OnOk result (hash_map_len self.new.known ≡ hash_map_len self.old.known + 1) }
+        requires new { is_put self.old.known ((G.numbering g).place s) ≡ false }
+        requires few { self.old.count < self.old.rows }
+        ensures known { OnOk result ((place : ℕ) → is_put self.new.known place
+            ≡ cond (nat_eq ((G.numbering g).place s) place) true (is_put self.old.known place)) }
+        ensures more { OnOk result (self.new.count ≡ self.old.count + 1) }
         ensures rows { self.new.rows ≡ self.old.rows }
         ensures spent { HasSpent 0 1 self.old.turns self.new.turns }
         ensures err { IfErr result (IsReason ⊥ self.new.turns) }
     {
-        let plans = self.plans(alloc, g, total, s)?;
-        let twice = 2 * i64::from(total);
-        let value = plans.low.wrapping_add(plans.high).wrapping_div(twice);
-        self.known.insert(g.key(s), value)?;
+        if self.turns.left() == 0 {
+            return Err(GaveUp::Spent);
+        }
+        read(&self.known, g, Side::One, s, &mut self.stage.cells)?;
+        let rows = g.moves(Side::One, s) as usize;
+        let cols = g.moves(Side::Two, s) as usize;
+        let cells = &self.stage.cells;
+        let value = self.stage.solver.value(rows, cols, cells, &mut self.turns);
+        let bits = f64_to_bits_with_nan(value).max(1);
+        self.known.put(alloc, g.place(s), bits)?;
+        self.count += 1;
         Ok(())
     }
 }
@@ -185,40 +197,31 @@ impl Values {
 pub(crate) fn explore<G: Game>(
     alloc: Global,
     g: G,
-    total: u32,
     s: G::State,
     values: &mut Values,
 ) -> Result<(), GaveUp>
     requires reachable { Reachable (G.model g) s }
-    requires some { 1 ≤ total }
-    requires light { total ≤ 1048576 }
-    requires known { KnowsUndecided (G.model g)
-        (λ key. is_some (get nat_eq values.old.known key)) (hash_map_len values.old.known) }
-    requires few { hash_map_len values.old.known ≤ values.old.rows }
+    requires known { KnowsUndecided (G.model g) (G.numbering g).place
+        (is_put values.old.known) values.old.count }
+    requires few { values.old.count ≤ values.old.rows }
     ensures rows { values.new.rows ≡ values.old.rows }
-    ensures explored { OnOk result (IsExplored (G.model g) s values.old.rows
-        (λ key. is_some (get nat_eq values.old.known key)) (λ key. is_some (get nat_eq values.new.known key))
-        (hash_map_len values.new.known)) }
-    ensures spent { OnOk result (HasSpent (hash_map_len values.old.known) (hash_map_len values.new.known)
-        values.old.turns values.new.turns) }
+    ensures explored { OnOk result (IsExplored (G.model g) (G.numbering g).place s values.old.rows
+        (is_put values.old.known) (is_put values.new.known) values.new.count) }
+    ensures spent { OnOk result (HasSpent values.old.count values.new.count values.old.turns values.new.turns) }
     ensures err { IfErr result (IsStopped (G.model g) (HasUndecided (G.model g) (values.old.rows + 1))
-        (hash_map_len values.old.known) values.old.turns values.new.turns) }
+        values.old.count values.old.turns values.new.turns) }
 {
-    if is_decided(g, s) {
+    if values.known.word(g.place(s)) != 0 || is_decided(g, s) {
         return Ok(());
     }
-    if values.known.contains_key(&g.key(s)) {
-        return Ok(());
-    }
-    let ones = vec![in alloc; 1u32; g.moves(Side::One, s) as usize]?;
-    let below = children(alloc, g, Side::One, ones.as_slice(), s)?;
+    let below = children(alloc, g, Side::One, ONES.as_slice(), s)?;
     for child in &below {
-        explore(alloc, g, total, *child, values)?;
+        explore(alloc, g, *child, values)?;
     }
-    if values.known.len() as u64 >= values.rows {
+    if values.count >= values.rows {
         return Err(GaveUp::TooManyStates);
     }
-    values.settle(alloc, g, total, s)?;
+    values.settle(alloc, g, s)?;
     Ok(())
 }
 
@@ -233,11 +236,17 @@ impl<G: Game> Proposer<G> for Values {
         total: u32,
         s: G::State,
     ) -> Result<Vec<u32>, GaveUp> {
-        let plans = self.plans(alloc, g, total, s)?;
-        let StagePlans { p, v, .. } = plans;
-        Ok(match side {
-            Side::One => p.into_vec(),
-            Side::Two => v.into_vec(),
-        })
+        if self.turns.left() == 0 {
+            return Err(GaveUp::Spent);
+        }
+        read(&self.known, g, side, s, &mut self.stage.cells)?;
+        let rows = g.moves(side, s) as usize;
+        let cols = g.moves(side.other(), s) as usize;
+        let cells = &self.stage.cells;
+        let weights = self
+            .stage
+            .solver
+            .weights(alloc, rows, cols, cells, total, &mut self.turns)?;
+        Ok(weights)
     }
 }

@@ -28,13 +28,14 @@ use Rattle.plan_book.proofs.SheetLemmas.{sheet_guarantees}
 use Rattle.bounds_board.proofs.KnownLemmas.{better_has, state_in}
 use Rattle.serial_ab.specs.Searches.{IsPureEntry}
 use Rattle.fields.specs.declared.ask.Ask.{Ask}
+use Rattle.fields.specs.declared.ask.StageMethod.{StageMethod}
 use Rattle.fields.specs.declared.ask.SearchMethod.{SearchMethod}
 use Rattle.fields.specs.declared.ask.SearchMethod.TheVariants.{Oracle, Induction}
 use Rattle.fields.specs.Ranges.{IsAskInRange}
 use Rattle.shared_board.specs.Closing.{HasKey, IsKeptRow, kept_bound}
 use Rattle.shared_board.specs.declared.close.Kept.{Kept}
 use Rattle.lazy_workers.specs.declared.summary.Found.{Found}
-use Rattle.lazy_workers.specs.Keeping.{IsPureRow, IsSheetRowKept, AreOwed}
+use Rattle.lazy_workers.specs.Keeping.{oracle_turns, IsPureRow, IsSheetRowKept, AreOwed}
 use Rattle.lazy_workers.specs.Searched.{IsFar, turns_each, TooFewAfter, IsSearched}
 use Rattle.lazy_workers.specs.Findings.{found_gap, IsFoundPlan, IsPlanKept, IsIdle, AreSpent, IsGapWide, IsFoundAfter, IsFoundGame, IsFoundFor}
 use Rattle.lazy_workers.proofs.SummaryLemmas.{root_is, rows_few, abs_small, scaled_low, scaled_high}
@@ -191,10 +192,14 @@ module _ {S : Type 0} (m : GameModel S) (game : IsGame m) (ask : Ask) (before : 
     }
 
 -- ---- double oracle alone
+more_each : (each turns states : ℕ) → turns < each * states → turns < (3 + each) * states
+more_each each turns states less = omega (arith, less)
+
 -- a state takes no more turns by double oracle than by any method
-fewer_each : (search : SearchMethod) (turns states : ℕ) → turns < 63 * states → turns < turns_each search * states
-fewer_each Oracle turns states less = less
-fewer_each Induction turns states less = omega (arith, less)
+fewer_each : {S : Type 0} (m : GameModel S) (stages : StageMethod) (search : SearchMethod) (turns states : ℕ) → turns < oracle_turns m stages * states
+    → turns < turns_each m stages search * states
+fewer_each m stages Oracle turns states less = less
+fewer_each m stages Induction turns states less = more_each (oracle_turns m stages) turns states less
 
 -- what is found with all the turns that are asked is found by the method that is asked
 pub found_game : {S : Type 0} (m : GameModel S) (ask : Ask) (x : Found) → IsFoundFor m ask 0 x → IsFoundGame m ask x
@@ -209,5 +214,5 @@ found_game m ask x found = record {
   full = found.game.full;
   spent = λ free wide.
       let rest = found.game.spent free wide in
-      record { all = rest.all; too_few = λ n has rows. let less = rest.too_few n has rows in fewer_each ask.search ask.turns (n + m.rank m.root + 1) (omega (arith, less)) };
+      record { all = rest.all; too_few = λ n has rows. let less = rest.too_few n has rows in fewer_each m ask.stages ask.search ask.turns (n + m.rank m.root + 1) (omega (arith, less)) };
 }

@@ -25,7 +25,7 @@ use Rattle.shared_board.specs.declared.view.View.{View}
 use Rattle.shared_board.specs.declared.close.Kept.{Kept}
 use Rattle.oracle_search.specs.Finished.{AreApart}
 use Rattle.fields.specs.declared.ask.Ask.{Ask}
-use Rattle.lazy_workers.specs.Keeping.{IsKeptState, known_gap, IsFinishedRow, AreOwed, AreRows}
+use Rattle.lazy_workers.specs.Keeping.{oracle_turns, IsKeptState, known_gap, IsFinishedRow, AreOwed, AreRows}
 use Rattle.lazy_workers.specs.Searched.{HasKeysIn, IsOwed, IsRooted, IsSearched}
 use Rattle.lazy_workers.specs.Workers.{rows_of, KnowsEach, known_of, IsFinishedKey, AreOwedTo, IsDueTo, HasView}
 use Rattle.lazy_workers.proofs.JoinLemmas.{found_later}
@@ -152,7 +152,7 @@ module _ {S G : Type 0} (m : GameModel S) (game : IsGame m) (ask : Ask) (before 
           among = All-from_recursion (Contains kept) list (rows_all (Contains kept) (λ key f. (row_of key f).is_kept) owed.keys each);
           distinct = rows_distinct owed.keys each (apart_by_recursion owed.keys owed.apart);
           each = All-from_recursion (IsFinishedRow m ask (pos n)) list (rows_all (IsFinishedRow m ask (pos n)) finished_row owed.keys each);
-          few = omega (arith, owed.few, rows_count owed.keys each);
+          few = subst (λ (k : ℕ). ask.turns ≤ before + oracle_turns m ask.stages * (k + m.rank m.root)) (sym (rows_count owed.keys each)) owed.few;
         }
 
   -- a board on which a row is left is none of which each row's key is known

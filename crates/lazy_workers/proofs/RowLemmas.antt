@@ -1,6 +1,7 @@
 -- That a board of more rows than the game has states does as well as one of still more.
-use Rattle.std.proofs.Common.{◌≡◌, ◌≢◌, inl, inr, ℕ, zero, suc, ◌<◌, ◌≤◌, ℤ, pos, Some, List, [], ◌∷◌, length, All, refl, sym, ap, ◌∙◌, arith}
+use Rattle.std.proofs.Common.{◌≡◌, ◌≢◌, inl, inr, ℕ, zero, suc, ◌+◌, ◌*◌, ◌<◌, ◌≤◌, ℤ, pos, Some, List, [], ◌∷◌, length, All, refl, sym, ap, ◌∙◌, arith}
 use Rattle.std.specs.List.{AllByRecursion}
+use Rattle.std.proofs.Math.Nat.{mul-le-mul_left}
 use Rattle.std.proofs.lemmas.Bool.{cases_lt}
 use Rattle.std.proofs.lemmas.List.Elements.{All-weaker, recursion_from_All}
 use Rattle.sim_game.specs.Model.{GameModel, HasAtMost, Reachable}
@@ -10,7 +11,7 @@ use Rattle.shared_board.specs.Closing.{IsDistinct}
 use Rattle.shared_board.specs.declared.close.Kept.{Kept}
 use Rattle.fields.specs.declared.ask.Ask.{Ask}
 use Rattle.matrix_game.specs.Budget.{Budget}
-use Rattle.lazy_workers.specs.Keeping.{HasLimit, AreBudgets, IsKeptState, IsFinishedRow, AreOwed}
+use Rattle.lazy_workers.specs.Keeping.{HasLimit, oracle_turns, AreBudgets, IsKeptState, IsFinishedRow, AreOwed}
 use Rattle.lazy_workers.specs.Searched.{IsFar, HasRoom, TooFewAfter, AnswersToo}
 
 module _ {S : Type 0} (m : GameModel S) where
@@ -56,7 +57,10 @@ module _ {S : Type 0} (m : GameModel S) where
 
       too_few : (before : ℕ) → TooFewAfter before m enough → TooFewAfter before m ask
       too_few before few n most inside = elim (cases_lt limit n) [
-        | inl more ↦ omega (arith, few limit states (omega arith))
+        | inl more ↦
+            let less = few limit states (omega arith) in
+            let wider : oracle_turns m ask.stages * (limit + m.rank m.root + 1) ≤ oracle_turns m ask.stages * (n + m.rank m.root + 1) =
+            mul-le-mul_left (oracle_turns m ask.stages) (omega arith) in omega (arith, less, wider)
         | inr less ↦ few n most (omega arith)
       ]
 

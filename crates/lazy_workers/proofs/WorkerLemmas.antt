@@ -1,10 +1,12 @@
 -- What the search of one worker shows of the game.
 use Rattle.std.proofs.Common.{◌≡◌, ◌⊎◌, ⊎_elim, inl, inr, ℕ, ◌+◌, ◌*◌, ◌<◌, ◌≤◌, ℤ, pos, ◌+ℤ◌, ◌-ℤ◌, ◌≤ℤ◌, ◌<ℤ◌, Bool, true, false, None, Some, List, [], ◌∷◌, ◌++◌, length, get_or, slice_index, All, refl, sym, ap, subst, ◌∙◌, arith}
 use Rattle.std.proofs.lemmas.Int.{ints}
+use Rattle.std.proofs.Math.Nat.{mul-le-mul_left}
 use Rattle.std.proofs.lemmas.Bool.{cases_lt}
 use Rattle.std.proofs.lemmas.List.Elements.{All-cons, All-get_or, All-nil, All-weaker}
 use Rattle.sim_game.specs.declared.Side.{Side}
 use Rattle.sim_game.specs.declared.Side.TheVariants.{One, Two}
+use Rattle.sim_game.specs.declared.TheConstants.{MOST_TURNS}
 use Rattle.sim_game.specs.Model.{GameModel, IsGame, IsEnd, Reachable, HasAtMost}
 use Rattle.sim_game.specs.Resolution.{IsStageGap, payoff_range}
 use Rattle.sim_game.specs.Sides.{end_bound}
@@ -27,33 +29,47 @@ use Rattle.oracle_search.specs.declared.ends.SearchEnd.TheVariants.{Reached, Set
 use Rattle.oracle_search.specs.Finished.{FinishedView, IsFinished, AreApart, IsWithin, rank_gap}
 use Rattle.oracle_search.specs.Sweeps.{TakesSweeps}
 use Rattle.oracle_search.specs.declared.worker.MemoryLimits.{MemoryLimits}
-use Rattle.oracle_search.specs.Searches.{IsWorked, IsBoardFull, Ends, TakesTurns, HasTaken, IsPureTight, HasVisitsBelow as Whole}
+use Rattle.oracle_search.specs.Searches.{IsWorked, IsBoardFull, Ends, growth_turns, TakesTurns, HasTaken, IsPureTight, HasVisitsBelow as Whole}
 use Rattle.oracle_search.specs.Workers.{WorkView, is_linear}
 use Rattle.fields.specs.declared.ask.Ask.{Ask}
 use Rattle.fields.specs.declared.ask.StageMethod.{StageMethod}
-use Rattle.fields.specs.declared.ask.StageMethod.TheVariants.{Regret}
+use Rattle.fields.specs.declared.ask.StageMethod.TheVariants.{Regret, Linear}
 use Rattle.fields.specs.declared.ask.StageMethod.TheVariants as methods
 use Rattle.lazy_workers.specs.Solvers.{solver_kind}
 use Rattle.lazy_workers.specs.Workers.{Rows, KnowsEach, IsFinishedKey, AreOwedTo, IsDueTo, HaveFound}
-use Rattle.lazy_workers.specs.Keeping.{HasLimit, AreBudgets}
+use Rattle.lazy_workers.specs.Keeping.{HasLimit, AreBudgets, oracle_turns}
 use Rattle.lazy_workers.specs.Searched.{IsFar, HasRoom, HasVisits, IsPureClose, TooFewAfter, IsSearched}
 
 -- bounds within a gap are no further apart
 too_near : (low high gap : ℤ) → high ≤ℤ (low +ℤ gap) → gap <ℤ (high -ℤ low) → ⊥
 too_near low high gap near far = absurd (omega (arith, ints))
 
--- the turns of a search that ended so: 63 to a state with regret matching, a turn of each of three sweeps with linear stages
+-- turns of which each key takes so many, and each rank
+turns_from : (each spent start before turns keys none rank : ℕ) → spent + each * none ≤ start + each * (keys + rank) → start ≤ before → spent ≡ turns
+    → turns ≤ before + each * (keys + rank)
+turns_from each spent start before turns keys none rank taken begun all = omega arith
+
+-- they are too few for as many states
+turns_below : (each before turns keys n rank : ℕ) → 1 ≤ each → keys ≤ n → turns ≤ before + each * (keys + rank) → turns < before + each * (n + rank + 1)
+turns_below each before turns keys n rank some few taken = let more : each * (keys + rank) ≤ each * (n + rank) = mul-le-mul_left each (omega arith) in omega arith
+
+-- double oracle takes a turn at least
+some_turns : {S : Type 0} (m : GameModel S) → IsGame m → (stages : StageMethod) → 1 ≤ oracle_turns m stages
+some_turns m game methods.Regret = omega (arith, game.width_low)
+some_turns m game methods.Linear = omega arith
+
+-- the turns of a search that ended so: those of a restricted game to a state with regret matching, a turn of each of three sweeps with linear stages
 abbrev pub AreTaken : {S G N : Type 0} → GameModel S → Ask → SearchEnd → WorkView G N → WorkView G N → Type 0
-AreTaken m ask end start last = HasTaken m m.root end start last
-    ⊎ ((ask.stages ≡ Regret → ⊥) × (last.settled.was_full ≡ false → TakesSweeps m 3 last.board (m.rank m.root) start.turns.spent last.turns.spent))
+AreTaken m ask end start last = ((ask.stages ≡ Regret) × HasTaken m m.root end start last)
+    ⊎ ((ask.stages ≡ Linear) × (last.settled.was_full ≡ false → TakesSweeps m 3 last.board (m.rank m.root) start.turns.spent last.turns.spent))
 
 -- whether the solver of a method makes sweeps
 abbrev IsOfKind : StageMethod → SolverKind → Type 0
-IsOfKind stages kind = (is_linear (solver_of kind) ≡ false) ⊎ ((stages ≡ Regret → ⊥) × (is_linear (solver_of kind) ≡ true))
+IsOfKind stages kind = ((stages ≡ Regret) × (is_linear (solver_of kind) ≡ false)) ⊎ ((stages ≡ Linear) × (is_linear (solver_of kind) ≡ true))
 
 of_kind : (stages : StageMethod) (kept : ℕ) → IsOfKind stages (solver_kind stages kept)
-of_kind methods.Regret kept = inl refl
-of_kind methods.Linear kept = inr (λ e. absurd (cc), refl)
+of_kind methods.Regret kept = inl (refl, refl)
+of_kind methods.Linear kept = inr (refl, refl)
 
 pub of_limits : (workers : ℕ) (stages : StageMethod) (limits : MemoryLimits) → (workers ≤ 4 → limits ≡ record { searches = 262144; stages = solver_kind stages 65536 })
     → (4 < workers → limits ≡ record { searches = 65536; stages = solver_kind stages 16384 }) → IsOfKind stages limits.stages
@@ -129,15 +145,15 @@ module _ {S : Type 0} (m : GameModel S) (game : IsGame m) where
           let none_left = ends.2 in
           let all : last.turns.spent ≡ ask.turns = omega arith in
           (all, too_few all takes, by all takes last.settled.was_full refl) where
-            taken : last.turns.spent ≡ ask.turns → HasTaken m m.root Spent start last → last.settled.was_full ≡ false → ask.turns ≤ before + 63 * (length last.settled.keys + m.rank m.root)
+            taken : last.turns.spent ≡ ask.turns → HasTaken m m.root Spent start last → last.settled.was_full ≡ false
+                → ask.turns ≤ before + growth_turns m * (length last.settled.keys + m.rank m.root)
             taken all takes quiet =
-                let no_keys : length start.settled.keys ≡ 0 = ap (λ (f : FinishedView). length f.keys) none in
-                let so : TakesTurns (m.rank m.root) start.worker last.worker =
-                ⊎_elim (λ (a : TakesTurns (m.rank m.root) start.worker last.worker). a)
-                (λ (b : (left_of last.turns ≡ 0) × TakesTurns (m.rank m.root) start.worker last.worker). b.1) (takes.unless_full quiet) in
-                omega arith
+                let so : TakesTurns (growth_turns m) (m.rank m.root) start.worker last.worker =
+                ⊎_elim (λ (a : TakesTurns (growth_turns m) (m.rank m.root) start.worker last.worker). a)
+                (λ (b : (left_of last.turns ≡ 0) × TakesTurns (growth_turns m) (m.rank m.root) start.worker last.worker). b.1) (takes.unless_full quiet) in
+                turns_from (growth_turns m) last.turns.spent start.turns.spent before ask.turns (length last.settled.keys) (length start.settled.keys) (m.rank m.root) so begun all
 
-            finished : (is_close : Bool) → (ask.stages ≡ Regret → is_close ≡ true) → (key : ℕ) → IsFinished m is_close last.board 32 key → IsFinishedKey m ask last.board.seen has_row key
+            finished : (is_close : Bool) → (ask.stages ≡ Regret → is_close ≡ true) → (key : ℕ) → IsFinished m is_close last.board (1 + MOST_TURNS) key → IsFinishedKey m ask last.board.seen has_row key
             finished is_close so key f = record {
               named = record { state = f.state; reachable = f.reachable; goes_on = f.goes_on; is_key = f.is_key };
               row = f.row;
@@ -147,20 +163,25 @@ module _ {S : Type 0} (m : GameModel S) (game : IsGame m) where
 
             owed : last.turns.spent ≡ ask.turns → AreTaken m ask Spent start last → last.settled.was_full ≡ false → AreOwedTo m ask before last.board.seen has_row
             owed all takes quiet =
+                let so : (stages : StageMethod) (keys : List ℕ) → ask.stages ≡ stages → ask.turns ≤ before + oracle_turns m stages * (length keys + m.rank m.root)
+                → ask.turns ≤ before + oracle_turns m ask.stages * (length keys + m.rank m.root) = λ stages keys is few.
+                subst (λ (x : StageMethod). ask.turns ≤ before + oracle_turns m x * (length keys + m.rank m.root)) (sym is) few in
                 ⊎_elim
-                (λ (a : HasTaken m m.root Spent start last). record {
+                (λ (a : (ask.stages ≡ Regret) × HasTaken m m.root Spent start last). record {
                   keys = last.settled.keys;
                   apart = worked.kept.finished.apart;
-                  each = All-weaker (IsFinished m true last.board 32) (IsFinishedKey m ask last.board.seen has_row) (finished true (λ _. refl)) last.settled.keys worked.kept.finished.each;
-                  few = taken all a quiet;
+                  each = All-weaker (IsFinished m true last.board (1 + MOST_TURNS)) (IsFinishedKey m ask last.board.seen has_row) (finished true (λ _. refl)) last.settled.keys
+                      worked.kept.finished.each;
+                  few = so Regret last.settled.keys a.0 (taken all a.1 quiet);
                 })
-                (λ (b : (ask.stages ≡ Regret → ⊥) × (last.settled.was_full ≡ false → TakesSweeps m 3 last.board (m.rank m.root) start.turns.spent last.turns.spent)).
+                (λ (b : (ask.stages ≡ Linear) × (last.settled.was_full ≡ false → TakesSweeps m 3 last.board (m.rank m.root) start.turns.spent last.turns.spent)).
                 let it : TakesSweeps m 3 last.board (m.rank m.root) start.turns.spent last.turns.spent = b.1 quiet in
                 let few = it.few in record {
                   keys = it.keys;
                   apart = it.swept.apart;
-                  each = All-weaker (IsFinished m false last.board 32) (IsFinishedKey m ask last.board.seen has_row) (finished false (λ regret. absurd (b.0 regret))) it.keys it.swept.each;
-                  few = omega arith;
+                  each = All-weaker (IsFinished m false last.board (1 + MOST_TURNS)) (IsFinishedKey m ask last.board.seen has_row)
+                      (finished false (λ regret. let wrong : Regret ≡ Linear = sym regret ∙ b.0 in absurd (cc))) it.keys it.swept.each;
+                  few = so Linear it.keys b.0 (omega arith);
                 })
                 takes
 
@@ -169,8 +190,7 @@ module _ {S : Type 0} (m : GameModel S) (game : IsGame m) where
                 let wide : HasRoom m ask = record { few = λ count states reach apart. let less = has.few count states reach apart in omega arith } in
                 let it = owed all takes (room wide) in
                 let keys = keys_few it.keys it.apart (All-weaker (IsFinishedKey m ask last.board.seen has_row) (IsInnerKey m) (λ key f. f.named) it.keys it.each) n has in
-                let most = it.few in
-                omega arith
+                turns_below (oracle_turns m ask.stages) before ask.turns (length it.keys) n (m.rank m.root) (some_turns m game ask.stages) keys it.few
 
             by : last.turns.spent ≡ ask.turns → AreTaken m ask Spent start last → (b : Bool) → last.settled.was_full ≡ b → KnowsEach ask.rows has_row ⊎ AreOwedTo m ask before last.board.seen has_row
             by all takes true e = inl (full_board e).0

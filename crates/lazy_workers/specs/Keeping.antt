@@ -11,9 +11,17 @@ use Rattle.plan_book.specs.Plans.{one_move}
 use Rattle.sim_game.specs.declared.Side.{Side}
 use Rattle.sim_game.specs.declared.Side.TheVariants.{One, Two}
 use Rattle.fields.specs.declared.ask.Ask.{Ask}
-use Rattle.fields.specs.declared.ask.StageMethod.TheVariants.{Regret}
+use Rattle.fields.specs.declared.ask.StageMethod.{StageMethod}
+use Rattle.fields.specs.declared.ask.StageMethod.TheVariants.{Regret, Linear}
+use Rattle.oracle_search.specs.Searches.{growth_turns}
 
 -- ---- turns
+-- how many turns double oracle may take at a state: with regret matching as many as a restricted game that grows, with linear stages one in each of
+-- three sweeps
+abbrev pub oracle_turns : {S : Type 0} → GameModel S → StageMethod → ℕ
+oracle_turns m Regret = growth_turns m
+oracle_turns m Linear = 3
+
 -- the turns are those asked, and no more of them were spent
 pub record HasLimit (ask : Ask) (t : Budget) : Type 0 where
   pub limit : t.limit ≡ ask.turns
@@ -52,14 +60,14 @@ module _ {S : Type 0} (m : GameModel S) where
     pub close : ask.stages ≡ Regret
         → (pos (m.rank m.root) *ℤ known_gap x named.state) ≤ℤ (pos (m.rank named.state) *ℤ resolution)
 
-  -- the turns, but for those that were spent before, are owed to finished states among the rows, 63 to each, and to the
-  -- states on the way to the root
+  -- the turns, but for those that were spent before, are owed to finished states among the rows, so many to each, and to
+  -- the states on the way to the root
   pub record AreOwed (ask : Ask) (before : ℕ) (resolution : ℤ) (kept : List Kept) : Type 0 where
     pub finished : List Kept
     pub among : All (Contains kept) finished
     pub distinct : IsDistinct finished
     pub each : All (IsFinishedRow ask resolution) finished
-    pub few : ask.turns ≤ before + 63 * (length finished + m.rank m.root)
+    pub few : ask.turns ≤ before + oracle_turns m ask.stages * (length finished + m.rank m.root)
 
   -- the rows of a board that was made for a root that is no end
   pub record AreRows (rows : ℕ) (kept : List Kept) : Type 0 where

@@ -13,9 +13,10 @@ use Rattle.matrix_game.specs.Budget.{Budget}
 use Rattle.shared_board.specs.Closing.{HasKey, IsKeptRow}
 use Rattle.shared_board.specs.declared.close.Kept.{Kept}
 use Rattle.fields.specs.declared.ask.Ask.{Ask}
+use Rattle.fields.specs.declared.ask.StageMethod.{StageMethod}
 use Rattle.fields.specs.declared.ask.SearchMethod.{SearchMethod}
 use Rattle.fields.specs.declared.ask.SearchMethod.TheVariants.{Oracle, Induction}
-use Rattle.lazy_workers.specs.Keeping.{HasLimit, AreOwed, AreRows}
+use Rattle.lazy_workers.specs.Keeping.{HasLimit, oracle_turns, AreOwed, AreRows}
 
 -- each entry's key is that of one of so many rows
 pub record HasKeysIn (rows : ℕ) (entries : List Entry) : Type 0 where
@@ -39,18 +40,20 @@ HasVisits m ask = tree_size m m.root ≤ ask.visits
 abbrev pub IsPureClose : {S : Type 0} → GameModel S → Ask → Type 0
 IsPureClose m ask = serial_bound m Two m.root ≤ℤ (serial_bound m One m.root +ℤ ask.gap)
 
--- how many turns a search by the method may take at a state: 63 by double oracle, and three before these by induction
-abbrev pub turns_each : SearchMethod → ℕ
-turns_each Oracle = 63
-turns_each Induction = 66
+-- how many turns a search by the methods may take at a state: those of double oracle, and three before these by induction
+abbrev pub turns_each : {S : Type 0} → GameModel S → StageMethod → SearchMethod → ℕ
+turns_each m stages Oracle = oracle_turns m stages
+turns_each m stages Induction = 3 + oracle_turns m stages
 
 -- too few turns, where so many were spent before, for a game of any number of states that the board has rows for
 abbrev pub TooFewAfter : {S : Type 0} → ℕ → GameModel S → Ask → Type 0
-TooFewAfter before m ask = (n : ℕ) → HasAtMost m n → n ≤ ask.rows → ask.turns < before + 63 * (n + m.rank m.root + 1)
+TooFewAfter before m ask = (n : ℕ) → HasAtMost m n → n ≤ ask.rows
+    → ask.turns < before + oracle_turns m ask.stages * (n + m.rank m.root + 1)
 
 -- too few turns for such a game
 abbrev pub TooFewTurns : {S : Type 0} → GameModel S → Ask → Type 0
-TooFewTurns m ask = (n : ℕ) → HasAtMost m n → n ≤ ask.rows → ask.turns < turns_each ask.search * (n + m.rank m.root + 1)
+TooFewTurns m ask = (n : ℕ) → HasAtMost m n → n ≤ ask.rows
+    → ask.turns < turns_each m ask.stages ask.search * (n + m.rank m.root + 1)
 
 -- what searches of the root have found together, by the bounds that are known of it: the turns of each, of which no more
 -- than so many were spent before; what a search

@@ -21,7 +21,7 @@ use Rattle.oracle_search.specs.declared.ends.SearchEnd.TheVariants.{Full}
 use Rattle.oracle_search.specs.Finished.{AreApart, rank_gap}
 use Rattle.lazy_workers.specs.declared.jobs.Job.{Job}
 use Rattle.lazy_workers.specs.declared.jobs.Done.{Done}
-use Rattle.lazy_workers.specs.Keeping.{HasLimit}
+use Rattle.lazy_workers.specs.Keeping.{HasLimit, oracle_turns}
 use Rattle.lazy_workers.specs.Searched.{HasFound}
 
 -- ---- passes
@@ -71,7 +71,7 @@ module _ {S : Type 0} (m : GameModel S) (ask : Ask) (before : ℕ) where
     pub keys : List ℕ
     pub apart : AreApart keys
     pub each : All (IsFinishedKey m ask seen known) keys
-    pub few : ask.turns ≤ before + 63 * (length keys + m.rank m.root)
+    pub few : ask.turns ≤ before + oracle_turns m ask.stages * (length keys + m.rank m.root)
 
   -- what is due where all turns were spent: the turns are owed to finished states, unless a key of each row is known
   abbrev pub IsDueTo : (Side → ℕ → ℤ) → Rows → Type 0

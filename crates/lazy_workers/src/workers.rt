@@ -1,6 +1,7 @@
 //! The search of a whole game.
 
 ghost use Rattle.std.specs.Prelude.{◌≡◌, ◌+◌, ◌≤◌, ℕ, List, [], length, All, IfOk};
+ghost use Rattle.sim_game.specs.Resolution.{IsFineWeight};
 ghost use Rattle.matrix_game.specs.Budget.{Budget};
 ghost use Rattle.fields.specs.Ranges.{IsAskInRange};
 ghost use Rattle.plan_book.specs.Books.{book_bound};
@@ -36,6 +37,7 @@ pub fn find<R: Threads + Sync, G: Game + Send + Sync, T: Gate + Sync>(
 where
     G::State: Send + Sync,
     requires ask { IsAskInRange ask.now }
+    requires fine { IsFineWeight (G.model g) ask.now.weight }
     requires turns { AreBudgets ask.now budgets.most budgets.turns.items }
     ensures { IfOk result (IsFoundFor (G.model g) ask.now budgets.most) }
 {
@@ -79,6 +81,7 @@ fn search_all<R: Threads + Sync, G: Game + Send + Sync, T: Gate + Sync>(
 where
     G::State: Send + Sync,
     requires ask { IsAskInRange ask.now }
+    requires fine { IsFineWeight (G.model g) ask.now.weight }
     requires goes_on { 1 ≤ (G.model g).rank (G.model g).root }
     requires turns { AreBudgets ask.now budgets.most budgets.turns.items }
     ensures total { IfOk result (λ found. found.book.total ≡ ask.now.weight) }
@@ -129,6 +132,7 @@ pub fn find_alone<G: Game, T: Gate>(
     gate: &T,
 ) -> Result<Found, NoMemory>
     requires ask { IsAskInRange ask.now }
+    requires fine { IsFineWeight (G.model g) ask.now.weight }
     requires turns { AreBudgets ask.now budgets.most budgets.turns.items }
     ensures { IfOk result (IsFoundFor (G.model g) ask.now budgets.most) }
 {
@@ -150,6 +154,7 @@ fn search_alone<G: Game, T: Gate>(
     gate: &T,
 ) -> Result<Gathered, NoMemory>
     requires ask { IsAskInRange ask.now }
+    requires fine { IsFineWeight (G.model g) ask.now.weight }
     requires goes_on { 1 ≤ (G.model g).rank (G.model g).root }
     requires turns { AreBudgets ask.now budgets.most budgets.turns.items }
     ensures total { IfOk result (λ found. found.book.total ≡ ask.now.weight) }

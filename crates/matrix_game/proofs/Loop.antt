@@ -7,6 +7,7 @@ use Rattle.std.proofs.lemmas.Bool.{cases_lt, cases_eq}
 use Rattle.std.proofs.lemmas.Grind.{same_number_lists}
 use Rattle.std.proofs.lemmas.List.{get_or-set_other, get_or-set_same, length-set, get_or-replicate, length-replicate}
 use Rattle.std.proofs.lemmas.List.Elements.{All-from_get_or}
+use Rattle.sums.specs.declared.TheConstants.{MOST_MOVES}
 use Rattle.sums.specs.Sums.{count_below}
 use Rattle.sums.proofs.CountLemmas.{count_mono, count_constant, count_term}
 use Rattle.matrix_game.proofs.FirstLemmas.{first_greatest-below, first_greatest-one, first_greatest-takes, first_greatest-keeps, same_greatest}
@@ -98,7 +99,7 @@ wide-room m w i light = record {
   fits =
       let regret : w * 8000000000 ≤ 1048576 * 8000000000 = omega arith in
       let rounds : w * (w * 8000000000) ≤ 1048576 * (1048576 * 8000000000) = mul-le-mul light regret in
-      let all : m.rows * (w * (w * 8000000000)) ≤ 32 * (1048576 * (1048576 * 8000000000)) = mul-le-mul i.few_rows rounds in
+      let all : m.rows * (w * (w * 8000000000)) ≤ MOST_MOVES * (1048576 * (1048576 * 8000000000)) = mul-le-mul i.few_rows rounds in
       omega (arith, all);
 }
 

@@ -1,7 +1,6 @@
 -- Matrix games: the cells, what weights pay, and saddles.
 use Rattle.std.specs.Prelude.{◌≡◌, ℕ, zero, suc, ◌+◌, ◌*◌, ◌<◌, ◌≤◌, List, length, slice_index, slice_index_or, ℤ, pos, neg_ℤ, ◌+ℤ◌, ◌*ℤ◌, ◌≤ℤ◌, int_lt, unsigned_abs, if◌then◌else◌}
-use Rattle.sums.specs.declared.TheConstants.{MOST_BOUND}
-use Rattle.matrix_game.specs.declared.TheConstants.{MOST_MOVES}
+use Rattle.sums.specs.declared.TheConstants.{MOST_BOUND, MOST_MOVES}
 use Rattle.sums.specs.Sums.{sum_below}
 
 -- the payoffs of a game to player one, row by row

@@ -1,6 +1,6 @@
 -- How far cells are above the least one.
 use Rattle.std.specs.Prelude.{◌≡◌, ℕ, ◌+◌, ◌*◌, ◌<◌, ◌≤◌, List, length, slice_index, ℤ, pos, ◌+ℤ◌}
-use Rattle.matrix_game.specs.declared.TheConstants.{MOST_MOVES}
+use Rattle.sums.specs.declared.TheConstants.{MOST_MOVES}
 use Rattle.matrix_game.specs.Grid.{Grid, cell_at}
 
 -- each cell is the least one and a height; the heights of a row are as many as the width, which may be more than the columns

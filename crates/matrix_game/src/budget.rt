@@ -1,6 +1,6 @@
 //! A budget of turns.
 
-ghost use Rattle.std.specs.Prelude.{◌≡◌, ◌<◌, ◌≤◌};
+ghost use Rattle.std.specs.Prelude.{◌≡◌, ◌+◌, ◌<◌, ◌≤◌};
 ghost use Rattle.matrix_game.specs.Budget.{left_of, after_one_turn};
 
 use std::marker::Model;
@@ -52,6 +52,16 @@ impl Turns {
         ensures within { self.now.spent ≤ self.now.limit }
     {
         self.limit - self.spent
+    }
+
+    /// Spends so many turns, and gives them as a budget of their own, none of them spent there.
+    pub fn split(&mut self, count: u64) -> Turns
+        requires { count ≤ left_of self.old }
+        ensures rest { self.new ≡ record { limit = self.old.limit; spent = self.old.spent + count } }
+        ensures part { result ≡ record { limit = count; spent = 0 } }
+    {
+        self.spent += count;
+        Turns::new(count)
     }
 
     pub(crate) fn spend(&mut self)

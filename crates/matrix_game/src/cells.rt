@@ -1,16 +1,15 @@
 //! The cells of a matrix, what weights pay in them, and its saddles.
 
 ghost use Rattle.std.specs.Prelude.{◌≡◌, ◌↔◌, ℕ, IsTrue, IsOk, IfOk, IfSome, IfNone, ◌+◌, ◌*◌, ◌<◌, ◌≤◌, length, All, pos, ◌+ℤ◌, ◌*ℤ◌, unsigned_abs, slice_index_or, ◌≤ℤ◌};
-ghost use Rattle.sums.specs.declared.TheConstants.{MOST_WEIGHT, MOST_BOUND};
+ghost use Rattle.sums.specs.declared.TheConstants.{MOST_MOVES, MOST_WEIGHT, MOST_BOUND};
 ghost use Rattle.matrix_game.specs.Grid.{IsSaddle, IsFirstSaddle, HasGoodShape, IsSmallCell, IsFirstLarge, IsSpread, cell_at, column_sum, row_sum, best_reply, row_floor, col_ceiling};
 
-use crate::MOST_MOVES;
 use std::marker::Model;
-use sums::{MOST_BOUND, weighted};
+use sums::{MOST_BOUND, MOST_MOVES, weighted};
 use thiserror::Error;
 
-/// The payoffs of a game to player one, whose moves are the rows, in whole numbers of any unit: 1 to 32 rows and
-/// columns, and cells of at most `MOST_BOUND` in size. Moves are numbered from 0.
+/// The payoffs of a game to player one, whose moves are the rows, in whole numbers of any unit: 1 to
+/// `MOST_MOVES` rows and columns, and cells of at most `MOST_BOUND` in size. Moves are numbered from 0.
 #[derive(Drop)]
 pub struct Matrix {
     pub(crate) rows: usize,
@@ -161,7 +160,7 @@ impl Matrix {
         requires light { All (λ x. x ≤ MOST_WEIGHT) p.now }
         requires col_in { col < self.now.cols }
         ensures value { result ≡ column_sum self.now p.now col }
-        ensures bounded { unsigned_abs result ≤ 134217728000000000 }
+        ensures bounded { unsigned_abs result ≤ MOST_MOVES * (MOST_WEIGHT * MOST_BOUND) }
     {
         let mut sum = 0;
         for row in 0..self.rows {
@@ -191,7 +190,7 @@ impl Matrix {
         ensures col { result.col ≡ best_reply self.now p.now }
         ensures paid { result.paid ≡ row_floor self.now p.now }
         ensures col_in { result.col < self.now.cols }
-        ensures bounded { unsigned_abs result.paid ≤ 134217728000000000 }
+        ensures bounded { unsigned_abs result.paid ≤ MOST_MOVES * (MOST_WEIGHT * MOST_BOUND) }
     {
         let cols = self.cols;
         let mut reply = Reply {

@@ -1,16 +1,16 @@
 //! The cells of a matrix, laid out so that eight of its columns are summed at once.
 
 ghost use Rattle.std.specs.Prelude.{◌≡◌, ℕ, IfOk, IfSome, ◌+◌, ◌*◌, ◌<◌, ◌≤◌, length, pos, slice_index, slice_index_or, sum, replicate, All, ◌+ℤ◌, ◌≤ℤ◌, ◌<ℤ◌, unsigned_abs};
-ghost use Rattle.sums.specs.declared.TheConstants.{MOST_WEIGHT, MOST_BOUND};
-ghost use Rattle.matrix_game.specs.declared.TheConstants.{MOST_MOVES};
+ghost use Rattle.sums.specs.declared.TheConstants.{MOST_MOVES, MOST_WEIGHT, MOST_BOUND};
 ghost use Rattle.sums.specs.Sums.{count_below};
 ghost use Rattle.matrix_game.specs.Grid.{cell_at, best_reply, row_floor, first_least};
 ghost use Rattle.matrix_game.specs.Heights.{AreHeights};
+ghost use Rattle.matrix_game.specs.Rounds.{IsWeighted};
 
 use crate::cells::{Matrix, Reply};
 use std::alloc::{AllocError, Global};
 use std::simd::prelude::*;
-use sums::weighted;
+use sums::{MOST_MOVES, weighted};
 
 // From so many columns on the sums are taken in lanes.
 const FEWEST_COLS: usize = 5;
@@ -58,7 +58,7 @@ impl Heights {
         requires narrow { 8 * self.now.blocks ≤ MOST_MOVES }
         requires weights { length p.now ≡ self.now.rows }
         requires light { All (λ x. x ≤ MOST_WEIGHT) p.now }
-        requires sums { length sums.old ≡ 32 }
+        requires sums { 8 * self.now.blocks ≤ length sums.old }
         ensures { (k : ℕ) → k < 8 * self.now.blocks → slice_index sums.new k ≡ count_below self.now.rows (λ a.
             slice_index p.now a * slice_index self.now.cells.items (a * (8 * self.now.blocks) + k)) }
     {
@@ -159,25 +159,25 @@ impl Matrix {
         }))
     }
 
-    // The same as `best_reply`, of weights that sum to `weight`. It stands apart, so that a round of few columns is short.
+    // The same as `best_reply`, of weights that sum to `weight`, in room for the sums of all blocks. It stands apart, so that
+    // a round of few columns is short.
     #[inline(never)]
-    fn lane_reply(&self, weight: u32, p: &[u32], heights: &Heights) -> Reply
+    fn lane_reply(&self, weight: u32, p: &[u32], heights: &Heights, sums: &mut [u64]) -> Reply
         requires cells { AreHeights self.now heights.now.least (8 * heights.now.blocks) heights.now.cells.items }
         requires rows { heights.now.rows ≡ self.now.rows }
         requires small { unsigned_abs heights.now.least ≤ MOST_BOUND }
-        requires weights { length p.now ≡ self.now.rows }
+        requires weights { IsWeighted self.now.rows weight p.now }
         requires light { All (λ x. x ≤ MOST_WEIGHT) p.now }
-        requires weight { sum p.now ≡ weight }
         requires light_weight { weight ≤ MOST_WEIGHT }
+        requires room { 8 * heights.now.blocks ≤ length sums.old }
         ensures col { result.col ≡ best_reply self.now p.now }
         ensures paid { result.paid ≡ row_floor self.now p.now }
         ensures col_in { result.col < self.now.cols }
-        ensures bounded { unsigned_abs result.paid ≤ 134217728000000000 }
+        ensures bounded { unsigned_abs result.paid ≤ MOST_MOVES * (MOST_WEIGHT * MOST_BOUND) }
     {
         let cols = self.cols;
-        let mut sums = [0u64; 32];
-        heights.sum_rows(p, &mut sums);
-        let col = place_of_least(&sums, cols);
+        heights.sum_rows(p, sums);
+        let col = place_of_least(sums, cols);
         let paid = sums[col] as i64 + weighted(weight, heights.least);
         Reply { col, paid }
     }
@@ -194,10 +194,14 @@ impl Matrix {
         ensures col { result.col ≡ best_reply self.now p.now }
         ensures paid { result.paid ≡ row_floor self.now p.now }
         ensures col_in { result.col < self.now.cols }
-        ensures bounded { unsigned_abs result.paid ≤ 134217728000000000 }
+        ensures bounded { unsigned_abs result.paid ≤ MOST_MOVES * (MOST_WEIGHT * MOST_BOUND) }
     {
         match heights {
-            Some(heights) => self.lane_reply(weight, p, heights),
+            // To clear room for all columns that there may be takes as long as a round of a few.
+            Some(heights) if heights.blocks <= 4 => {
+                self.lane_reply(weight, p, heights, &mut [0u64; 32])
+            }
+            Some(heights) => self.lane_reply(weight, p, heights, &mut [0u64; MOST_MOVES as usize]),
             None => self.best_reply(p),
         }
     }

@@ -7,6 +7,7 @@ ghost use Rattle.matrix_game.specs.Shifts.{ShiftLaw};
 
 mod budget;
 mod cells;
+mod floats;
 mod heights;
 mod linear;
 mod memory;
@@ -21,13 +22,11 @@ mod tableau;
 
 pub use budget::Turns;
 pub use cells::{Matrix, ShapeError};
+pub use floats::FloatSolver;
 pub use linear::LinearBuffers;
 pub use memory::StageMemory;
 pub use solver::{SolverKind, StageSolver};
 pub use stage::{StageError, StagePlans};
-
-/// The greatest number of rows and of columns.
-pub const MOST_MOVES: u32 = 32;
 
 /// Over enough rounds the square of the gap between ceiling and floor is at most twice the rows times the weight,
 /// times the square of what two cells differ by.

@@ -7,19 +7,21 @@ ghost use Rattle.matrix_game.specs.Plans.{AreStagePlans, AreWeighed, IsPureAtSad
 use crate::budget::Turns;
 use crate::cells::Matrix;
 use crate::memory::StageMemory;
-use crate::payoffs::{Payoffs, ZEROS};
+use crate::payoffs::{Line, Payoffs, ZEROS};
 use crate::rounds::Solution;
 use crate::stage::{StageError, StagePlans};
-use crate::tableau::{FIRST_PIVOT, SECOND_PIVOT, Shares, Tableau};
+use crate::tableau::{FIRST_PIVOT, NO_SHARES, SECOND_PIVOT, Shares, Tableau};
 use std::alloc::{AllocError, Global};
 use std::marker::Model;
 
-// A matrix as each side sees it, and the tableau that either is solved by.
+// A matrix as each side sees it, the tableau that either is solved by, its shares, and room to work in.
 #[derive(Drop)]
 struct Program {
     one: Payoffs,
     two: Payoffs,
     tableau: Tableau,
+    shares: Shares,
+    line: Line,
 }
 
 /// What linear programs are solved in, kept from one matrix to the next. It changes no answer.
@@ -48,6 +50,8 @@ impl LinearBuffers {
                 one: Payoffs::new(alloc)?,
                 two: Payoffs::new(alloc)?,
                 tableau: Tableau::new(alloc)?,
+                shares: NO_SHARES,
+                line: ZEROS,
             });
         }
         Ok(())
@@ -55,8 +59,8 @@ impl LinearBuffers {
 }
 
 impl Payoffs {
-    // The shares of two rows and two columns without a saddle: each makes the other side's moves pay the same.
-    fn shares_of_four(&self) -> Shares
+    // Writes the shares of two rows and two columns without a saddle: each makes the other side's moves pay the same.
+    fn solve_four(&self, shares: &mut Shares)
         requires rows { self.now.rows ≡ 2 }
         requires cols { self.now.cols ≡ 2 }
     {
@@ -64,18 +68,16 @@ impl Payoffs {
         let (c, d) = (self.cell(1, 0), self.cell(1, 1));
         let all = a - b - c + d;
         let (row, col) = ((d - c) / all, (d - b) / all);
-        let (mut rows, mut cols) = (ZEROS, ZEROS);
-        (rows[0], rows[1]) = (row, 1.0 - row);
-        (cols[0], cols[1]) = (col, 1.0 - col);
-        Shares { rows, cols }
+        (shares.rows[0], shares.rows[1]) = (row, 1.0 - row);
+        (shares.cols[0], shares.cols[1]) = (col, 1.0 - col);
     }
 
-    // Shares that solve the payoffs, where they have no saddle.
-    fn solved(&self, tableau: &mut Tableau) -> Shares {
+    // Writes shares that solve the payoffs, where they have no saddle.
+    fn solve(&self, tableau: &mut Tableau, shares: &mut Shares) {
         if self.rows == 2 && self.cols == 2 {
-            self.shares_of_four()
+            self.solve_four(shares);
         } else {
-            tableau.solve(self, FIRST_PIVOT)
+            tableau.solve(self, FIRST_PIVOT, shares);
         }
     }
 }
@@ -118,18 +120,25 @@ impl Matrix {
         requires light { total ≤ MOST_WEIGHT }
         ensures { IfOk result (AreWeighed self.now total) }
     {
-        program.one.read(self);
-        program.two.turn(&program.one);
-        let shares = program.one.solved(&mut program.tableau);
-        let p = program.one.weights(alloc, &shares.rows, total)?;
-        let v = program.two.weights(alloc, &shares.cols, total)?;
+        let Program {
+            one,
+            two,
+            tableau,
+            shares,
+            line,
+        } = program;
+        one.read(self);
+        two.turn(one);
+        one.solve(tableau, shares);
+        let p = one.weights(alloc, &shares.rows, total, line)?;
+        let v = two.weights(alloc, &shares.cols, total, line)?;
         let first = self.plans(total, Solution { p, v });
         if self.is_tight(&first) {
             return Ok(first);
         }
-        let shares = program.tableau.solve(&program.two, SECOND_PIVOT);
-        let p = program.one.weights(alloc, &shares.cols, total)?;
-        let v = program.two.weights(alloc, &shares.rows, total)?;
+        tableau.solve(two, SECOND_PIVOT, shares);
+        let p = one.weights(alloc, &shares.cols, total, line)?;
+        let v = two.weights(alloc, &shares.rows, total, line)?;
         Ok(self.better(total, first, self.plans(total, Solution { p, v })))
     }
 

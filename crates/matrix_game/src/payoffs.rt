@@ -1,16 +1,18 @@
 //! The payoffs of a matrix as one side sees them, in floats, which hold them and their sums by weights exactly.
 
 ghost use Rattle.std.specs.Prelude.{◌≡◌, ◌+◌, ◌*◌, ◌<◌, ◌≤◌, length};
-ghost use Rattle.matrix_game.specs.declared.TheConstants.{MOST_MOVES};
+ghost use Rattle.sums.specs.declared.TheConstants.{MOST_MOVES};
 
 use crate::cells::Matrix;
 use std::alloc::{AllocError, Global};
 use std::num::nearest_i64_to_f64;
+use sums::MOST_MOVES;
 
-/// A number for each move that a side may have.
-pub(crate) type Line = [f64; 32];
+/// Room for a number for each move that a side may have. It is kept from one matrix to the next, since a new one takes
+/// longer than a small matrix does; each use writes the numbers that it reads.
+pub(crate) type Line = [f64; MOST_MOVES as usize];
 
-pub(crate) const ZEROS: Line = [0.0; 32];
+pub(crate) const ZEROS: Line = [0.0; MOST_MOVES as usize];
 
 /// The payoffs to a side, whose moves are the rows, row by row; the columns are the moves of the other side. There is room
 /// for as many as a matrix may have.
@@ -23,7 +25,7 @@ pub(crate) struct Payoffs {
     ghost few_rows: { rows ≤ MOST_MOVES },
     ghost some_col: { 1 ≤ cols },
     ghost few_cols: { cols ≤ MOST_MOVES },
-    ghost room: { length cells.items ≡ 1024 },
+    ghost room: { length cells.items ≡ MOST_MOVES * MOST_MOVES },
 }
 
 impl Payoffs {
@@ -32,7 +34,7 @@ impl Payoffs {
         Ok(Payoffs {
             rows: 1,
             cols: 1,
-            cells: vec![in alloc; 0.0f64; 1024]?,
+            cells: vec![in alloc; 0.0f64; (MOST_MOVES * MOST_MOVES) as usize]?,
         })
     }
 
@@ -46,6 +48,23 @@ impl Payoffs {
         }
         self.rows = matrix.rows;
         self.cols = matrix.cols;
+    }
+
+    /// Takes on payoffs in floats, which stand row by row.
+    pub(crate) fn read_floats(&mut self, rows: usize, cols: usize, cells: &[f64])
+        requires some_row { 1 ≤ rows }
+        requires few_rows { rows ≤ MOST_MOVES }
+        requires some_col { 1 ≤ cols }
+        requires few_cols { cols ≤ MOST_MOVES }
+        requires all { length cells.now ≡ rows * cols }
+        ensures rows { self.new.rows ≡ rows }
+        ensures cols { self.new.cols ≡ cols }
+    {
+        for place in 0..rows * cols {
+            self.cells[place] = cells[place];
+        }
+        self.rows = rows;
+        self.cols = cols;
     }
 
     /// Takes on payoffs as the other side sees them.
@@ -81,17 +100,17 @@ impl Payoffs {
         (least, greatest - least)
     }
 
-    /// What the weights of the rows pay in each column.
-    pub(crate) fn sums(&self, weights: &[u32]) -> Line
-        requires { length weights.now ≡ self.now.rows }
+    /// Writes what the weights of the rows pay in each column.
+    pub(crate) fn write_sums(&self, weights: &[u32], sums: &mut [f64])
+        requires weights { length weights.now ≡ self.now.rows }
+        requires sums { length sums.old ≡ self.now.cols }
     {
-        let mut sums = ZEROS;
+        sums.fill(0.0);
         for row in 0..self.rows {
             if weights[row] > 0 {
-                self.add(row, f64::from(weights[row]), &mut sums[..self.cols]);
+                self.add(row, f64::from(weights[row]), sums);
             }
         }
-        sums
     }
 
     /// Adds what a row pays with a weight to the sums of the columns.

@@ -1,11 +1,10 @@
 //! Whole weights out of shares.
 
 ghost use Rattle.std.specs.Prelude.{◌≡◌, IfOk, IfSome, ◌+◌, ◌<◌, ◌≤◌, length, slice_index, sum};
-ghost use Rattle.sums.specs.declared.TheConstants.{MOST_WEIGHT};
-ghost use Rattle.matrix_game.specs.declared.TheConstants.{MOST_MOVES};
+ghost use Rattle.sums.specs.declared.TheConstants.{MOST_MOVES, MOST_WEIGHT};
 ghost use Rattle.matrix_game.specs.Rounds.{IsWeighted};
 
-use crate::payoffs::{Line, Payoffs, ZEROS};
+use crate::payoffs::{Line, Payoffs};
 use std::alloc::{AllocError, Global};
 use std::num::saturating_f64_to_u32;
 
@@ -18,19 +17,22 @@ struct Shift {
 }
 
 impl Payoffs {
-    /// Weights of the rows in proportion to the shares, with the floor raised by single units.
+    /// Weights of the rows in proportion to the shares, with the floor raised by single units. The line is room to work in.
     pub(crate) fn weights(
         &self,
         alloc: Global,
         shares: &Line,
         total: u32,
+        line: &mut Line,
     ) -> Result<Vec<u32>, AllocError>
         requires light { total ≤ MOST_WEIGHT }
         ensures { IfOk result (λ r. IsWeighted self.now.rows total r.items) }
     {
-        let mut weights = rounded(alloc, &shares[..self.rows], total)?;
-        let mut sums = self.sums(&weights);
-        self.improve(&mut weights, &mut sums[..self.cols]);
+        let shares = &shares[..self.rows];
+        let mut weights = rounded(alloc, shares, total, &mut line[..self.rows])?;
+        let sums = &mut line[..self.cols];
+        self.write_sums(&weights, sums);
+        self.improve(&mut weights, sums);
         Ok(weights)
     }
 
@@ -115,7 +117,8 @@ impl Payoffs {
     }
 }
 
-fn least(numbers: &[f64]) -> f64 {
+/// The least of the numbers, or infinity where there are none.
+pub(crate) fn least(numbers: &[f64]) -> f64 {
     let mut least = f64::INFINITY;
     for number in numbers {
         if *number < least {
@@ -126,15 +129,20 @@ fn least(numbers: &[f64]) -> f64 {
 }
 
 // Weights in proportion to the shares, which sum to the total, by the largest remainder. A share that is no number counts
-// as 0.
-fn rounded(alloc: Global, shares: &[f64], total: u32) -> Result<Vec<u32>, AllocError>
+// as 0. The rests are room to work in.
+fn rounded(
+    alloc: Global,
+    shares: &[f64],
+    total: u32,
+    rests: &mut [f64],
+) -> Result<Vec<u32>, AllocError>
     requires some { 1 ≤ length shares.now }
     requires few { length shares.now ≤ MOST_MOVES }
+    requires same { length rests.old ≡ length shares.now }
     requires light { total ≤ MOST_WEIGHT }
     ensures { IfOk result (λ r. IsWeighted (length shares.now) total r.items) }
 {
     let mut weights = Vec::with_capacity(alloc, shares.len())?;
-    let mut rests = ZEROS;
     let mut left = total;
     for (place, share) in shares.iter().enumerate() {
         let exact = *share * f64::from(total);
@@ -143,7 +151,7 @@ fn rounded(alloc: Global, shares: &[f64], total: u32) -> Result<Vec<u32>, AllocE
         rests[place] = exact - f64::from(whole);
         left -= whole;
     }
-    give(&mut weights, &mut rests[..shares.len()], left);
+    give(&mut weights, rests, left);
     Ok(weights)
 }
 

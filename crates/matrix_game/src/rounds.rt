@@ -1,7 +1,7 @@
 //! Regret matching plus over whole numbers, each round against a best reply.
 
 ghost use Rattle.std.specs.Prelude.{◌≡◌, ℕ, IsTrue, IfOk, IfSome, ◌*◌, ◌^◌, ◌<◌, ◌≤◌, length, map, slice_index, sum, replicate, unsigned_abs};
-ghost use Rattle.sums.specs.declared.TheConstants.{MOST_WEIGHT, MOST_BOUND};
+ghost use Rattle.sums.specs.declared.TheConstants.{MOST_MOVES, MOST_WEIGHT, MOST_BOUND};
 ghost use Rattle.matrix_game.specs.Grid.{HasRegretRoom, IsSpread};
 ghost use Rattle.matrix_game.specs.Heights.{AreHeights};
 ghost use Rattle.matrix_game.specs.Rounds.{raised_regret, raised_regrets, rounds, best_mixture, reply_counts};
@@ -37,7 +37,7 @@ impl Matrix {
         requires light { weight ≤ MOST_WEIGHT }
         requires row_in { row < self.now.rows }
         requires col_in { reply.col < self.now.cols }
-        requires bounded { unsigned_abs reply.paid ≤ 134217728000000000 }
+        requires bounded { unsigned_abs reply.paid ≤ MOST_MOVES * (MOST_WEIGHT * MOST_BOUND) }
         requires held { slice_index (map R.number regrets.now) row < R.limit }
         requires room { raised_regret self.now weight (map R.number regrets.now) reply.col reply.paid row < R.limit }
         ensures { R.number result ≡ raised_regret self.now weight (map R.number regrets.now) reply.col reply.paid row }
@@ -50,7 +50,7 @@ impl Matrix {
         requires each { length regrets.old ≡ self.now.rows }
         requires light { weight ≤ MOST_WEIGHT }
         requires col_in { reply.col < self.now.cols }
-        requires bounded { unsigned_abs reply.paid ≤ 134217728000000000 }
+        requires bounded { unsigned_abs reply.paid ≤ MOST_MOVES * (MOST_WEIGHT * MOST_BOUND) }
         requires held { sum (map R.number regrets.old) < R.limit }
         requires room { sum (raised_regrets self.now weight (map R.number regrets.old) reply.col reply.paid) < R.limit }
         ensures regrets { map R.number regrets.new

@@ -2,10 +2,11 @@
 //! them tests what comes of them.
 
 ghost use Rattle.std.specs.Prelude.{◌≡◌, IfSome, ◌+◌, ◌*◌, ◌<◌, ◌≤◌, length};
-ghost use Rattle.matrix_game.specs.declared.TheConstants.{MOST_MOVES};
+ghost use Rattle.sums.specs.declared.TheConstants.{MOST_MOVES};
 
 use crate::payoffs::{Line, Payoffs, ZEROS};
 use std::alloc::{AllocError, Global};
+use sums::MOST_MOVES;
 
 // A column enters where its cost is below this.
 const GREATEST_COST: f64 = -1e-11;
@@ -19,12 +20,20 @@ pub(crate) const FIRST_PIVOT: f64 = 1e-9;
 /// The least pivot of a second try, which lets in the small pivots of cells of very different sizes.
 pub(crate) const SECOND_PIVOT: f64 = 1e-11;
 
-/// Shares of the rows and of the columns, which sum to 1 but for rounding.
-#[derive(Clone, Copy)]
+// How many numbers a line of a tableau has at most, and how many lines there are at most.
+const MOST_LINES: u32 = MOST_MOVES + 1;
+
+/// Room for shares of the rows and of the columns, which sum to 1 but for rounding.
+#[derive(Drop)]
 pub(crate) struct Shares {
     pub(crate) rows: Line,
     pub(crate) cols: Line,
 }
+
+pub(crate) const NO_SHARES: Shares = Shares {
+    rows: ZEROS,
+    cols: ZEROS,
+};
 
 /// With the payoffs shifted and scaled into 1 to 2, the weights of the columns that sum to the most where no row pays more
 /// than 1. Divided by their sum they are the plan of the columns, and the costs of the rows' slacks that of the rows. There
@@ -42,16 +51,16 @@ pub(crate) struct Tableau {
     pivot: Vec<f64>,
     ghost few_rows: { rows ≤ MOST_MOVES },
     ghost few_cols: { cols ≤ MOST_MOVES },
-    ghost room: { length numbers.items ≡ 1089 },
-    ghost basic_room: { length basic.items ≡ 32 },
-    ghost free_room: { length free.items ≡ 32 },
-    ghost pivot_room: { length pivot.items ≡ 33 },
+    ghost room: { length numbers.items ≡ (MOST_MOVES + 1) * (MOST_MOVES + 1) },
+    ghost basic_room: { length basic.items ≡ MOST_MOVES },
+    ghost free_room: { length free.items ≡ MOST_MOVES },
+    ghost pivot_room: { length pivot.items ≡ MOST_MOVES + 1 },
 }
 
 impl Payoffs {
     // Writes the numbers at first: no column has a weight.
     fn write_numbers(&self, numbers: &mut [f64])
-        requires { length numbers.old ≡ 1089 }
+        requires { length numbers.old ≡ (MOST_MOVES + 1) * (MOST_MOVES + 1) }
     {
         let (rows, cols) = (self.rows, self.cols);
         let (least, spread) = self.range();
@@ -69,12 +78,13 @@ impl Payoffs {
     }
 }
 
-// Numbers the places from the first one on.
-fn name(names: &mut [usize], first: usize)
+// Numbers so many places from the first one on.
+fn name(names: &mut [usize], count: usize, first: usize)
+    requires count { count ≤ MOST_MOVES }
     requires first { first ≤ MOST_MOVES }
-    requires few { length names.old ≤ MOST_MOVES }
+    requires room { length names.old ≡ MOST_MOVES }
 {
-    for place in 0..names.len() {
+    for place in 0..count {
         names[place] = first + place;
     }
 }
@@ -85,22 +95,20 @@ impl Tableau {
         Ok(Tableau {
             rows: 0,
             cols: 0,
-            numbers: vec![in alloc; 0.0f64; 1089]?,
-            basic: vec![in alloc; 0usize; 32]?,
-            free: vec![in alloc; 0usize; 32]?,
-            pivot: vec![in alloc; 0.0f64; 33]?,
+            numbers: vec![in alloc; 0.0f64; (MOST_LINES * MOST_LINES) as usize]?,
+            basic: vec![in alloc; 0usize; MOST_MOVES as usize]?,
+            free: vec![in alloc; 0usize; MOST_MOVES as usize]?,
+            pivot: vec![in alloc; 0.0f64; MOST_LINES as usize]?,
         })
     }
 
-    /// Shares of the rows and of the columns that solve the payoffs, or nearly so.
-    pub(crate) fn solve(&mut self, payoffs: &Payoffs, least_pivot: f64) -> Shares {
+    /// Writes shares of the rows and of the columns that solve the payoffs, or nearly so.
+    pub(crate) fn solve(&mut self, payoffs: &Payoffs, least_pivot: f64, shares: &mut Shares) {
         self.begin(payoffs);
         self.maximise(least_pivot);
         let scale = 1.0 / self.number(self.rows, self.cols);
-        Shares {
-            rows: self.row_shares(scale),
-            cols: self.col_shares(scale),
-        }
+        self.write_row_shares(scale, &mut shares.rows[..self.rows]);
+        self.write_col_shares(scale, &mut shares.cols[..self.cols]);
     }
 
     // Takes on the payoffs, before any exchange.
@@ -108,8 +116,8 @@ impl Tableau {
         self.rows = payoffs.rows;
         self.cols = payoffs.cols;
         payoffs.write_numbers(&mut self.numbers);
-        name(&mut self.basic, 0);
-        name(&mut self.free, payoffs.rows);
+        name(&mut self.basic, payoffs.rows, 0);
+        name(&mut self.free, payoffs.cols, payoffs.rows);
     }
 
     fn number(&self, row: usize, col: usize) -> f64
@@ -221,28 +229,30 @@ impl Tableau {
         }
     }
 
-    // The shares of the rows, by the costs of their slacks.
-    fn row_shares(&self, scale: f64) -> Line {
-        let mut shares = ZEROS;
+    // Writes the shares of the rows, by the costs of their slacks.
+    fn write_row_shares(&self, scale: f64, shares: &mut [f64])
+        requires { length shares.old ≡ self.now.rows }
+    {
+        shares.fill(0.0);
         for col in 0..self.cols {
             let name = self.free[col];
             if name < self.rows {
                 shares[name] = self.number(self.rows, col) * scale;
             }
         }
-        shares
     }
 
-    // The shares of the columns, by their weights.
-    fn col_shares(&self, scale: f64) -> Line {
-        let mut shares = ZEROS;
+    // Writes the shares of the columns, by their weights.
+    fn write_col_shares(&self, scale: f64, shares: &mut [f64])
+        requires { length shares.old ≡ self.now.cols }
+    {
+        shares.fill(0.0);
         for row in 0..self.rows {
             let name = self.basic[row];
             if name >= self.rows && name - self.rows < self.cols {
                 shares[name - self.rows] = self.number(row, self.cols) * scale;
             }
         }
-        shares
     }
 }
 

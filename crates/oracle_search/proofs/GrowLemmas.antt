@@ -14,16 +14,16 @@ use Rattle.restricted_game.specs.declared.held.StepEnd.{StepEnd}
 use Rattle.restricted_game.specs.declared.held.StepEnd.TheVariants.{Grown, Done}
 use Rattle.restricted_game.specs.Children.{KeptRows, AreChildRows}
 use Rattle.restricted_game.specs.Gaps.{AreClose, HasStepGap}
-use Rattle.restricted_game.specs.Held.{HeldMoves, count_held, held_after}
+use Rattle.restricted_game.specs.Held.{HeldMoves, count_held, count_moves, held_after}
 use Rattle.oracle_search.specs.declared.ends.SearchEnd.{SearchEnd}
 use Rattle.oracle_search.specs.declared.ends.SearchEnd.TheVariants.{Reached, Settled, Spent, Full}
 use Rattle.oracle_search.specs.declared.ends.Stop.{Stop}
 use Rattle.oracle_search.specs.declared.ends.Stop.TheVariants as stops
 use Rattle.oracle_search.specs.Finished.{IsWithin, IsClose, rank_gap}
-use Rattle.oracle_search.specs.Searches.{IsWorked, TakesTurns, TakesAtMost, HasTaken, HasTurn, HasKept, HasEnded, IsFirstHeld, Ends, IsBoardFull, IsStop, stop_of, IsStoppedAs, IsEarlyEnd, AreDone}
+use Rattle.oracle_search.specs.Searches.{IsWorked, growth_turns, TakesTurns, TakesAtMost, HasTaken, HasTurn, HasKept, HasEnded, IsFirstHeld, Ends, IsBoardFull, IsStop, stop_of, IsStoppedAs, IsEarlyEnd, AreDone}
 use Rattle.oracle_search.specs.Workers.{WorkerView, WorkView, is_linear, at_work, with_full}
 use Rattle.oracle_search.proofs.KeyLemmas.{done_within}
-use Rattle.oracle_search.proofs.TurnLemmas.{TakesWithin, at_most, taken_by, taken_after, within_then, within_turn}
+use Rattle.oracle_search.proofs.TurnLemmas.{TakesWithin, more_turns, begun_within, last_turn, taken_by, taken_after, within_turn, stopped_within, passed_within}
 use Rattle.oracle_search.proofs.WorkLemmas.{worked_none, worked_read, worked_after, full_kept, within_not_beyond}
 
 -- a turn changes nothing of how stages are solved
@@ -45,7 +45,7 @@ row_of_other m v asked full row below held =
 -- what was kept, that no turn was taken but at states that were finished, what is done, and the rows that are known
 pub record IsSearching {S G N : Type 0} (m : GameModel S) (s : S) (places : KeptRows) (old new : WorkView G N) (Known : Type 0) : Type 0 where
   pub worked : IsWorked m s old new
-  pub turns : TakesAtMost 0 (m.rank s - 1) old.worker new.worker
+  pub turns : TakesAtMost (growth_turns m) 0 (m.rank s - 1) old.worker new.worker
   pub done : Known
   pub children : AreChildRows m new.board s places
 
@@ -59,29 +59,30 @@ module _ {S G N : Type 0} {m : GameModel S} {s : S} where
   searching_read p later same children done = record { worked = worked_read p.worked later same; turns = p.turns; done = done; children = children }
 
   pub searching_more : {xs ys : KeptRows} {u v w : WorkView G N} {Known More : Type 0} {below : ℕ} → IsSearching m s xs u v Known → IsWorked m s v w → below ≤ m.rank s - 1
-      → TakesAtMost 0 below v.worker w.worker → AreChildRows m w.board s ys → More → IsSearching m s ys u w More
+      → TakesAtMost (growth_turns m) 0 below v.worker w.worker → AreChildRows m w.board s ys → More → IsSearching m s ys u w More
   searching_more p worked low taken children done = record { worked = worked_after p.worked worked; turns = taken_after worked low p.turns taken; done = done; children = children }
 
   -- the part that stopped
   pub searching_stopped : {xs : KeptRows} {u v w : WorkView G N} {Known : Type 0} {below : ℕ} → IsSearching m s xs u v Known → IsWorked m s v w → below ≤ m.rank s - 1
-      → TakesAtMost below below v.worker w.worker → TakesAtMost (m.rank s - 1) (m.rank s - 1) u.worker w.worker
+      → TakesAtMost (growth_turns m) below below v.worker w.worker → TakesAtMost (growth_turns m) (m.rank s - 1) (m.rank s - 1) u.worker w.worker
   searching_stopped {u = u} {w = w} {below = below} p worked low taken = record {
     unless_full = λ not. ⊎_elim
-        (λ (a : TakesTurns below u.worker w.worker). inl (omega arith))
-        (λ (b : (left_of w.turns ≡ 0) × TakesTurns (m.rank s - 1) u.worker w.worker). inr b)
+        (λ (a : TakesTurns (growth_turns m) below u.worker w.worker). inl (more_turns (growth_turns m) below (m.rank s - 1) u.worker w.worker low a))
+        (λ (b : (left_of w.turns ≡ 0) × TakesTurns (growth_turns m) (m.rank s - 1) u.worker w.worker). inr b)
         ((taken_after worked low p.turns taken).unless_full not);
   }
 
 -- ---- how the search of one of the states ended
 module _ {S G N : Type 0} (m : GameModel S) (s : S) (u v : WorkView G N) where
-  pub child_done : (end : SearchEnd) → 1 ≤ m.rank s → stop_of end ≡ None → Ends m s (pos 0) v end → HasTaken m s end u v → IsClose m v.board s × TakesAtMost 1 (m.rank s) u.worker v.worker
+  pub child_done : (end : SearchEnd) → 1 ≤ m.rank s → stop_of end ≡ None → Ends m s (pos 0) v end → HasTaken m s end u v
+      → IsClose m v.board s × TakesAtMost (growth_turns m) 1 (m.rank s) u.worker v.worker
   child_done Reached goes_on is ends taken = (done_within m s v.board (ends goes_on) goes_on, taken)
   child_done Settled goes_on is ends taken = (ends.2, taken)
   child_done Spent goes_on is ends taken = absurd (cc)
   child_done Full goes_on is ends taken = absurd (cc)
 
   pub child_stopped : (end : SearchEnd) (target : ℤ) (stop : Stop) → stop_of end ≡ Some stop → Ends m s target v end → HasTaken m s end u v
-      → IsStop m s v stop × TakesAtMost (m.rank s) (m.rank s) u.worker v.worker
+      → IsStop m s v stop × TakesAtMost (growth_turns m) (m.rank s) (m.rank s) u.worker v.worker
   child_stopped Reached target stop is ends taken = absurd (cc)
   child_stopped Settled target stop is ends taken = absurd (cc)
   child_stopped Spent target stop is ends taken = let same : stops.Spent ≡ stop = cc in (subst (λ (x : Stop). IsStop m s v x) same ends.2, taken)
@@ -109,11 +110,12 @@ module _ {S G N : Type 0} (m : GameModel S) (s : S) (goes_on : 1 ≤ m.rank s) w
   stopped_ends w target stop Full why is = let full : IsStop m s w stops.Full = subst (λ (x : Stop). IsStop m s w x) is.1 why in (full.0, full.1, λ row below held. is.0)
 
   stopped_taken : (u w : WorkView G N) (target : ℤ) (stop : Stop) (end : SearchEnd) → IsStop m s w stop
-      → IsStoppedAs m w.board s target stop end → TakesAtMost (m.rank s) (m.rank s) u.worker w.worker → HasTaken m s end u w
+      → IsStoppedAs m w.board s target stop end → TakesAtMost (growth_turns m) (m.rank s) (m.rank s) u.worker w.worker → HasTaken m s end u w
   stopped_taken u w target stops.Spent Reached why is taken = record {
     unless_full = λ not. inr (
       why,
-      ⊎_elim (λ (a : TakesTurns (m.rank s) u.worker w.worker). a) (λ (b : (left_of w.turns ≡ 0) × TakesTurns (m.rank s) u.worker w.worker). b.1) (taken.unless_full not),
+      ⊎_elim (λ (a : TakesTurns (growth_turns m) (m.rank s) u.worker w.worker). a)
+          (λ (b : (left_of w.turns ≡ 0) × TakesTurns (growth_turns m) (m.rank s) u.worker w.worker). b.1) (taken.unless_full not),
     );
   }
   stopped_taken u w target stops.Full Reached why is taken = record { unless_full = λ not. let wrong : false ≡ true = sym not ∙ why.0 in absurd (cc) }
@@ -122,7 +124,7 @@ module _ {S G N : Type 0} (m : GameModel S) (s : S) (goes_on : 1 ≤ m.rank s) w
   stopped_taken u w target stop Full why is taken = taken
 
   pub stopped_ended : (u w : WorkView G N) (target : ℤ) (stop : Stop) (end : SearchEnd) → IsStop m s w stop
-      → IsStoppedAs m w.board s target stop end → TakesAtMost (m.rank s) (m.rank s) u.worker w.worker → HasEnded m s target u w end
+      → IsStoppedAs m w.board s target stop end → TakesAtMost (growth_turns m) (m.rank s) (m.rank s) u.worker w.worker → HasEnded m s target u w end
   stopped_ended u w target stop end why is taken = record { ends = stopped_ends w target stop end why is; turns = stopped_taken u w target stop end why is taken }
 
   -- ---- how a search ends before its first turn
@@ -142,8 +144,8 @@ module _ {S G N : Type 0} (m : GameModel S) (s : S) (goes_on : 1 ≤ m.rank s) w
 -- its turns, with one left over for each move that may still be added, and the rows that are known
 pub record IsGrowing {S G N : Type 0} (m : GameModel S) (s : S) (places : KeptRows) (held : HeldMoves) (old new : WorkView G N) : Type 0 where
   pub worked : IsWorked m s old new
-  pub turns : TakesWithin 2 (count_held held) (m.rank s) old.worker new.worker
-  pub few : count_held held ≤ 64
+  pub turns : TakesWithin (growth_turns m) 2 (count_held held) (m.rank s) old.worker new.worker
+  pub few : count_held held ≤ growth_turns m + 1
   pub rows : held.most_rows ≡ m.moves One s
   pub cols : held.most_cols ≡ m.moves Two s
   pub children : AreChildRows m new.board s places
@@ -156,11 +158,19 @@ after_cols : (h : HeldMoves) (end : StepEnd) → (held_after h end).most_cols �
 after_cols h (Grown row col) = refl
 after_cols h (Done lower upper) = refl
 
+-- fewer moves are left to add
+pub fewer_left : (h new : HeldMoves) (end : StepEnd) → new ≡ held_after h end → (count_held h < count_held new) × (count_held new ≤ count_moves new)
+    → count_moves new - count_held new < count_moves h - count_held h
+fewer_left h new end after rises =
+    let rows = ap (λ (k : HeldMoves). k.most_rows) after ∙ after_rows h end in
+    let cols = ap (λ (k : HeldMoves). k.most_cols) after ∙ after_cols h end in
+    omega (arith, rises.0, rises.1, rows, cols)
+
 module _ {S G N : Type 0} {m : GameModel S} {s : S} (goes_on : 1 ≤ m.rank s) where
-  pub growing_none : {xs : KeptRows} {held : HeldMoves} {v : WorkView G N} → HasKept m v → IsFirstHeld m s held → AreChildRows m v.board s xs → IsGrowing m s xs held v v
-  growing_none kept first children = let two = first.two in record {
+  pub growing_none : {xs : KeptRows} {held : HeldMoves} {v : WorkView G N} → IsGame m → HasKept m v → IsFirstHeld m s held → AreChildRows m v.board s xs → IsGrowing m s xs held v v
+  growing_none game kept first children = let two = first.two in let some = game.width_low in record {
     worked = worked_none kept;
-    turns = record { unless_full = λ not. inl (omega arith) };
+    turns = begun_within first.two;
     few = omega arith;
     rows = first.rows;
     cols = first.cols;
@@ -169,15 +179,16 @@ module _ {S G N : Type 0} {m : GameModel S} {s : S} (goes_on : 1 ≤ m.rank s) w
 
   module _ {xs : KeptRows} {held : HeldMoves} {u v : WorkView G N} (g : IsGrowing m s xs held u v) where
     -- what the game and the states after its moves took, wherever these stopped
-    pub growing_stopped : {w : WorkView G N} → IsWorked m s v w → TakesAtMost (m.rank s - 1) (m.rank s - 1) v.worker w.worker → TakesAtMost (m.rank s) (m.rank s) u.worker w.worker
-    growing_stopped worked taken = let few = g.few in
-        at_most {spare = 2} {turns = 63 * m.rank s + 2} (m.rank s) (m.rank s) (omega arith) (omega arith) (within_then worked (omega arith) (omega arith) g.turns taken)
+    pub growing_stopped : {w : WorkView G N} → IsWorked m s v w → TakesAtMost (growth_turns m) (m.rank s - 1) (m.rank s - 1) v.worker w.worker
+        → TakesAtMost (growth_turns m) (m.rank s) (m.rank s) u.worker w.worker
+    growing_stopped worked taken = stopped_within worked g.few goes_on g.turns taken
 
     -- the states after held moves, all done
-    pub growing_passed : {ys : KeptRows} {w : WorkView G N} → IsWorked m s v w → TakesAtMost 0 (m.rank s - 1) v.worker w.worker → AreChildRows m w.board s ys → IsGrowing m s ys held u w
-    growing_passed worked taken children = let few = g.few in record {
+    pub growing_passed : {ys : KeptRows} {w : WorkView G N} → IsWorked m s v w → TakesAtMost (growth_turns m) 0 (m.rank s - 1) v.worker w.worker → AreChildRows m w.board s ys
+        → IsGrowing m s ys held u w
+    growing_passed worked taken children = record {
       worked = worked_after g.worked worked;
-      turns = within_then worked (omega arith) (omega arith) g.turns taken;
+      turns = passed_within worked g.few goes_on g.turns taken;
       few = g.few;
       rows = g.rows;
       cols = g.cols;
@@ -185,20 +196,23 @@ module _ {S G N : Type 0} {m : GameModel S} {s : S} (goes_on : 1 ≤ m.rank s) w
     }
 
     -- one turn, of a game that may grow no more
-    pub growing_turn : {x : WorkerView} → HasTurn v.turns x.turns → x.settled ≡ v.settled → TakesAtMost 1 (m.rank s) u.worker x
-    growing_turn turn same = let few = g.few in at_most {spare = 2} {turns = 65} 1 (m.rank s) (omega arith) (omega arith) (within_turn (omega arith) g.turns turn same)
+    pub growing_turn : {x : WorkerView} → HasTurn v.turns x.turns → x.settled ≡ v.settled → TakesAtMost (growth_turns m) 1 (m.rank s) u.worker x
+    growing_turn turn same = last_turn g.few g.turns turn same
 
-    -- one turn, with a move added
+    -- one turn, with a move added: no more are held than both sides have
     pub growing_more : {ys : KeptRows} {new : HeldMoves} {w : WorkView G N} (end : StepEnd) → IsWorked m s v w → HasTurn v.turns w.turns → w.settled ≡ v.settled → new ≡ held_after held end
-        → (count_held held < count_held new) × (count_held new ≤ 64) → AreChildRows m w.board s ys → IsGrowing m s ys new u w
-    growing_more end worked turn same after rises children = let more = rises.0 in record {
-      worked = worked_after g.worked worked;
-      turns = within_turn (omega arith) g.turns turn same;
-      few = rises.1;
-      rows = ap (λ (h : HeldMoves). h.most_rows) after ∙ after_rows held end ∙ g.rows;
-      cols = ap (λ (h : HeldMoves). h.most_cols) after ∙ after_cols held end ∙ g.cols;
-      children = children;
-    }
+        → IsGame m → Reachable m s → (count_held held < count_held new) × (count_held new ≤ count_moves new) → AreChildRows m w.board s ys → IsGrowing m s ys new u w
+    growing_more {new = new} end worked turn same after game reach rises children =
+        let more = rises.0 in
+        let rows : new.most_rows ≡ m.moves One s = ap (λ (h : HeldMoves). h.most_rows) after ∙ after_rows held end ∙ g.rows in
+        let cols : new.most_cols ≡ m.moves Two s = ap (λ (h : HeldMoves). h.most_cols) after ∙ after_cols held end ∙ g.cols in record {
+          worked = worked_after g.worked worked;
+          turns = within_turn (omega arith) g.turns turn same;
+          few = omega (arith, rises.1, rows, cols, game.moves_high One s reach, game.moves_high Two s reach, game.width_low);
+          rows = rows;
+          cols = cols;
+          children = children;
+        }
 
 -- ---- how close the bounds are where no reply is fresh
 one_rank : (r k : ℕ) → 1 ≤ r → (r - 1) * k + k ≡ r * k

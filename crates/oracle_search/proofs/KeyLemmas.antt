@@ -5,6 +5,7 @@ use Rattle.std.proofs.lemmas.Int.{ints}
 use Rattle.std.proofs.lemmas.List.{length-append, get_or_append_left, get_or-append_right}
 use Rattle.std.proofs.lemmas.List.Elements.{All-append, All-contains, All-nil, All-push, All-weaker, Contains-get_or, Contains-append_cases}
 use Rattle.sim_game.specs.declared.Side.TheVariants.{One, Two}
+use Rattle.sim_game.specs.declared.TheConstants.{MOST_TURNS}
 use Rattle.sim_game.specs.Model.{GameModel, IsGame, Reachable}
 use Rattle.sim_game.specs.Resolution.{IsStageGap}
 use Rattle.bounds_board.specs.Views.{BoardView, IsLater, known_bound}
@@ -57,17 +58,18 @@ key_later {m = m} {key = key} less wide later f = let below = f.below in record 
 -- as close as their ranks allow or not
 pub finished_open : {S G N : Type 0} {m : GameModel S} {is_close : Bool} {v : BoardView G N} {keys : List ℕ} → AreFinished m is_close v keys → AreFinished m false v keys
 finished_open {m = m} {is_close = is_close} {v = v} {keys = keys} f = record {
-  each = All-weaker (IsFinished m is_close v 32) (IsFinished m false v 32) (λ key. key_later (λ e. let wrong : false ≡ true = e in absurd (cc)) (omega arith) (later_refl v)) keys f.each;
+  each = All-weaker (IsFinished m is_close v (1 + MOST_TURNS)) (IsFinished m false v (1 + MOST_TURNS)) (λ key. key_later (λ e. let wrong : false ≡ true = e in absurd (cc))
+      (omega arith) (later_refl v)) keys f.each;
   apart = f.apart;
 }
 
 module _ {S G N : Type 0} {m : GameModel S} {is_close : Bool} where
   pub finished_later : {v w : BoardView G N} {keys : List ℕ} → IsLater v w → AreFinished m is_close v keys → AreFinished m is_close w keys
   finished_later {v} {w} {keys} later f =
-      record { each = All-weaker (IsFinished m is_close v 32) (IsFinished m is_close w 32) (λ key. key_later (λ e. e) (omega arith) later) keys f.each; apart = f.apart }
+      record { each = All-weaker (IsFinished m is_close v (1 + MOST_TURNS)) (IsFinished m is_close w (1 + MOST_TURNS)) (λ key. key_later (λ e. e) (omega arith) later) keys f.each; apart = f.apart }
 
   pub finished_none : (v : BoardView G N) → AreFinished m is_close v []
-  finished_none v = record { each = All-nil (IsFinished m is_close v 32); apart = λ i j l h. absurd (omega arith) }
+  finished_none v = record { each = All-nil (IsFinished m is_close v (1 + MOST_TURNS)); apart = λ i j l h. absurd (omega arith) }
 
   pub added_none : (v : BoardView G N) (limit : ℕ) (keys : List ℕ) → AreAdded m is_close v limit keys keys
   added_none v limit keys = record { more = []; joins = sym (append-nil keys); each = All-nil (IsFinished m is_close v limit) }
@@ -102,7 +104,7 @@ apart_more keys key apart not i j l h same =
 module _ {S G N : Type 0} (m : GameModel S) (game : IsGame m) (s : S) (r : Reachable m s) {is_close : Bool} {v : BoardView G N} where
   pub key_done : {keys : List ℕ} → AreFinished m is_close v keys → Contains keys (m.key s) → is_close ≡ true → IsDone m v s
   key_done {keys} finished has e goes_on =
-      let it : IsFinished m is_close v 32 (m.key s) = All-contains (IsFinished m is_close v 32) keys (m.key s) finished.each has in
+      let it : IsFinished m is_close v (1 + MOST_TURNS) (m.key s) = All-contains (IsFinished m is_close v (1 + MOST_TURNS)) keys (m.key s) finished.each has in
       subst (λ (t : S). IsClose m v t) (game.same_key it.state s it.reachable r it.is_key) (it.close e)
 
   -- what comes after a state does not finish it
@@ -121,7 +123,7 @@ module _ {S G N : Type 0} (m : GameModel S) (game : IsGame m) (s : S) (r : Reach
 
     pub finished_more : (keys : List ℕ) → AreFinished m is_close v keys → (Contains keys (m.key s) → ⊥) → AreFinished m is_close v (keys ++ m.key s ∷ [])
     finished_more keys p not = let high = game.rank_high s r in record {
-      each = All-push (IsFinished m is_close v 32) keys (m.key s) p.each (finished_now 32 (omega arith));
+      each = All-push (IsFinished m is_close v (1 + MOST_TURNS)) keys (m.key s) p.each (finished_now (1 + MOST_TURNS) (omega arith));
       apart = apart_more keys (m.key s) p.apart not;
     }
 

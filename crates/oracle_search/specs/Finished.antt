@@ -2,6 +2,7 @@
 use Rattle.std.specs.Prelude.{◌≡◌, ◌≢◌, ℕ, ◌+◌, ◌*◌, ◌<◌, ◌≤◌, ℤ, pos, ◌+ℤ◌, ◌≤ℤ◌, ◌<ℤ◌, Bool, true, cond, Some, List, ◌++◌, length, slice_index, All}
 use Rattle.std.specs.Int.{div_ceil}
 use Rattle.sim_game.specs.declared.Side.TheVariants.{One, Two}
+use Rattle.sim_game.specs.declared.TheConstants.{MOST_TURNS}
 use Rattle.sim_game.specs.Model.{GameModel, Reachable}
 use Rattle.sim_game.specs.Resolution.{IsStageGap}
 use Rattle.bounds_board.specs.Views.{BoardView, known_bound}
@@ -51,7 +52,7 @@ abbrev pub AreApart : List ℕ → Type 0
 AreApart keys = (i j : ℕ) → i < j → j < length keys → slice_index keys i ≢ slice_index keys j
 
 pub record AreFinished {S G N : Type 0} (m : GameModel S) (is_close : Bool) (v : BoardView G N) (keys : List ℕ) : Type 0 where
-  pub each : All (IsFinished m is_close v 32) keys
+  pub each : All (IsFinished m is_close v (1 + MOST_TURNS)) keys
   pub apart : AreApart keys
 
 -- keys were added at the end, each of a finished state of a rank below the limit

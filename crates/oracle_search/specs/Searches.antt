@@ -1,5 +1,5 @@
 -- What a search keeps, and how it ends.
-use Rattle.std.specs.Prelude.{◌≡◌, ◌⊎◌, ℕ, ◌+◌, ◌*◌, ◌<◌, ◌≤◌, ℤ, ◌+ℤ◌, ◌≤ℤ◌, ◌<ℤ◌, Bool, true, false, IsTrue, Option, None, Some, length}
+use Rattle.std.specs.Prelude.{◌≡◌, ◌⊎◌, ℕ, ◌+◌, ◌-◌, ◌*◌, ◌<◌, ◌≤◌, ℤ, ◌+ℤ◌, ◌≤ℤ◌, ◌<ℤ◌, Bool, true, false, IsTrue, Option, None, Some, length}
 use Rattle.sim_game.specs.declared.Side.{Side}
 use Rattle.sim_game.specs.declared.Side.TheVariants.{One, Two}
 use Rattle.sim_game.specs.Model.{GameModel, LeadsTo, Reachable}
@@ -86,13 +86,17 @@ Ends m s target v Spent = (1 ≤ m.rank s) × IsBeyond m v.board s target × (le
 Ends m s target v Full = (v.settled.was_full ≡ true) × IsBoardFull m s v.board
     × ((row : ℕ) → row < v.board.rows → v.board.key_at row ≡ Some (m.key s) → IsBeyond m v.board s target)
 
--- at most 63 turns for each of so many states, besides those that were finished
-abbrev pub TakesTurns : ℕ → WorkerView → WorkerView → Type 0
-TakesTurns states old new = new.turns.spent + 63 * length old.settled.keys ≤ old.turns.spent + 63 * (length new.settled.keys + states)
+-- how many turns a restricted game of all moves of a state may take: it begins with one move of each side, and each turn but the last adds one or more
+abbrev pub growth_turns : {S : Type 0} → GameModel S → ℕ
+growth_turns m = 2 * m.width - 1
+
+-- at most so many turns for each of so many states, besides those that were finished
+abbrev pub TakesTurns : ℕ → ℕ → WorkerView → WorkerView → Type 0
+TakesTurns each states old new = new.turns.spent + each * length old.settled.keys ≤ old.turns.spent + each * (length new.settled.keys + states)
 
 -- as long as no claim was full: so many turns, or no turn is left and there were no more than for the most states
-pub record TakesAtMost (states most : ℕ) (old new : WorkerView) : Type 0 where
-  pub unless_full : new.settled.was_full ≡ false → TakesTurns states old new ⊎ ((left_of new.turns ≡ 0) × TakesTurns most old new)
+pub record TakesAtMost (each states most : ℕ) (old new : WorkerView) : Type 0 where
+  pub unless_full : new.settled.was_full ≡ false → TakesTurns each states old new ⊎ ((left_of new.turns ≡ 0) × TakesTurns each most old new)
 
 -- how many states a search that ended so may have taken turns at, itself included, that are not finished
 abbrev pub open_states : ℕ → SearchEnd → ℕ
@@ -103,7 +107,7 @@ open_states rank Full = rank
 
 -- the turns of a search of the state that ended so
 abbrev pub HasTaken : {S G N : Type 0} → GameModel S → S → SearchEnd → WorkView G N → WorkView G N → Type 0
-HasTaken m s end old new = TakesAtMost (open_states (m.rank s) end) (m.rank s) old.worker new.worker
+HasTaken m s end old new = TakesAtMost (growth_turns m) (open_states (m.rank s) end) (m.rank s) old.worker new.worker
 
 -- how a restricted game that grows ended
 pub record HasEnded {S G N : Type 0} (m : GameModel S) (s : S) (target : ℤ) (old new : WorkView G N) (end : SearchEnd) : Type 0 where
@@ -173,8 +177,8 @@ AreDone m v s one two = (draw : ℕ) → draw < m.draws s one two → IsDone m v
 
 -- how the searches of states of at most this rank end: all is known, or one of them stopped
 abbrev pub HasSearched : {S G N : Type 0} → GameModel S → S → ℕ → Type 0 → WorkerView → WorkView G N → Option Stop → Type 0
-HasSearched m s rank Known old new None = Known × TakesAtMost 0 rank old new.worker
-HasSearched m s rank Known old new (Some stop) = IsStop m s new stop × TakesAtMost rank rank old new.worker
+HasSearched m s rank Known old new None = Known × TakesAtMost (growth_turns m) 0 rank old new.worker
+HasSearched m s rank Known old new (Some stop) = IsStop m s new stop × TakesAtMost (growth_turns m) rank rank old new.worker
 
 -- how a search ends that stopped: it is reached all the same where the bounds known are within the target
 abbrev pub IsStoppedAs : {S G N : Type 0} → GameModel S → BoardView G N → S → ℤ → Stop → SearchEnd → Type 0

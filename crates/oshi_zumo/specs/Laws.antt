@@ -1,20 +1,23 @@
 -- The rules of Oshi-Zumo make a game.
-use Rattle.std.proofs.Common.{◌≡◌, ℕ, ◌+◌, ◌-◌, ◌*◌, ◌/◌, ◌<◌, ◌≤◌, max, ℤ, pos, negsuc, neg_ℤ, ◌≤ℤ◌, Bool, true, false, ◌||◌, ◌&&◌, cond, ltb, List, [], ◌∷◌, length, get_or, refl, ap, inl, inr, arith}
-use Rattle.std.proofs.lemmas.Bool.{cases_lt, cond-false, cond-true, cond_both, le-ltb, lt-ltb}
+use Rattle.std.proofs.Common.{◌≡◌, ℕ, ◌+◌, ◌-◌, ◌*◌, ◌/◌, ◌^◌, ◌<◌, ◌≤◌, max, ℤ, pos, negsuc, neg_ℤ, ◌+ℤ◌, ◌≤ℤ◌, Bool, true, false, ◌||◌, ◌&&◌, cond, ltb, List, [], ◌∷◌, length, get_or, refl, ap, inl, inr, arith}
+use Rattle.std.proofs.lemmas.Bool.{cases_lt, cond-false, cond-true, cond_both, le-ltb, lt-ltb, ltb-false, or_parts}
 use Rattle.std.proofs.lemmas.Bool.Decides.{nat_tests}
 use Rattle.std.proofs.lemmas.Int.{ints}
 use Rattle.std.proofs.lemmas.List.FromFn.{length-range_with_len, get_or-range_with_len}
-use Rattle.std.proofs.Math.Nat.{div-eq_of_lt, div-lt_iff_lt-mul, le-div_iff_mul-le, lt-div-mul-add, div-le_self}
+use Rattle.std.proofs.lemmas.Nat.{mul-add-lt}
+use Rattle.std.proofs.Math.Nat.{mul-le-mul, div-eq_of_lt, div-lt_iff_lt-mul, le-div_iff_mul-le, lt-div-mul-add, div-le_self}
 use Rattle.std.specs.Int.{int_signum}
 use Rattle.std.specs.Int.RustNames.{unsigned_abs}
 use Rattle.std.specs.List.{range_with_len}
 use Rattle.oshi_zumo.specs.declared.Setting.{Setting}
 use Rattle.oshi_zumo.specs.declared.State.{State}
 use Rattle.oshi_zumo.specs.Position.{IsPosition}
-use Rattle.oshi_zumo.specs.Rules.{coins_of, is_off, is_bout_over, bids_from, bids, push_of, oshi_zumo_rank, oshi_zumo_game}
+use Rattle.oshi_zumo.specs.Rules.{coins_of, is_off, is_bout_over, bids_from, bids, push_of, oshi_zumo_rank, is_wide_bout, coin_bits, oshi_zumo_key, from_end, oshi_zumo_numbering, oshi_zumo_game}
 use Rattle.sim_game.specs.declared.Side.{Side}
 use Rattle.sim_game.specs.declared.Side.TheVariants.{One, Two}
+use Rattle.sim_game.specs.declared.TheConstants.{MOST_TURNS}
 use Rattle.sim_game.specs.Model.{Turn, IsTurn, Reachable, IsGame, after_turn}
+use Rattle.sim_game.specs.Numbers.{IsNumbering, digits_apart}
 use Rattle.sim_game.proofs.ReachLemmas.{reachable_induction}
 
 -- ---- bids
@@ -96,6 +99,13 @@ place_on_board : (size : ℕ) (place : ℤ) (poor : Bool) → (ltb size (unsigne
 place_on_board size place poor h = grind (arith, nat_tests)
 
 -- ---- keys
+-- the coins of the position fit the fields of its keys
+coins_below : (g : Setting) → IsPosition g → (g.one < 2 ^ coin_bits g) × (g.two < 2 ^ coin_bits g)
+coins_below g p = cond_both (is_wide_bout g) 6 5 (λ (bits : ℕ). (g.one < 2 ^ bits) × (g.two < 2 ^ bits)) (λ _. (omega (arith, p.one_high), omega (arith, p.two_high))) (λ narrow.
+    let some = or_parts (ltb 31 g.one) _ narrow in
+    let rest = or_parts (ltb 31 g.two) _ some.1 in
+    (omega (arith, ltb-false 31 g.one some.0), omega (arith, ltb-false 31 g.two rest.0)))
+
 pub same_oshi_zumo_state : (s t : State) → s.place ≡ t.place → s.one ≡ t.one → s.two ≡ t.two → s ≡ t
 same_oshi_zumo_state s t p q r = λ i. record { place = p i; one = q i; two = r i }
 
@@ -171,8 +181,33 @@ module _ (g : Setting) (p : IsPosition g) where
   oshi_zumo_sound = reachable_induction (oshi_zumo_game g) (IsOshiZumoSound g) sound_root (λ s t _ here turn. sound_turn s t here turn)
 
   -- the fields of the key
-  pub coins_in_bits : (s : State) → Reachable (oshi_zumo_game g) s → (unsigned_abs s.place ≤ 9) × (s.one ≤ 31) × (s.two ≤ 31)
-  coins_in_bits s r = let here = oshi_zumo_sound s r in (omega (arith, here.near, p.size_high), omega (arith, here.one_high, p.one_high), omega (arith, here.two_high, p.two_high))
+  pub record HasKeyFields (s : State) : Type 0 where
+    pub near : unsigned_abs s.place ≤ 9
+    pub one : s.one < 2 ^ coin_bits g
+    pub two : s.two < 2 ^ coin_bits g
+
+  pub key_fields : (s : State) → Reachable (oshi_zumo_game g) s → HasKeyFields s
+  key_fields s r =
+      let here = oshi_zumo_sound s r in
+      let room = coins_below g p in
+      record { near = omega (arith, here.near, p.size_high); one = omega (arith, here.one_high, room.0); two = omega (arith, here.two_high, room.1) }
+
+  key_below : (s : State) → Reachable (oshi_zumo_game g) s → oshi_zumo_key g s < 2 ^ 63
+  key_below s r =
+      let here = key_fields s r in
+      let front = unsigned_abs (s.place +ℤ pos 16) in
+      let below : front < 32 = omega (arith, ints, here.near) in
+      let first = mul-add-lt front (2 ^ coin_bits g) s.one 32 below here.one in
+      let whole = mul-add-lt (front * 2 ^ coin_bits g + s.one) (2 ^ coin_bits g) s.two (2 ^ coin_bits g * 32) first here.two in
+      cond_both (is_wide_bout g) 6 5 (λ (bits : ℕ). oshi_zumo_key g s < 2 ^ bits * (2 ^ bits * 32) → oshi_zumo_key g s < 2 ^ 63) (λ _ h. omega (arith, h)) (λ _ h. omega (arith, h)) whole
+
+  same_key : (s t : State) → Reachable (oshi_zumo_game g) s → Reachable (oshi_zumo_game g) t → oshi_zumo_key g s ≡ oshi_zumo_key g t → s ≡ t
+  same_key s t r r' e =
+      let here = key_fields s r in
+      let there = key_fields t r' in
+      let outer = digits_apart (2 ^ coin_bits g) _ _ _ _ here.two there.two e in
+      let inner = digits_apart (2 ^ coin_bits g) _ _ _ _ here.one there.one outer.0 in
+      same_oshi_zumo_state s t (omega (arith, ints, here.near, there.near, inner.0)) inner.1 outer.1
 
   end_moves : (side : Side) (s : State) → oshi_zumo_rank g s ≡ 0 → length (bids g side s) ≡ 0
   end_moves side s h = rw (over_at_end (is_off g s) s.one s.two g.least p.least_low h) refl
@@ -187,10 +222,10 @@ module _ (g : Setting) (p : IsPosition g) where
   few_moves One s here = cond_short (is_bout_over g s) (bids_from g.least s.one) (oshi_zumo_game g).width (omega (arith, bids_count g.least s.one g.one here.one_high))
   few_moves Two s here = cond_short (is_bout_over g s) (bids_from g.least s.two) (oshi_zumo_game g).width (omega (arith, bids_count g.least s.two g.two here.two_high))
 
-  rank_high : (s : State) → IsOshiZumoSound g s → oshi_zumo_rank g s ≤ 31
+  rank_high : (s : State) → IsOshiZumoSound g s → oshi_zumo_rank g s ≤ MOST_TURNS
   rank_high s here = omega (
     arith,
-    cond_below (is_off g s) (max (s.one / g.least) (s.two / g.least)) 32
+    cond_below (is_off g s) (max (s.one / g.least) (s.two / g.least)) (MOST_TURNS + 1)
         (omega (arith, div-le_self s.one g.least, div-le_self s.two g.least, here.one_high, here.two_high, p.one_high, p.two_high)),
   )
 
@@ -212,11 +247,45 @@ module _ (g : Setting) (p : IsPosition g) where
     payoff_high = λ s r h. (sign_small s.place).1;
     reward_low = λ s t r turn. omega (arith, ints);
     reward_high = λ s t r turn. omega (arith, ints);
-    same_key = λ s t r r' e. let here = coins_in_bits s r in let there = coins_in_bits t r' in same_oshi_zumo_state s t (omega (arith, ints)) (omega (arith, ints)) (omega (arith, ints));
-    key_high = λ s r. let here = oshi_zumo_sound s r in omega (arith, ints);
+    same_key = same_key;
+    key_high = key_below;
     draws_low = λ s a b r h h'. omega arith;
     draws_high = λ s a b r h h'. omega arith;
     chance_low = λ s t r h. omega arith;
     chance_sum = λ s a b r h h'. refl;
     one_draw = λ s a b h r h' h''. refl;
   }
+
+  -- ---- places
+  -- the digits of the place
+  pub record HasPlaceDigits (s : State) : Type 0 where
+    pub far : from_end g s < 2 * g.size + 3
+    pub one : s.one < g.one + 1
+    pub two : s.two < g.two + 1
+
+  pub place_digits : (s : State) → Reachable (oshi_zumo_game g) s → HasPlaceDigits s
+  place_digits s r =
+      let here = oshi_zumo_sound s r in
+      record { far = omega (arith, ints, here.near); one = omega (arith, here.one_high); two = omega (arith, here.two_high) }
+
+  same_place : (s t : State) → IsOshiZumoSound g s → IsOshiZumoSound g t → from_end g s ≡ from_end g t → s.place ≡ t.place
+  same_place s t here there e = omega (arith, ints, here.near, there.near, e)
+
+  pub oshi_zumo_numbered : IsNumbering (oshi_zumo_game g) (oshi_zumo_numbering g)
+  oshi_zumo_numbered = record {
+    below = λ s r.
+        let here = place_digits s r in
+        mul-add-lt (from_end g s * (g.one + 1) + s.one) (g.two + 1) s.two ((g.one + 1) * (2 * g.size + 3))
+        (mul-add-lt (from_end g s) (g.one + 1) s.one (2 * g.size + 3) here.far here.one) here.two;
+    apart = λ s t r r' e.
+        let here = place_digits s r in
+        let there = place_digits t r' in
+        let outer = digits_apart (g.two + 1) _ _ _ _ here.two there.two e in
+        let inner = digits_apart (g.one + 1) _ _ _ _ here.one there.one outer.0 in
+        same_oshi_zumo_state s t (same_place s t (oshi_zumo_sound s r) (oshi_zumo_sound t r') inner.0) inner.1 outer.1;
+  }
+
+  pub few_places : (oshi_zumo_numbering g).most ≤ 77824
+  few_places =
+      mul-le-mul {n₁ = g.two + 1} {m₁ = (g.one + 1) * (2 * g.size + 3)} {n₂ = 64} {m₂ = 1216} (omega (arith, p.two_high))
+      (mul-le-mul {n₁ = g.one + 1} {m₁ = 2 * g.size + 3} {n₂ = 64} {m₂ = 19} (omega (arith, p.one_high)) (omega (arith, p.size_high)))

@@ -1,12 +1,15 @@
 -- The rules of Oshi-Zumo, on the wrestler's place and the coins of both sides.
-use Rattle.std.specs.Prelude.{◌≡◌, ◌⊎◌, ◌↔◌, ℕ, ◌+◌, ◌-◌, ◌*◌, ◌/◌, ◌<◌, ◌≤◌, ◌^◌, max, ℤ, pos, neg_ℤ, ◌+ℤ◌, unsigned_abs, Bool, true, ◌||◌, ◌&&◌, nat_lt, if◌then◌else◌, List, [], ◌∷◌, length, slice_index}
+use Rattle.std.specs.Prelude.{◌≡◌, ◌⊎◌, ◌↔◌, ℕ, ◌+◌, ◌-◌, ◌*◌, ◌/◌, ◌<◌, ◌≤◌, ◌^◌, max, ℤ, pos, neg_ℤ, ◌+ℤ◌, unsigned_abs, Bool, true, ◌||◌, ◌&&◌, nat_lt, if◌then◌else◌, List, [], ◌∷◌, length, slice_index, None}
 use Rattle.std.specs.Int.{int_signum}
 use Rattle.std.specs.List.{range_with_len}
+use Rattle.sim_game.specs.declared.Limits.TheVariants.{Narrow}
 use Rattle.sim_game.specs.declared.Side.{Side}
 use Rattle.sim_game.specs.declared.Side.TheVariants.{One, Two}
 use Rattle.sim_game.specs.Model.{GameModel, Turn, IsEnd, Reachable, after_turn, whole_chance}
+use Rattle.sim_game.specs.Numbers.{Numbering}
 use Rattle.oshi_zumo.specs.declared.Setting.{Setting}
 use Rattle.oshi_zumo.specs.declared.State.{State}
+use Rattle.oshi_zumo.specs.Position.{first_fault, most_coins}
 
 -- ---- the rules
 abbrev pub coins_of : Side → State → ℕ
@@ -44,9 +47,29 @@ after_push s one two = record { place = s.place +ℤ push_of one two; one = s.on
 abbrev pub oshi_zumo_rank : Setting → State → ℕ
 oshi_zumo_rank g s = if is_off g s then 0 else max (s.one / g.least) (s.two / g.least)
 
--- the place plus 16, One's coins and Two's coins, in 5 bits each
-abbrev pub oshi_zumo_key : State → ℕ
-oshi_zumo_key s = (unsigned_abs (s.place +ℤ pos 16) * 2 ^ 5 + s.one) * 2 ^ 5 + s.two
+-- a side's coins or the least bid are beyond the narrow limits
+abbrev pub is_wide_bout : Setting → Bool
+is_wide_bout g = nat_lt (most_coins Narrow) g.one || (nat_lt (most_coins Narrow) g.two || nat_lt (most_coins Narrow) g.least)
+
+-- how many bits of a key a side's coins take
+abbrev pub coin_bits : Setting → ℕ
+coin_bits g = if is_wide_bout g then 6 else 5
+
+-- the place plus 16 in 5 bits, then One's coins and Two's coins in as many as the position wants
+abbrev pub oshi_zumo_key : Setting → State → ℕ
+oshi_zumo_key g s = (unsigned_abs (s.place +ℤ pos 16) * 2 ^ coin_bits g + s.one) * 2 ^ coin_bits g + s.two
+
+-- ---- the places of states
+-- how far the wrestler is from the place behind Two's end of the board
+abbrev pub from_end : Setting → State → ℕ
+from_end g s = unsigned_abs (s.place +ℤ pos (g.size + 1))
+
+-- the digits are how far the wrestler is from there, One's coins and Two's coins
+abbrev pub oshi_zumo_place : Setting → State → ℕ
+oshi_zumo_place g s = (from_end g s * (g.one + 1) + s.one) * (g.two + 1) + s.two
+
+abbrev pub oshi_zumo_numbering : Setting → Numbering State
+oshi_zumo_numbering g = record { place = oshi_zumo_place g; most = (g.two + 1) * ((g.one + 1) * (2 * g.size + 3)) }
 
 -- ---- the game
 abbrev pub oshi_zumo_root : Setting → State
@@ -64,7 +87,7 @@ oshi_zumo_game g = record {
   least = λ s. neg_ℤ (pos 1);
   most = λ s. pos 1;
   rank = oshi_zumo_rank g;
-  key = oshi_zumo_key;
+  key = oshi_zumo_key g;
   label = λ side s i. slice_index (bids g side s) i;
   low = neg_ℤ (pos 1);
   high = pos 1;
@@ -90,7 +113,10 @@ pub record KeepsRules (g : Setting) : Type 0 where
   -- all is paid at the end
   pub reward : (s : State) (one two draw : ℕ) → (oshi_zumo_game g).reward s one two draw ≡ pos 0
   pub rank : (s : State) → (oshi_zumo_game g).rank s ≡ oshi_zumo_rank g s
-  pub key : (s : State) → (oshi_zumo_game g).key s ≡ oshi_zumo_key s
+  pub key : (s : State) → (oshi_zumo_game g).key s ≡ oshi_zumo_key g s
+  -- where the narrow limits hold the coins of a side take five bits
+  pub narrow_key : first_fault Narrow g ≡ None → (s : State)
+      → (oshi_zumo_game g).key s ≡ (unsigned_abs (s.place +ℤ pos 16) * 2 ^ 5 + s.one) * 2 ^ 5 + s.two
   pub low : (oshi_zumo_game g).low ≡ neg_ℤ (pos 1)
   pub high : (oshi_zumo_game g).high ≡ pos 1
   pub width : (oshi_zumo_game g).width ≡ max 1 (max (g.one + 1 - g.least) (g.two + 1 - g.least))

@@ -1,16 +1,17 @@
 //! Oshi-Zumo: two players bid coins to push a wrestler off the board.
 #![tactic(auto)]
 
-ghost use Rattle.std.specs.Prelude.{◌≡◌, ◌<◌, ◌≤◌, length, slice_index, unsigned_abs, MatchResult};
+ghost use Rattle.std.specs.Prelude.{◌≡◌, ◌+◌, ◌<◌, ◌≤◌, length, slice_index, unsigned_abs, MatchResult};
 ghost use Rattle.oshi_zumo.specs.declared.Setting.{Setting};
-ghost use Rattle.oshi_zumo.specs.Laws.{oshi_zumo_is_game};
-ghost use Rattle.oshi_zumo.specs.Position.{first_fault, setting_of, IsPosition, IsSettingOf};
-ghost use Rattle.oshi_zumo.specs.Rules.{bids_from, coins_of, is_off, is_bout_over, oshi_zumo_game, push_of, KeepsRules};
+ghost use Rattle.oshi_zumo.specs.Laws.{oshi_zumo_is_game, oshi_zumo_numbered};
+ghost use Rattle.oshi_zumo.specs.Position.{first_fault, most_coins, setting_of, IsPosition, IsSettingOf};
+ghost use Rattle.oshi_zumo.specs.Rules.{bids_from, coin_bits, coins_of, from_end, is_off, is_bout_over, oshi_zumo_game, oshi_zumo_numbering, push_of, KeepsRules};
+ghost use Rattle.sim_game.specs.declared.Limits.TheVariants.{Wide};
 
 mod refusals;
 
 pub use refusals::position_has_one_game;
-use sim_game::{CHANCE, Game, Side};
+use sim_game::{CHANCE, Game, Limits, Side};
 use state_key::{Key, put};
 use thiserror::Error;
 
@@ -33,7 +34,7 @@ pub struct Setting {
     pub place: i8,
 }
 
-/// A position of the game.
+/// A position of the game, within the wide limits.
 #[derive(Clone, Copy, PartialEq, Eq, Debug)]
 pub struct OshiZumo {
     pub setting: Setting,
@@ -45,30 +46,50 @@ pub struct OshiZumo {
 pub enum OshiError {
     #[error("the size is above 8")]
     SizeRange,
-    #[error("a side has more than 31 coins")]
+    #[error("a side has too many coins")]
     CoinRange,
-    #[error("the least bid is not 1 to 31")]
+    #[error("the least bid is 0 or too high")]
     LeastRange,
     #[error("the place is off the board")]
     PlaceRange,
 }
 
+/// The most coins that a side may have, and the highest least bid.
+fn most_coins(limits: Limits) -> u8
+    ensures is { result ≡ most_coins limits }
+    ensures small { result ≤ most_coins Wide }
+{
+    match limits {
+        Limits::Narrow => 31,
+        Limits::Wide => 63,
+    }
+}
+
 impl OshiZumo {
     /// The position with these numbers. An error names the first rule that is broken: the size is at most 8; each
-    /// side has at most 31 coins; the least bid is 1 to 31; the place is -size to size.
-    pub fn new(size: u8, one: u8, two: u8, least: u8, place: i8) -> Result<OshiZumo, OshiError>
+    /// side has at most 31 coins, 63 where the limits are wide; the least bid is 1 to as many; the place is -size to
+    /// size.
+    pub fn new(
+        limits: Limits,
+        size: u8,
+        one: u8,
+        two: u8,
+        least: u8,
+        place: i8,
+    ) -> Result<OshiZumo, OshiError>
         ensures { let g = setting_of size one two least place in
             MatchResult result
-            (λ game. (first_fault g ≡ None) × IsSettingOf size one two least place game.setting)
-            (λ fault. first_fault g ≡ Some fault) }
+            (λ game. (first_fault limits g ≡ None) × IsSettingOf size one two least place game.setting)
+            (λ fault. first_fault limits g ≡ Some fault) }
     {
+        let most = most_coins(limits);
         if size > 8 {
             return Err(OshiError::SizeRange);
         }
-        if one > 31 || two > 31 {
+        if one > most || two > most {
             return Err(OshiError::CoinRange);
         }
-        if least == 0 || least > 31 {
+        if least == 0 || least > most {
             return Err(OshiError::LeastRange);
         }
         if place.unsigned_abs() > size {
@@ -100,6 +121,29 @@ impl Setting {
         ensures { result ≡ is_bout_over self s }
     {
         self.is_off(s) || (s.one < self.least && s.two < self.least)
+    }
+
+    /// How far the wrestler is from the place behind Two's end of the board.
+    #[inline]
+    fn from_end(self, s: State) -> u64
+        requires size { self.size ≤ 8 }
+        requires near { unsigned_abs s.place ≤ self.size + 1 }
+        ensures { result ≡ from_end self s }
+    {
+        (s.place + self.size as i8 + 1) as u64
+    }
+
+    /// How many bits of a key a side's coins take.
+    #[inline]
+    fn coin_bits(self) -> u32
+        ensures is { result ≡ coin_bits self }
+        ensures small { result ≤ 6 }
+    {
+        if self.one > 31 || self.two > 31 || self.least > 31 {
+            6
+        } else {
+            5
+        }
     }
 
     /// How many bids a side with these coins has.
@@ -160,6 +204,8 @@ impl Game for OshiZumo {
 
     ghost model = { λ game. oshi_zumo_game game.setting };
 
+    ghost numbering = { λ game. oshi_zumo_numbering game.setting };
+
     fn root(&self) -> State {
         State {
             place: self.setting.place,
@@ -219,12 +265,21 @@ impl Game for OshiZumo {
 
     #[inline]
     fn key(&self, s: State) -> u64 {
+        let bits = self.setting.coin_bits();
         let place = put(Key(0), (s.place + 16) as u64, 5);
-        put(put(place, s.one as u64, 5), s.two as u64, 5).0
+        put(put(place, s.one as u64, bits), s.two as u64, bits).0
     }
 
+    /// The places of the wrestler, one behind each end of the board included, with the coins of each side.
     fn most_states(&self) -> u64 {
-        1 << 15
+        let places = 2 * self.setting.size as u64 + 3;
+        (self.setting.two as u64 + 1) * ((self.setting.one as u64 + 1) * places)
+    }
+
+    #[inline]
+    fn place(&self, s: State) -> u64 {
+        let front = self.setting.from_end(s) * (self.setting.one as u64 + 1) + s.one as u64;
+        front * (self.setting.two as u64 + 1) + s.two as u64
     }
 
     #[inline]
@@ -268,6 +323,8 @@ impl Game for OshiZumo {
     }
 
     ghost lawful = { λ game. oshi_zumo_is_game game.setting game.valid };
+
+    ghost numbered = { λ game. oshi_zumo_numbered game.setting game.valid };
 }
 
 /// Every call answers by the rules on the place and the coins.

@@ -1,12 +1,13 @@
 -- The games, one by one: the position that an object gives, the first rule that it breaks, what is told of it, and the
 -- model of its game.
-use Rattle.std.specs.Prelude.{◌≡◌, ⊤, ℕ, ℤ, Bool, true, false, if◌then◌else◌, List, [], ◌++◌, codes, Option, option_map, Result, Ok}
+use Rattle.std.specs.Prelude.{◌≡◌, ⊤, ℕ, ◌+◌, ◌-◌, ◌*◌, ◌≤◌, max, nat_lt, ℤ, Bool, true, false, ◌&&◌, if◌then◌else◌, List, [], ◌++◌, length, codes, Option, Some, None, option_map, Result, Ok}
 use Rattle.serde_json.specs.Data.{Data}
 use Rattle.sim_game.specs.Model.{GameModel}
 use Rattle.goofspiel.specs.declared.Goofspiel.{Goofspiel as GoofspielGame}
 use Rattle.goofspiel.specs.declared.State.{State as GoofspielState}
 use Rattle.goofspiel.specs.Position as goofspiel
 use Rattle.goofspiel.specs.Refusals as goofspiel_refusals
+use Rattle.goofspiel.specs.Cards.{rising}
 use Rattle.goofspiel.specs.Rules.{goofspiel_game}
 use Rattle.goofspiel.specs.declared.drawn.GoofspielDrawn.{GoofspielDrawn as DrawnGame}
 use Rattle.goofspiel.specs.declared.drawn.DrawnState.{DrawnState}
@@ -25,21 +26,24 @@ use Rattle.pursuit.specs.declared.Pursuit.{Pursuit as PursuitGame}
 use Rattle.pursuit.specs.declared.State.{State as PursuitState}
 use Rattle.pursuit.specs.Position as pursuit
 use Rattle.pursuit.specs.Refusals as pursuit_refusals
-use Rattle.pursuit.specs.Rules.{pursuit_game}
+use Rattle.pursuit.specs.Rules.{graph_of_edges, pursuit_game, width_of}
 use Rattle.table.specs.declared.Table.{Table as TableGame}
 use Rattle.table.specs.declared.State.{State as TableState}
 use Rattle.table.specs.Faults as table
-use Rattle.table.specs.Lists.{lists_from}
+use Rattle.table.specs.Lists.{lists_from, table_width}
 use Rattle.table.specs.Refusals as table_refusals
 use Rattle.table.specs.Rules.{table_game}
 use Rattle.table.specs.Setting.{lists_of, IsSettingOf}
-use Rattle.fields.specs.declared.positions.Limits.TheVariants.{Wide}
+use Rattle.sim_game.specs.declared.Limits.{Limits}
+use Rattle.sim_game.specs.declared.Limits.TheVariants.{Narrow, Wide}
 use Rattle.fields.specs.declared.positions.GameKind.{GameKind}
 use Rattle.fields.specs.declared.positions.GameKind.TheVariants as kinds
+use Rattle.fields.specs.declared.positions.TheConstants.{NARROW_MOVES}
 use Rattle.fields.specs.declared.positions.PositionText.{PositionText}
 use Rattle.fields.specs.declared.positions.PositionText.TheVariants as texts
 use Rattle.fields.specs.Fields.{name_of}
 use Rattle.fields.specs.Positions.{fields_of, position_with}
+use Rattle.position.specs.declared.games.TheConstants.{LEAST_WIDE_WEIGHT}
 use Rattle.position.specs.declared.games.InputError.{InputError}
 use Rattle.position.specs.declared.games.InputError.TheVariants as errors
 use Rattle.position.specs.declared.games.AnyGame.{AnyGame}
@@ -52,8 +56,8 @@ abbrev pub is_table : GameKind → Bool
 is_table kinds.Table = true
 is_table game = false
 
-unfoldable pub position_text_in : GameKind → Data → Result PositionText InputError
-position_text_in game d = if is_table game then states_at d else do
+unfoldable pub position_text_in : Limits → GameKind → Data → Result PositionText InputError
+position_text_in limits game d = if is_table game then states_at limits d else do
   vs ← values_at (fields_of Wide game) d
   Ok (position_with game vs)
 
@@ -73,6 +77,7 @@ code_of (errors.Tron e) = tron_refusals.number_of e
 code_of (errors.Pursuit e) = pursuit_refusals.number_of e
 code_of (errors.Table e) = table_refusals.number_of e
 code_of errors.TooLong = 50
+code_of errors.Weight = 91
 code_of errors.NoMemory = 0
 
 abbrev pub words_of : InputError → List ℕ
@@ -89,17 +94,38 @@ words_of (errors.Tron e) = tron_refusals.words_of e
 words_of (errors.Pursuit e) = pursuit_refusals.words_of e
 words_of (errors.Table e) = table_refusals.words_of e
 words_of errors.TooLong = codes "too long"
+words_of errors.Weight = codes "weight"
 words_of errors.NoMemory = []
 
 -- ---- the game of a position
--- the first rule of the game that the position breaks
-abbrev pub fault_of : PositionText → Option InputError
-fault_of (texts.Goofspiel one two prizes score pay) = option_map errors.Goofspiel (goofspiel.first_fault one two prizes score)
-fault_of (texts.OshiZumo size one two least place) = option_map errors.OshiZumo (oshi_zumo.first_fault (oshi_zumo.setting_of size one two least place))
-fault_of (texts.Tron height width walls one two) = option_map errors.Tron (tron.first_fault height width walls one two)
-fault_of (texts.GoofspielDrawn one two prizes score pay) = option_map errors.Goofspiel (goofspiel.first_fault one two prizes score)
-fault_of (texts.Pursuit nodes edges one two rounds) = option_map errors.Pursuit (pursuit.first_fault nodes edges one two rounds)
-fault_of (texts.Table ranks moves values cells draws rewards) = option_map errors.Table (table.first_fault (lists_from ranks moves values cells draws rewards))
+-- the first rule of the game that the position breaks, within the limits
+abbrev pub fault_of : Limits → PositionText → Option InputError
+fault_of limits (texts.Goofspiel one two prizes score pay) = option_map errors.Goofspiel (goofspiel.first_fault one two prizes score)
+fault_of limits (texts.OshiZumo size one two least place) = option_map errors.OshiZumo (oshi_zumo.first_fault limits (oshi_zumo.setting_of size one two least place))
+fault_of limits (texts.Tron height width walls one two) = option_map errors.Tron (tron.first_fault height width walls one two)
+fault_of limits (texts.GoofspielDrawn one two prizes score pay) = option_map errors.Goofspiel (goofspiel.first_fault one two prizes score)
+fault_of limits (texts.Pursuit nodes edges one two rounds) = option_map errors.Pursuit (pursuit.first_fault limits nodes edges one two rounds)
+fault_of limits (texts.Table ranks moves values cells draws rewards) = option_map errors.Table (table.first_fault limits (lists_from ranks moves values cells draws rewards))
+
+-- ---- its width
+-- the most moves of a side, as the model of the position's game has it
+abbrev pub text_width : PositionText → ℕ
+text_width (texts.Goofspiel one two prizes score pay) = max 1 (length (rising one))
+text_width (texts.OshiZumo size one two least place) = max 1 (max (one + 1 - least) (two + 1 - least))
+text_width (texts.Tron height width walls one two) = 4
+text_width (texts.GoofspielDrawn one two prizes score pay) = max 1 (length (rising one))
+text_width (texts.Pursuit nodes edges one two rounds) = width_of (graph_of_edges nodes edges)
+text_width (texts.Table ranks moves values cells draws rewards) = table_width (lists_from ranks moves values cells draws rewards)
+
+-- The weight is too small for a game that is wider than the narrow limits allow: the rounds that linear stages fall back
+-- on hold their law where it is at least 8 times the square of the width.
+abbrev pub weight_fault : Limits → ℕ → ℕ → Option InputError
+weight_fault Narrow width weight = None
+weight_fault Wide width weight = if nat_lt NARROW_MOVES width && nat_lt weight LEAST_WIDE_WEIGHT then Some errors.Weight else None
+
+-- weights of this total are fine enough for the game of the position
+abbrev pub IsFineTotal : PositionText → ℕ → Type 0
+IsFineTotal text weight = 8 * (text_width text * text_width text) ≤ weight
 
 -- these are the totals of the position's states, where the game keeps some beside the text
 abbrev pub HasTotalsOf : PositionText → List ℤ → Type 0
@@ -133,6 +159,19 @@ model_of (Tron g) = tron_game g.setting
 model_of (GoofspielDrawn g) = drawn_game g.setting
 model_of (Pursuit g) = pursuit_game g.setting
 model_of (Table g) = table_game (lists_of g.setting)
+
+-- its width
+abbrev pub any_width : AnyGame → ℕ
+any_width (Goofspiel g) = (goofspiel_game g.setting).width
+any_width (OshiZumo g) = (oshi_zumo_game g.setting).width
+any_width (Tron g) = (tron_game g.setting).width
+any_width (GoofspielDrawn g) = (drawn_game g.setting).width
+any_width (Pursuit g) = (pursuit_game g.setting).width
+any_width (Table g) = (table_game (lists_of g.setting)).width
+
+-- weights of this total are fine enough for stages of the game
+abbrev pub IsFineFor : AnyGame → ℕ → Type 0
+IsFineFor any weight = 8 * (any_width any * any_width any) ≤ weight
 
 -- the property holds of a game that this is
 abbrev pub OfSame : AnyGame → ((S : Type 0) → GameModel S → Type 0) → Type 0

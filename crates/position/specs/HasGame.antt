@@ -1,22 +1,22 @@
 -- The positions that have a game.
-use Rattle.std.specs.Prelude.{◌≡◌, ℤ, List, [], ◌∷◌, false, is_some}
+use Rattle.std.specs.Prelude.{◌≡◌, ℕ, ℤ, List, [], ◌∷◌, false, is_some}
 use Rattle.std.proofs.Props.{props}
 use Rattle.fields.specs.declared.field.FieldKind.{FieldKind}
 use Rattle.fields.specs.declared.field.FieldKind.TheVariants as holds
 use Rattle.fields.specs.declared.field.Value.{Value}
 use Rattle.fields.specs.declared.field.Value.TheVariants as values
-use Rattle.fields.specs.declared.positions.Limits.TheVariants.{Wide}
+use Rattle.sim_game.specs.declared.Limits.TheVariants.{Wide}
 use Rattle.fields.specs.declared.positions.PositionText.{PositionText}
 use Rattle.fields.specs.declared.positions.PositionText.TheVariants as texts
 use Rattle.fields.specs.Fields.{Fits, AllFit}
 use Rattle.fields.specs.Positions.{kind_of, kinds_of, values_of}
 use Rattle.fields.specs.Ranges.{IsPositionInRange}
-use Rattle.position.specs.Games.{fault_of, HasTotalsOf}
+use Rattle.position.specs.Games.{fault_of, HasTotalsOf, IsFineTotal}
 
--- the position has a line and breaks no rule, so that a game is built of it
+-- the position has a line and breaks no rule within the wide limits, so that a game is built of it
 pub record HasGame (text : PositionText) : Type 0 where
   pub in_range : IsPositionInRange text
-  pub builds : is_some (fault_of text) ≡ false
+  pub builds : is_some (fault_of Wide text) ≡ false
 
 -- ---- one proof of each
 Fits-prop : (kind : FieldKind) (v : Value) → IsProp (Fits kind v)
@@ -39,3 +39,6 @@ HasGame-prop text = hlevel (props, AllFit-prop (kinds_of Wide (kind_of text)) (v
 pub HasTotalsOf-prop : (text : PositionText) (totals : List ℤ) → IsProp (HasTotalsOf text totals)
 HasTotalsOf-prop (texts.Table ranks moves values cells draws rewards) totals = hlevel props
 HasTotalsOf-prop text totals = hlevel props
+
+pub IsFineTotal-prop : (text : PositionText) (weight : ℕ) → IsProp (IsFineTotal text weight)
+IsFineTotal-prop text weight = hlevel props

@@ -13,10 +13,12 @@ use Rattle.fields.specs.declared.field.Absent.{Absent}
 use Rattle.fields.specs.declared.field.Absent.TheVariants.{Refused, Number, Word}
 use Rattle.fields.specs.declared.field.Value.{Value}
 use Rattle.fields.specs.declared.field.Value.TheVariants as values
-use Rattle.fields.specs.declared.positions.Limits.TheVariants.{Wide}
+use Rattle.fields.specs.declared.field.Word.TheVariants as words
+use Rattle.sim_game.specs.declared.Limits.{Limits}
+use Rattle.sim_game.specs.declared.Limits.TheVariants.{Narrow, Wide}
 use Rattle.fields.specs.declared.positions.GameKind.{GameKind}
 use Rattle.fields.specs.declared.ask.TheConstants.{ASK}
-use Rattle.fields.specs.Fields.{name_of, word_in, FieldRow, AskRow, Fits}
+use Rattle.fields.specs.Fields.{name_of, spelling, word_in, FieldRow, AskRow, Fits}
 use Rattle.fields.specs.Positions.{fields_of}
 use Rattle.table_text.specs.Elements.{list_of, whole_in, is_whole}
 use Rattle.position.specs.declared.games.InputError.{InputError}
@@ -61,6 +63,19 @@ unfoldable pub text_at : Field → Data → Result (List ℕ) InputError
 text_at field d = do
   v ← member_at field d
   or_refuse (as_str v) (errors.Kind field)
+
+-- the text is there, and is this word
+abbrev pub is_word : List ℕ → Option (List ℕ) → Bool
+is_word word None = false
+is_word word (Some text) = bytes_eq text word
+
+-- the field is there, and is this word
+unfoldable pub holds_word : Field → List ℕ → Data → Bool
+holds_word field word d = is_word word (option_and_then as_str (get (name_of field) d))
+
+-- the limits of a position: wide where its stages are linear
+unfoldable pub limits_at : Data → Limits
+limits_at d = if holds_word fields.Stages (spelling words.Linear) d then Wide else Narrow
 
 -- ---- lists
 

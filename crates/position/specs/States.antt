@@ -1,6 +1,7 @@
 -- The position that the states of a table make, or the refusal of the field that tells them.
 use Rattle.std.specs.Prelude.{Result, Ok, Err}
 use Rattle.serde_json.specs.Data.{Data}
+use Rattle.sim_game.specs.declared.Limits.{Limits}
 use Rattle.fields.specs.declared.field.Field.TheVariants as fields
 use Rattle.fields.specs.declared.positions.PositionText.{PositionText}
 use Rattle.table_text.specs.declared.fault.StatesFault.{StatesFault}
@@ -19,7 +20,8 @@ abbrev pub refused : {A : Type 0} → Result A StatesFault → Result A InputErr
 refused (Ok x) = Ok x
 refused (Err fault) = Err (refusal_of fault)
 
-unfoldable pub states_at : Data → Result PositionText InputError
-states_at d = do
+-- within the limits
+unfoldable pub states_at : Limits → Data → Result PositionText InputError
+states_at limits d = do
   v ← member_at fields.States d
-  refused (table_text_in v)
+  refused (table_text_in limits v)

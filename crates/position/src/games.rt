@@ -1,28 +1,31 @@
 //! The games, one by one: what is built of their positions, and why bytes are no position.
 
-ghost use Rattle.std.specs.Prelude.{◌≡◌, ◌++◌, Some, None, IfOk, OnOk, MatchResult};
+ghost use Rattle.std.specs.Prelude.{◌≡◌, ◌↔◌, ◌≤◌, ℕ, ◌++◌, true, Some, None, IfOk, OnOk, MatchResult};
 ghost use Rattle.serde_json.specs.View.{view};
 ghost use Rattle.sim_game.specs.Model.{GameModel};
 ghost use Rattle.text.specs.Texts.{Adds};
 ghost use Rattle.fields.specs.Fields.{name_of};
 ghost use Rattle.fields.specs.declared.positions.PositionText.{PositionText};
+ghost use Rattle.sim_game.specs.declared.Limits.TheVariants.{Narrow, Wide};
+ghost use Rattle.fields.specs.declared.positions.TheConstants.{NARROW_MOVES};
+ghost use Rattle.fields.specs.Positions.{is_small};
 ghost use Rattle.fields.specs.Ranges.{IsPositionInRange};
 ghost use Rattle.position.specs.declared.games.AnyGame.{AnyGame};
 ghost use Rattle.position.specs.Objects.{Gives};
-ghost use Rattle.position.specs.Games.{code_of, words_of, is_table, position_text_in, fault_of, HasTotalsOf, IsGameOf, model_of, OfSame, IsSameGame};
+ghost use Rattle.position.specs.Games.{code_of, words_of, is_table, position_text_in, fault_of, text_width, weight_fault, HasTotalsOf, IsGameOf, any_width, model_of, OfSame, IsSameGame};
 ghost use Rattle.position.specs.HasGame.{HasGame};
 
 use crate::object::values;
 use crate::states::states_in;
-use fields::{Field, GameKind, Limits, PositionText};
+use fields::{Field, GameKind, NARROW_MOVES, PositionText};
 use goofspiel::{Goofspiel, GoofspielDrawn, GoofspielError};
 use oshi_zumo::{OshiError, OshiZumo};
 use pursuit::{Pursuit, PursuitError};
 use seq::Seq;
 use serde_json::Value;
-use sim_game::{Game, NoMemory};
+use sim_game::{Game, Limits, NoMemory};
 use std::alloc::Global;
-use table::{Table, TableError};
+use table::{Setting, Table, TableError};
 use text::Text;
 use thiserror::Error;
 use tron::{Tron, TronError};
@@ -76,13 +79,16 @@ pub enum InputError {
     /// There are more bytes than a position may have.
     #[error("too long")]
     TooLong,
+    /// The weight is below 32768, and the game is wider than 32 moves.
+    #[error("weight")]
+    Weight,
     #[error("out of memory")]
     NoMemory,
 }
 
 impl InputError {
-    /// The number of the refusal: 10 to 16 and 50 for bytes, the game's own number for a rule of the game, and 0 where
-    /// there was no memory.
+    /// The number of the refusal: 10 to 16 and 50 for bytes, the game's own number for a rule of the game, 91 for the
+    /// weight, and 0 where there was no memory.
     pub fn code(&self) -> u32
         ensures { result ≡ code_of self.now }
     {
@@ -100,6 +106,7 @@ impl InputError {
             InputError::Pursuit(error) => error.number(),
             InputError::Table(error) => error.number(),
             InputError::TooLong => 50,
+            InputError::Weight => 91,
             InputError::NoMemory => 0,
         }
     }
@@ -122,6 +129,7 @@ impl InputError {
             InputError::Pursuit(error) => error.tell(text),
             InputError::Table(error) => error.tell(text),
             InputError::TooLong => text.word(b"too long"),
+            InputError::Weight => text.word(b"weight"),
             InputError::NoMemory => text.word(b""),
         }
     }
@@ -138,8 +146,8 @@ fn tell_field(text: &mut Text, words: &[u8], field: Field) -> Result<(), NoMemor
 pub trait GameVisitor {
     type Answer;
 
-    /// Which visitors may be handed a game.
-    ghost can_visit: { Self → Type 0 };
+    /// Which visitors may be handed a game of the width.
+    ghost can_visit: { Self → ℕ → Type 0 };
 
     /// What the answer says of the game.
     ghost says: { Self → (S : Type 0) → GameModel S → Self.Answer → Type 0 };
@@ -147,7 +155,7 @@ pub trait GameVisitor {
     fn visit<G: Game + Send + Sync>(self, game: G) -> Self::Answer
     where
         G::State: Send + Sync,
-        requires { can_visit self }
+        requires { can_visit self (G.model game).width }
         ensures { says self _ (G.model game) result };
 }
 
@@ -166,17 +174,27 @@ macro_rules! with_game {
     };
 }
 
+/// The least weight for games that are wider than the narrow limits allow.
+pub const LEAST_WIDE_WEIGHT: u32 = 32_768;
+
 impl<'a> AnyGame<'a> {
     /// Hands the game to the visitor.
     pub fn accept<V: GameVisitor>(self, visitor: V) -> V::Answer
-        requires { V.can_visit visitor }
+        requires { V.can_visit visitor (any_width self) }
         ensures { V.says visitor _ (model_of self.entry) result }
     {
         self.hand_to(visitor)
     }
 
+    /// An upper limit on the moves of a side.
+    fn width(self) -> u32
+        ensures { result ≡ any_width self.entry }
+    {
+        with_game!(self, game => game.width())
+    }
+
     fn hand_to<V: GameVisitor>(self, visitor: V) -> V::Answer
-        requires { V.can_visit visitor }
+        requires { V.can_visit visitor (any_width self) }
         ensures { OfSame self.entry (λ S m. V.says visitor S m result) }
     {
         with_game!(self, game => visitor.visit(game))
@@ -212,14 +230,18 @@ pub fn totals(alloc: Global, text: &PositionText) -> Result<Seq<i32>, NoMemory>
     }
 }
 
-/// The game of the position, or the first of its rules that the position breaks. Takes no memory: the game borrows the
-/// text and its totals.
-pub fn build<'a>(text: &'a PositionText, totals: &'a Seq<i32>) -> Result<AnyGame<'a>, InputError>
+/// The game of the position, or the first of its rules that the position breaks within the limits. Takes no memory: the
+/// game borrows the text and its totals.
+pub fn build<'a>(
+    limits: Limits,
+    text: &'a PositionText,
+    totals: &'a Seq<i32>,
+) -> Result<AnyGame<'a>, InputError>
     requires text { IsPositionInRange text.now }
     requires totals { HasTotalsOf text.now totals.now }
     ensures { MatchResult result
-        (λ game. (fault_of text.now ≡ None) × IsGameOf text.now game)
-        (λ fault. fault_of text.now ≡ Some fault) }
+        (λ game. (fault_of limits text.now ≡ None) × IsGameOf text.now game)
+        (λ fault. fault_of limits text.now ≡ Some fault) }
 {
     match text {
         PositionText::Goofspiel {
@@ -244,7 +266,7 @@ pub fn build<'a>(text: &'a PositionText, totals: &'a Seq<i32>) -> Result<AnyGame
             two,
             least,
             place,
-        } => match OshiZumo::new(*size, *one, *two, *least, *place) {
+        } => match OshiZumo::new(limits, *size, *one, *two, *least, *place) {
             Ok(game) => Ok(AnyGame::OshiZumo(game)),
             Err(fault) => Err(InputError::OshiZumo(fault)),
         },
@@ -280,7 +302,7 @@ pub fn build<'a>(text: &'a PositionText, totals: &'a Seq<i32>) -> Result<AnyGame
             one,
             two,
             rounds,
-        } => match Pursuit::new(*nodes, edges.as_slice(), *one, *two, *rounds) {
+        } => match Pursuit::new(limits, *nodes, edges.as_slice(), *one, *two, *rounds) {
             Ok(game) => Ok(AnyGame::Pursuit(game)),
             Err(fault) => Err(InputError::Pursuit(fault)),
         },
@@ -291,28 +313,30 @@ pub fn build<'a>(text: &'a PositionText, totals: &'a Seq<i32>) -> Result<AnyGame
             cells,
             draws,
             rewards,
-        } => match Table::new(
-            ranks.as_slice(),
-            moves.as_slice(),
-            values.as_slice(),
-            cells.as_slice(),
-            draws.as_slice(),
-            rewards.as_slice(),
-            totals.as_slice(),
-        ) {
-            Ok(game) => Ok(AnyGame::Table(game)),
-            Err(fault) => Err(InputError::Table(fault)),
-        },
+        } => {
+            let setting = Setting {
+                ranks: ranks.as_slice(),
+                moves: moves.as_slice(),
+                values: values.as_slice(),
+                cells: cells.as_slice(),
+                draws: draws.as_slice(),
+                rewards: rewards.as_slice(),
+            };
+            match Table::new(limits, setting, totals.as_slice()) {
+                Ok(game) => Ok(AnyGame::Table(game)),
+                Err(fault) => Err(InputError::Table(fault)),
+            }
+        }
     }
 }
 
-/// The game of a position that breaks no rule of it.
+/// The game of a position that breaks no rule of it within the wide limits.
 pub fn game_of<'a>(text: &'a PositionText, totals: &'a Seq<i32>) -> AnyGame<'a>
     requires text { HasGame text.now }
     requires totals { HasTotalsOf text.now totals.now }
     ensures { IsGameOf text.now result }
 {
-    match build(text, totals) {
+    match build(Limits::Wide, text, totals) {
         Ok(game) => game,
         Err(_) => unreachable!(),
     }
@@ -325,24 +349,57 @@ pub fn position_has_one_game()
         → IsSameGame g h }
 {}
 
+/// The width of the game of the position.
+pub(crate) fn text_width(_text: &PositionText, game: AnyGame) -> u32
+    requires { IsGameOf _text.now game }
+    ensures { result ≡ text_width _text.now }
+{
+    game.width()
+}
+
+/// Refuses a weight that is too small for the width within the limits.
+pub(crate) fn weigh(limits: Limits, width: u32, weight: u32) -> Result<(), InputError>
+    ensures { MatchResult result
+        (λ _. weight_fault limits width weight ≡ None)
+        (λ fault. weight_fault limits width weight ≡ Some fault) }
+{
+    match limits {
+        Limits::Wide if width > NARROW_MOVES as u32 && weight < LEAST_WIDE_WEIGHT => Err(
+            InputError::Weight,
+        ),
+        _ => Ok(()),
+    }
+}
+
+/// The narrow rules accept just those positions that the wide ones accept and that are small. No game of such a position
+/// is wider than 32 moves.
+pub fn narrow_rules_ask_more()
+    ensures wider { (text : PositionText) → fault_of Narrow text ≡ None → fault_of Wide text ≡ None }
+    ensures exact { (text : PositionText) → IsPositionInRange text → fault_of Wide text ≡ None
+        → ((fault_of Narrow text ≡ None) ↔ (is_small text ≡ true)) }
+    ensures width { (text : PositionText) (g : AnyGame) → IsGameOf text g → fault_of Narrow text ≡ None
+        → any_width g ≤ NARROW_MOVES }
+{}
+
 fn is_table(game: GameKind) -> bool
     ensures { result ≡ is_table game }
 {
     matches!(game, GameKind::Table)
 }
 
-/// The position of the game, where each of its fields is in range.
+/// The position of the game, where each of its fields is in range within the limits.
 #[tactic(auto, unfolding(crate::specs::Games::position_text_in))]
 pub(crate) fn position_text(
     alloc: Global,
+    limits: Limits,
     game: GameKind,
     object: &Value,
 ) -> Result<PositionText, InputError>
-    ensures exact { Gives (λ t. t) result (position_text_in game (view object.now)) }
+    ensures exact { Gives (λ t. t) result (position_text_in limits game (view object.now)) }
     ensures in_range { IfOk result IsPositionInRange }
 {
     if is_table(game) {
-        return states_in(alloc, object);
+        return states_in(alloc, limits, object);
     }
     let values = values(alloc, game.fields(Limits::Wide), object)?;
     Ok(PositionText::with_values(game, values))

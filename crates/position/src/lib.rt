@@ -13,6 +13,9 @@ pub use devices::{
     StdSource, read_all, write_all,
 };
 pub use fields::Field;
-pub use games::{AnyGame, GameVisitor, InputError, build, game_of, position_has_one_game, totals};
-pub use reading::position;
+pub use games::{
+    AnyGame, GameVisitor, InputError, LEAST_WIDE_WEIGHT, build, game_of, narrow_rules_ask_more,
+    position_has_one_game, totals,
+};
+pub use reading::{MOST_BYTES, MOST_TABLE_BYTES, position};
 pub use task::Task;

@@ -4,21 +4,23 @@ ghost use Rattle.std.specs.Prelude.{◌≡◌, ◌≤ℤ◌, ◌&&◌, length, n
 ghost use Rattle.std.specs.List.{list_all, list_any, filter_map};
 ghost use Rattle.std.specs.BTreeMap.{keys};
 ghost use Rattle.serde_json.specs.View.{view, items_view, members_view};
-ghost use Rattle.fields.specs.declared.ask.TheConstants.{ASK};
-ghost use Rattle.fields.specs.Asks.{asked_kinds};
+ghost use Rattle.sim_game.specs.declared.Limits.TheVariants.{Narrow, Wide};
+ghost use Rattle.fields.specs.declared.ask.TheConstants.{ASK, NARROW_ASK};
+ghost use Rattle.fields.specs.Asks.{ask_fields, asked_kinds};
 ghost use Rattle.fields.specs.Fields.{name_of, Fits, AllFit};
 ghost use Rattle.fields.specs.Positions.{kinds_in};
 ghost use Rattle.fields.specs.Ranges.{IsByteList};
-ghost use Rattle.position.specs.Objects.{Gives, member_at, whole_at, between, text_at, json_of, byte_in, is_byte, bytes_in, bytes_at, is_known, known_at, items_at, members_at, value_at, values_at, IsDefaultOf, asked_at, all_asked_at};
+ghost use Rattle.position.specs.Objects.{Gives, member_at, whole_at, between, text_at, json_of, byte_in, is_byte, bytes_in, bytes_at, is_known, known_at, items_at, members_at, value_at, values_at, IsDefaultOf, asked_at, all_asked_at, holds_word, limits_at};
 ghost use Rattle.table_text.specs.Elements.{is_whole};
 
 use crate::{Field, InputError};
 use fields::{
-    ASK, ASKED, Absent, AskRow, FieldKind, FieldRow, GameKind, Limits, Value as FieldValue,
-    each_asked,
+    ASK, ASKED, Absent, AskRow, FieldKind, FieldRow, GameKind, NARROW_ASK, Value as FieldValue,
+    Word, each_asked,
 };
 use seq::Seq;
 use serde_json::{Category, Map, Value};
+use sim_game::Limits;
 use std::alloc::{AllocError, Global};
 
 #[tactic(auto, using(crate::proofs::JsonLemmas::json_ok, crate::proofs::JsonLemmas::json_err))]
@@ -71,6 +73,29 @@ pub(crate) fn text(field: Field, object: &Value) -> Result<&str, InputError>
 {
     let value = member(field, object)?;
     value.as_str().ok_or(InputError::Kind { field })
+}
+
+/// Whether the field is there, and is this word.
+#[tactic(auto, unfolding(crate::specs::Objects::holds_word))]
+pub(crate) fn holds_word(field: Field, word: &[u8], object: &Value) -> bool
+    ensures { result ≡ holds_word field word.now (view object.now) }
+{
+    match object.get(field.name()).and_then(Value::as_str) {
+        Some(text) => text.as_bytes() == word,
+        None => false,
+    }
+}
+
+/// The limits of a position: wide where its stages are linear.
+#[tactic(auto, unfolding(crate::specs::Objects::limits_at))]
+pub(crate) fn limits_in(object: &Value) -> Limits
+    ensures { result ≡ limits_at (view object.now) }
+{
+    if holds_word(Field::Stages, Word::Linear.text(), object) {
+        Limits::Wide
+    } else {
+        Limits::Narrow
+    }
 }
 
 fn byte(value: &Value) -> Option<u8>
@@ -261,11 +286,38 @@ fn asked(alloc: Global, row: AskRow, object: &Value) -> Result<FieldValue, Input
     }
 }
 
-/// The values of the fields of what is asked.
+/// The values of the fields of what is asked, within the wide limits.
 #[tactic(auto, unfolding(crate::specs::Objects::all_asked_at))]
-pub(crate) fn all_asked(alloc: Global, object: &Value) -> Result<[FieldValue; ASKED], InputError>
+fn all_asked_wide(alloc: Global, object: &Value) -> Result<[FieldValue; ASKED], InputError>
     ensures exact { Gives (λ vs. vs) result (all_asked_at ASK (view object.now)) }
-    ensures fits { IfOk result (AllFit asked_kinds) }
+    ensures fits { IfOk result (AllFit (asked_kinds Wide)) }
 {
-    Ok(each_asked!(row => asked(alloc, row, object)?))
+    Ok(each_asked!(ASK, row => asked(alloc, row, object)?))
+}
+
+/// The same within the narrow limits.
+#[tactic(auto, unfolding(crate::specs::Objects::all_asked_at))]
+fn all_asked_narrow(alloc: Global, object: &Value) -> Result<[FieldValue; ASKED], InputError>
+    ensures exact { Gives (λ vs. vs) result (all_asked_at NARROW_ASK (view object.now)) }
+    ensures fits { IfOk result (AllFit (asked_kinds Narrow)) }
+{
+    Ok(each_asked!(NARROW_ASK, row => asked(alloc, row, object)?))
+}
+
+/// The values of the fields of what is asked, within the limits.
+pub(crate) fn all_asked(
+    alloc: Global,
+    limits: Limits,
+    object: &Value,
+) -> Result<[FieldValue; ASKED], InputError>
+    ensures exact { Gives (λ vs. vs) result (all_asked_at (ask_fields limits) (view object.now)) }
+    ensures fits { IfOk result (AllFit (asked_kinds Wide)) }
+{
+    match limits {
+        Limits::Wide => all_asked_wide(alloc, object),
+        Limits::Narrow => match all_asked_narrow(alloc, object) {
+            Ok(values) => Ok(values),
+            Err(error) => Err(error),
+        },
+    }
 }

@@ -1,11 +1,12 @@
 -- A path of three nodes with the players at its ends, and first faults, computed by hand.
 use Rattle.std.proofs.Common.{◌≡◌, true, [], ◌∷◌, pos, neg_ℤ, None, Some, refl}
+use Rattle.sim_game.specs.declared.Limits.TheVariants.{Narrow, Wide}
 use Rattle.sim_game.specs.declared.Side.TheVariants.{One, Two}
 use Rattle.plan_book.specs.Serial.{serial_bound}
 use Rattle.pursuit.specs.declared.PursuitError.TheVariants.{NodesRange, EdgeOdd, EdgeRange, EdgeLoop, PlaceRange, RoundsRange}
 use Rattle.pursuit.specs.declared.State.{State}
 use Rattle.pursuit.specs.Position.{first_fault}
-use Rattle.pursuit.specs.Rules.{Graph, after_round, first_of, game_from, graph_from, graph_of_edges, pursuit_key, pursuit_payoff, pursuit_rank, reach, ways, width_of}
+use Rattle.pursuit.specs.Rules.{Graph, after_round, first_of, game_from, graph_from, graph_of_edges, key_bits, pursuit_key, pursuit_payoff, pursuit_rank, reach, ways, width_of}
 
 abbrev path : Graph
 path = graph_of_edges 3 (0 ∷ 1 ∷ 1 ∷ 2 ∷ [])
@@ -20,17 +21,33 @@ two_rounds = first_of 0 2 2
 abbrev in_the_middle : State
 in_the_middle = after_round two_rounds 1 2
 
-key_one_round : pursuit_key one_round ≡ 1026
+key_one_round : pursuit_key 5 one_round ≡ 1026
 key_one_round = refl
 
-key_two_rounds : pursuit_key two_rounds ≡ 2050
+key_two_rounds : pursuit_key 5 two_rounds ≡ 2050
 key_two_rounds = refl
 
-key_in_the_middle : pursuit_key in_the_middle ≡ 1058
+key_in_the_middle : pursuit_key 5 in_the_middle ≡ 1058
 key_in_the_middle = refl
 
-key_caught : pursuit_key (after_round in_the_middle 2 2) ≡ 32834
+key_caught : pursuit_key 5 (after_round in_the_middle 2 2) ≡ 32834
 key_caught = refl
+
+-- beyond the narrow limits by the nodes, or by the rounds
+wide_by_nodes : key_bits 33 1 ≡ 6
+wide_by_nodes = refl
+
+wide_by_rounds : key_bits 2 32 ≡ 6
+wide_by_rounds = refl
+
+narrow_of_both : key_bits 32 31 ≡ 5
+narrow_of_both = refl
+
+key_wide : pursuit_key 6 (first_of 40 2 33) ≡ 137730
+key_wide = refl
+
+key_wide_caught : pursuit_key 6 (first_of 63 63 63) ≡ 524287
+key_wide_caught = refl
 
 width_of_path : width_of path ≡ 3
 width_of_path = refl
@@ -77,29 +94,38 @@ enough_for_two : serial_bound (game_from path two_rounds) Two two_rounds ≡ pos
 enough_for_two = refl
 
 -- first faults
-nodes_first : first_fault 0 (9 ∷ []) 9 9 32 ≡ Some NodesRange
+nodes_first : first_fault Wide 0 (9 ∷ []) 9 9 32 ≡ Some NodesRange
 nodes_first = refl
 
-too_many_nodes : first_fault 33 [] 0 0 0 ≡ Some NodesRange
+too_many_nodes : first_fault Narrow 33 [] 0 0 0 ≡ Some NodesRange
 too_many_nodes = refl
 
-odd_before_range : first_fault 3 (0 ∷ 1 ∷ 9 ∷ []) 0 2 1 ≡ Some EdgeOdd
+odd_before_range : first_fault Narrow 3 (0 ∷ 1 ∷ 9 ∷ []) 0 2 1 ≡ Some EdgeOdd
 odd_before_range = refl
 
-range_before_loop : first_fault 3 (1 ∷ 1 ∷ 0 ∷ 3 ∷ []) 9 9 32 ≡ Some (EdgeRange 3)
+range_before_loop : first_fault Narrow 3 (1 ∷ 1 ∷ 0 ∷ 3 ∷ []) 9 9 32 ≡ Some (EdgeRange 3)
 range_before_loop = refl
 
-loop_of_the_third : first_fault 3 (0 ∷ 1 ∷ 1 ∷ 2 ∷ 2 ∷ 2 ∷ 1 ∷ 1 ∷ []) 9 9 32 ≡ Some (EdgeLoop 4)
+loop_of_the_third : first_fault Narrow 3 (0 ∷ 1 ∷ 1 ∷ 2 ∷ 2 ∷ 2 ∷ 1 ∷ 1 ∷ []) 9 9 32 ≡ Some (EdgeLoop 4)
 loop_of_the_third = refl
 
-one_before_two : first_fault 3 (0 ∷ 1 ∷ []) 3 9 32 ≡ Some (PlaceRange One)
+one_before_two : first_fault Narrow 3 (0 ∷ 1 ∷ []) 3 9 32 ≡ Some (PlaceRange One)
 one_before_two = refl
 
-two_before_rounds : first_fault 3 (0 ∷ 1 ∷ []) 2 9 32 ≡ Some (PlaceRange Two)
+two_before_rounds : first_fault Narrow 3 (0 ∷ 1 ∷ []) 2 9 32 ≡ Some (PlaceRange Two)
 two_before_rounds = refl
 
-rounds_last : first_fault 3 (0 ∷ 1 ∷ []) 2 2 32 ≡ Some RoundsRange
+rounds_last : first_fault Narrow 3 (0 ∷ 1 ∷ []) 2 2 32 ≡ Some RoundsRange
 rounds_last = refl
 
-no_fault : first_fault 32 [] 31 31 31 ≡ None
+no_fault : first_fault Narrow 32 [] 31 31 31 ≡ None
 no_fault = refl
+
+too_many_wide_nodes : first_fault Wide 65 [] 0 0 0 ≡ Some NodesRange
+too_many_wide_nodes = refl
+
+too_many_wide_rounds : first_fault Wide 64 [] 63 63 64 ≡ Some RoundsRange
+too_many_wide_rounds = refl
+
+no_wide_fault : first_fault Wide 64 [] 63 63 63 ≡ None
+no_wide_fault = refl

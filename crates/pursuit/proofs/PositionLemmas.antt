@@ -13,6 +13,7 @@ use Rattle.std.proofs.lemmas.List.Sums.{fails_before_first, position_or_len_is}
 use Rattle.std.proofs.lemmas.Grind.{same_number_lists}
 use Rattle.std.specs.List.{All, list_any, position_or_len, range_with_len}
 use Rattle.pursuit.specs.declared.Setting.{Setting}
+use Rattle.pursuit.specs.declared.TheConstants.{MOST_NODES}
 use Rattle.pursuit.specs.Edges.{edge_numbers, first_node, is_joined, is_joined_in, joins, second_node}
 use Rattle.state_key.specs.Sets.{is_in, with_number}
 use Rattle.state_key.proofs.SetLemmas.{below_bits, bit_clear, in_with, same_set}
@@ -45,8 +46,8 @@ none_fails p xs i none l = elim (cases_lt (position_or_len p xs) (length xs)) [
 pub node_small : (nodes : ℕ) (edges : List ℕ) (i : ℕ) → position (λ node. leb nodes node) edges ≡ None → i < length edges → get_or edges i 0 < nodes
 node_small nodes edges i none l = leb-false nodes (get_or edges i 0) (none_fails (λ node. leb nodes node) edges i none l)
 
-pub nodes_small : (nodes : ℕ) (edges : List ℕ) → nodes ≤ 32 → position (λ node. leb nodes node) edges ≡ None → All (λ node. node < 32) edges
-nodes_small nodes edges high none = All-from_get_or (λ node. node < 32) edges 0 (λ i l. omega (arith, node_small nodes edges i none l))
+pub nodes_small : (nodes : ℕ) (edges : List ℕ) → nodes ≤ MOST_NODES → position (λ node. leb nodes node) edges ≡ None → All (λ node. node < MOST_NODES) edges
+nodes_small nodes edges high none = All-from_get_or (λ node. node < MOST_NODES) edges 0 (λ i l. omega (arith, node_small nodes edges i none l))
 
 none_joins : (edges : List ℕ) (a b : ℕ) → ((edge : ℕ) → edge < length edges / 2 → joins edges a b edge ≡ false) → is_joined edges a b ≡ false
 none_joins edges a b h =
@@ -86,7 +87,7 @@ arc_added sets from to a b h = elim (cases_eq a from) [
 
 -- so many edges are in the sets
 pub record IsGathered (edges : List ℕ) (count : ℕ) (sets : List ℕ) : Type 0 where
-  pub rows : length sets ≡ 32
+  pub rows : length sets ≡ MOST_NODES
   pub joined : (a b : ℕ) → is_joined_in sets a b ≡ list_any (joins edges a b) (take count (edge_numbers edges))
 
 none_in : (n a zero_set : ℕ) → get_or (replicate n zero_set) a zero_set ≡ zero_set
@@ -95,10 +96,10 @@ none_in n a zero_set = elim (cases_lt a n) [
   | inr past ↦ get_or-eq_default (replicate n zero_set) zero_set (omega (arith, length-replicate n zero_set))
 ]
 
-pub gathered_none : (edges : List ℕ) → IsGathered edges 0 (replicate 32 0)
-gathered_none edges = record { rows = refl; joined = λ a b. ap (λ (set : ℕ). is_in set b) (none_in 32 a 0) ∙ ap (λ (bit : ℕ). eqb bit 1) (bit_at-zero b) }
+pub gathered_none : (edges : List ℕ) → IsGathered edges 0 (replicate MOST_NODES 0)
+gathered_none edges = record { rows = refl; joined = λ a b. ap (λ (set : ℕ). is_in set b) (none_in MOST_NODES a 0) ∙ ap (λ (bit : ℕ). eqb bit 1) (bit_at-zero b) }
 
-pub gathered_more : (edges : List ℕ) (count : ℕ) (sets arcs more : List ℕ) → count < length edges / 2 → length more ≡ 32 → IsGathered edges count sets
+pub gathered_more : (edges : List ℕ) (count : ℕ) (sets arcs more : List ℕ) → count < length edges / 2 → length more ≡ MOST_NODES → IsGathered edges count sets
     → ((a b : ℕ) → is_joined_in arcs a b ≡ (is_joined_in sets a b || (eqb (first_node edges count) a && eqb (second_node edges count) b)))
     → ((a b : ℕ) → is_joined_in more a b ≡ (is_joined_in arcs a b || (eqb (second_node edges count) a && eqb (first_node edges count) b)))
     → IsGathered edges (count + 1) more

@@ -1,23 +1,26 @@
 -- The rules of pursuit and evasion make a game.
-use Rattle.std.proofs.Common.{◌≡◌, ℕ, zero, suc, ◌+◌, ◌-◌, ◌^◌, ◌<◌, ◌≤◌, max, pos, neg_ℤ, ◌≤ℤ◌, Bool, true, false, ◌||◌, cond, eqb, List, [], length, get_or, refl, ap, sym, ◌∙◌, inl, inr, arith, add-one}
-use Rattle.std.proofs.lemmas.Bool.{cases_lt, eq-eqb, eqb-false, ne_eqb}
+use Rattle.std.proofs.Common.{◌≡◌, ℕ, zero, suc, ◌+◌, ◌-◌, ◌*◌, ◌^◌, ◌<◌, ◌≤◌, max, pos, neg_ℤ, ◌≤ℤ◌, Bool, true, false, ◌||◌, cond, eqb, ltb, List, [], length, get_or, refl, ap, sym, ◌∙◌, inl, inr, arith, add-one}
+use Rattle.std.proofs.lemmas.Bool.{cases_lt, cond_both, eq-eqb, eqb-false, ltb-false, ne_eqb, or_parts}
 use Rattle.std.proofs.lemmas.Int.{ints}
 use Rattle.std.proofs.lemmas.List.FromFn.{get_or-range_with_len, length-range_with_len}
 use Rattle.std.proofs.lemmas.List.Elements.{All-filter, All-from_get_or, All-get_or}
-use Rattle.std.proofs.lemmas.Nat.{ones-le}
+use Rattle.std.proofs.lemmas.Nat.{mul-add-lt, ones-le}
 use Rattle.std.specs.Int.{bit_at}
 use Rattle.std.specs.Int.Count.{ones}
 use Rattle.std.specs.List.{All, filter, range_with_len}
 use Rattle.sim_game.specs.declared.Side.{Side}
 use Rattle.sim_game.specs.declared.Side.TheVariants.{One, Two}
+use Rattle.sim_game.specs.declared.TheConstants.{MOST_TURNS}
+use Rattle.sums.specs.declared.TheConstants.{MOST_MOVES}
 use Rattle.sim_game.specs.Model.{Turn, IsTurn, Reachable, IsGame, after_turn}
+use Rattle.sim_game.specs.Numbers.{IsNumbering, digits_apart, numbered_by_key}
 use Rattle.sim_game.proofs.ReachLemmas.{reachable_induction}
 use Rattle.pursuit.specs.declared.Setting.{Setting}
 use Rattle.pursuit.specs.declared.State.{State}
 use Rattle.state_key.specs.Sets.{is_in, with_number, members}
 use Rattle.state_key.proofs.SetLemmas.{bit_clear, filter_agrees, in_with, members_count, ones_with, with_below}
 use Rattle.pursuit.specs.Position.{IsPosition}
-use Rattle.pursuit.specs.Rules.{Graph, degree, greatest_below, width_of, reach, node_of, is_chase_over, ways, pursuit_rank, pursuit_key, graph_from, graph_of, pursuit_game}
+use Rattle.pursuit.specs.Rules.{Graph, degree, greatest_below, width_of, reach, node_of, is_chase_over, ways, pursuit_rank, key_bits, graph_from, graph_of, pursuit_game, pursuit_numbering}
 
 -- ---- sets and lists of nodes
 -- the nodes of a set that passes a test, below the number of nodes
@@ -121,6 +124,20 @@ bit_small false = omega arith
 same_state : (s t : State) → s.one ≡ t.one → s.two ≡ t.two → s.rounds ≡ t.rounds → s.caught ≡ t.caught → s ≡ t
 same_state s t p q r u = λ i. record { one = p i; two = q i; rounds = r i; caught = u i }
 
+-- ---- keys
+-- the nodes and the rounds of the position fit the fields of its keys
+fields_below : (g : Setting) → IsPosition g → (g.nodes ≤ 2 ^ key_bits g.nodes g.rounds) × (g.rounds < 2 ^ key_bits g.nodes g.rounds)
+fields_below g p = cond_both (ltb 32 g.nodes || ltb 31 g.rounds) 6 5 (λ (bits : ℕ). (g.nodes ≤ 2 ^ bits) × (g.rounds < 2 ^ bits))
+    (λ _. (omega (arith, p.nodes_high), omega (arith, p.rounds_high)))
+    (λ narrow. let both = or_parts (ltb 32 g.nodes) _ narrow in (omega (arith, ltb-false 32 g.nodes both.0), omega (arith, ltb-false 31 g.rounds both.1)))
+
+-- how many keys there are
+room_of : (nodes rounds : ℕ) → 2 ^ key_bits nodes rounds * (2 ^ key_bits nodes rounds * (2 ^ key_bits nodes rounds * 2)) ≡ 2 ^ (3 * key_bits nodes rounds + 1)
+room_of nodes rounds = cond_both (ltb 32 nodes || ltb 31 rounds) 6 5 (λ (bits : ℕ). 2 ^ bits * (2 ^ bits * (2 ^ bits * 2)) ≡ 2 ^ (3 * bits + 1)) (λ _. refl) (λ _. refl)
+
+few_keys : (nodes rounds : ℕ) → 2 ^ (3 * key_bits nodes rounds + 1) ≤ 524288
+few_keys nodes rounds = cond_both (ltb 32 nodes || ltb 31 rounds) 6 5 (λ (bits : ℕ). 2 ^ (3 * bits + 1) ≤ 524288) (λ _. omega arith) (λ _. omega arith)
+
 module _ (g : Setting) (p : IsPosition g) where
   pub node_below : (side : Side) (s : State) → IsPursuitSound g s → node_of side s < g.nodes
   node_below One s here = here.one_below
@@ -141,9 +158,9 @@ module _ (g : Setting) (p : IsPosition g) where
       let below = node_below side s here in
       omega (arith, reach_count node below, greatest_above g.nodes (degree (graph_of g)) node below)
 
-  width_high : width_of (graph_of g) ≤ 32
+  width_high : width_of (graph_of g) ≤ MOST_MOVES
   width_high =
-      let each : (node : ℕ) → node < g.nodes → degree (graph_of g) node ≤ 31 = λ node h.
+      let each : (node : ℕ) → node < g.nodes → degree (graph_of g) node ≤ 63 = λ node h.
       let most = ones-le g.nodes (with_number (get_or g.neighbours node 0) node) (set_small node h) in
       omega (
         arith,
@@ -153,7 +170,7 @@ module _ (g : Setting) (p : IsPosition g) where
         most,
         p.nodes_high,
       ) in
-      omega (arith, greatest_high g.nodes 31 (degree (graph_of g)) each)
+      omega (arith, greatest_high g.nodes 63 (degree (graph_of g)) each)
 
   sound_root : IsPursuitSound g (pursuit_game g).root
   sound_root = record { one_below = p.one_below; two_below = p.two_below; rounds_high = omega arith }
@@ -181,11 +198,37 @@ module _ (g : Setting) (p : IsPosition g) where
   some_moves side s here h =
       rw (open_ways (graph_of g) side s (chase_not_over s.caught s.rounds h)) (omega (arith, reach_count (node_of side s) (node_below side s here)))
 
-  equal_keys : (s t : State) → IsPursuitSound g s → IsPursuitSound g t → pursuit_key s ≡ pursuit_key t → s ≡ t
-  equal_keys s t here there e =
-      let a = here.one_below in let b = here.two_below in let c = there.one_below in let d = there.two_below in
-      let high = p.nodes_high in let most = p.rounds_high in let u = here.rounds_high in let v = there.rounds_high in
-      same_state s t (omega arith) (omega arith) (omega arith) (same_bit s.caught t.caught (omega arith))
+  -- the fields of the key
+  pub record HasChaseFields (s : State) : Type 0 where
+    pub rounds : s.rounds < 2 ^ key_bits g.nodes g.rounds
+    pub one : s.one < 2 ^ key_bits g.nodes g.rounds
+    pub two : s.two < 2 ^ key_bits g.nodes g.rounds
+
+  pub chase_fields : (s : State) → Reachable (pursuit_game g) s → HasChaseFields s
+  chase_fields s r =
+      let here = pursuit_sound s r in
+      let room = fields_below g p in
+      record { rounds = omega (arith, here.rounds_high, room.1); one = omega (arith, here.one_below, room.0); two = omega (arith, here.two_below, room.0) }
+
+  equal_keys : (s t : State) → Reachable (pursuit_game g) s → Reachable (pursuit_game g) t → (pursuit_game g).key s ≡ (pursuit_game g).key t → s ≡ t
+  equal_keys s t r r' e =
+      let here = chase_fields s r in
+      let there = chase_fields t r' in
+      let room = 2 ^ key_bits g.nodes g.rounds in
+      let outer = digits_apart room _ _ _ _ here.two there.two e in
+      let inner = digits_apart room _ _ _ _ here.one there.one outer.0 in
+      let front = digits_apart room _ _ _ _ here.rounds there.rounds inner.0 in
+      same_state s t inner.1 outer.1 front.1 (same_bit s.caught t.caught front.0)
+
+  pub key_below : (s : State) → Reachable (pursuit_game g) s → (pursuit_game g).key s < 2 ^ (3 * key_bits g.nodes g.rounds + 1)
+  key_below s r =
+      let here = chase_fields s r in
+      let bits = key_bits g.nodes g.rounds in
+      let caught : bit_of s.caught < 2 = omega (arith, bit_small s.caught) in
+      let first = mul-add-lt (bit_of s.caught) (2 ^ bits) s.rounds 2 caught here.rounds in
+      let second = mul-add-lt (bit_of s.caught * 2 ^ bits + s.rounds) (2 ^ bits) s.one (2 ^ bits * 2) first here.one in
+      let whole = mul-add-lt ((bit_of s.caught * 2 ^ bits + s.rounds) * 2 ^ bits + s.one) (2 ^ bits) s.two (2 ^ bits * (2 ^ bits * 2)) second here.two in
+      omega (arith, whole, room_of g.nodes g.rounds)
 
   pub pursuit_is_game : IsGame (pursuit_game g)
   pursuit_is_game = record {
@@ -197,7 +240,7 @@ module _ (g : Setting) (p : IsPosition g) where
     end_moves = λ side s r h. end_moves side s h;
     other_moves = λ side s r h. some_moves side s (pursuit_sound s r) h;
     moves_high = λ side s r. ways_few (is_chase_over s) (reach (graph_of g) (node_of side s)) (width_of (graph_of g)) (few_ways side s (pursuit_sound s r));
-    rank_high = λ s r. omega (arith, rank_below s.caught s.rounds 31 (omega (arith, (pursuit_sound s r).rounds_high, p.rounds_high)));
+    rank_high = λ s r. omega (arith, rank_below s.caught s.rounds MOST_TURNS (omega (arith, (pursuit_sound s r).rounds_high, p.rounds_high)));
     rank_falls = λ s t r turn. rank_falls s t turn;
     least_low = λ s r. omega (arith, ints);
     most_high = λ s r. omega (arith, ints);
@@ -205,11 +248,14 @@ module _ (g : Setting) (p : IsPosition g) where
     payoff_high = λ s r h. (payoff_small s.caught).1;
     reward_low = λ s t r turn. omega (arith, ints);
     reward_high = λ s t r turn. omega (arith, ints);
-    same_key = λ s t r r' e. equal_keys s t (pursuit_sound s r) (pursuit_sound t r') e;
-    key_high = λ s r. let here = pursuit_sound s r in omega (arith, bit_small s.caught, here.one_below, here.two_below, here.rounds_high, p.nodes_high, p.rounds_high);
+    same_key = equal_keys;
+    key_high = λ s r. omega (arith, key_below s r, few_keys g.nodes g.rounds);
     draws_low = λ s a b r h h'. omega arith;
     draws_high = λ s a b r h h'. omega arith;
     chance_low = λ s t r h. omega arith;
     chance_sum = λ s a b r h h'. refl;
     one_draw = λ s a b h r h' h''. refl;
   }
+
+  pub pursuit_numbered : IsNumbering (pursuit_game g) (pursuit_numbering g)
+  pursuit_numbered = numbered_by_key (pursuit_game g) pursuit_is_game (2 ^ (3 * key_bits g.nodes g.rounds + 1)) key_below

@@ -1,13 +1,15 @@
 -- The rules of pursuit and evasion, on a graph.
-use Rattle.std.specs.Prelude.{◌≡◌, ◌⊎◌, ◌↔◌, ℕ, zero, suc, ◌+◌, ◌-◌, ◌*◌, ◌≤◌, ◌^◌, max, ℤ, pos, neg_ℤ, Bool, true, ◌||◌, ◌&&◌, ◌==◌, if◌then◌else◌, List, [], length, filter, slice_index}
+use Rattle.std.specs.Prelude.{◌≡◌, ◌⊎◌, ◌↔◌, ℕ, zero, suc, ◌+◌, ◌-◌, ◌*◌, ◌≤◌, ◌^◌, max, ℤ, pos, neg_ℤ, Bool, true, ◌||◌, ◌&&◌, ◌==◌, nat_lt, if◌then◌else◌, List, [], length, filter, slice_index}
 use Rattle.std.specs.List.{range_with_len}
+use Rattle.sim_game.specs.declared.Limits.TheVariants.{Narrow}
 use Rattle.sim_game.specs.declared.Side.{Side}
 use Rattle.sim_game.specs.declared.Side.TheVariants.{One, Two}
 use Rattle.sim_game.specs.Model.{GameModel, Turn, IsEnd, Reachable, after_turn, whole_chance}
+use Rattle.sim_game.specs.Numbers.{Numbering, by_key}
 use Rattle.pursuit.specs.declared.Setting.{Setting}
 use Rattle.pursuit.specs.declared.State.{State}
 use Rattle.pursuit.specs.Edges.{is_joined, is_joined_in}
-use Rattle.pursuit.specs.Position.{IsSettingOf}
+use Rattle.pursuit.specs.Position.{most_nodes, most_rounds, IsSettingOf}
 
 -- ---- the graph
 -- what the rules look at: how many nodes there are, and a test that tells which of them an edge joins
@@ -59,11 +61,16 @@ pursuit_payoff s = if s.caught then pos 1 else neg_ℤ (pos 1)
 abbrev pub pursuit_rank : State → ℕ
 pursuit_rank s = if s.caught then 0 else s.rounds
 
--- whether Two is caught, the rounds and both nodes, in 1, 5, 5 and 5 bits
-abbrev pub pursuit_key : State → ℕ
-pursuit_key s = (((if s.caught then 1 else 0) * 2 ^ 5 + s.rounds) * 2 ^ 5 + s.one) * 2 ^ 5 + s.two
+-- how many bits of a key the rounds take, and each of both nodes: more beyond the narrow limits
+abbrev pub key_bits : ℕ → ℕ → ℕ
+key_bits nodes rounds = if nat_lt (most_nodes Narrow) nodes || nat_lt (most_rounds Narrow) rounds then 6 else 5
+
+-- whether Two is caught in one bit, then the rounds and both nodes in so many
+abbrev pub pursuit_key : ℕ → State → ℕ
+pursuit_key bits s = (((if s.caught then 1 else 0) * 2 ^ bits + s.rounds) * 2 ^ bits + s.one) * 2 ^ bits + s.two
 
 -- ---- the game
+-- the number of nodes and the rounds of the first state give the layout of all keys
 abbrev pub game_from : Graph → State → GameModel State
 game_from r first = record {
   root = first;
@@ -76,7 +83,7 @@ game_from r first = record {
   least = λ s. neg_ℤ (pos 1);
   most = λ s. pos 1;
   rank = pursuit_rank;
-  key = pursuit_key;
+  key = pursuit_key (key_bits r.nodes first.rounds);
   label = λ side s i. slice_index (ways r side s) i;
   low = neg_ℤ (pos 1);
   high = pos 1;
@@ -99,6 +106,10 @@ pursuit_root g = first_of g.one g.two g.rounds
 
 abbrev pub pursuit_game : Setting → GameModel State
 pursuit_game g = game_from (graph_of g) (pursuit_root g)
+
+-- the place of a state is its key
+abbrev pub pursuit_numbering : Setting → Numbering State
+pursuit_numbering g = by_key (pursuit_game g) (2 ^ (3 * key_bits g.nodes g.rounds + 1))
 
 -- ---- what is proved of the game
 -- the graph of a list of edges
@@ -124,7 +135,10 @@ pub record KeepsRules (g : Setting) : Type 0 where
   -- all is paid at the end
   pub reward : (s : State) (one two draw : ℕ) → (pursuit_game g).reward s one two draw ≡ pos 0
   pub rank : (s : State) → (pursuit_game g).rank s ≡ pursuit_rank s
-  pub key : (s : State) → (pursuit_game g).key s ≡ pursuit_key s
+  pub key : (s : State) → (pursuit_game g).key s ≡ pursuit_key (key_bits g.nodes g.rounds) s
+  -- where the narrow limits hold the rounds and the nodes take five bits each
+  pub narrow_key : g.nodes ≤ most_nodes Narrow → g.rounds ≤ most_rounds Narrow → (s : State)
+      → (pursuit_game g).key s ≡ pursuit_key 5 s
   pub low : (pursuit_game g).low ≡ neg_ℤ (pos 1)
   pub high : (pursuit_game g).high ≡ pos 1
   pub chance_free : (pursuit_game g).chance_free ≡ true

@@ -1,21 +1,28 @@
 //! Pursuit and evasion: One chases Two over an undirected graph for a limited number of rounds.
 #![tactic(auto)]
 
-ghost use Rattle.std.specs.Prelude.{◌≡◌, ◌<◌, ◌^◌, length, slice_index, MatchResult, None, Some};
-ghost use Rattle.pursuit.specs.Laws.{pursuit_is_game, IsPursuitSound};
+ghost use Rattle.std.specs.Prelude.{◌≡◌, ◌+◌, ◌*◌, ◌<◌, ◌≤◌, ◌^◌, length, slice_index, MatchResult, None, Some};
+ghost use Rattle.pursuit.specs.Laws.{pursuit_is_game, pursuit_numbered, IsPursuitSound};
+ghost use Rattle.sim_game.specs.declared.Limits.TheVariants.{Wide};
 ghost use Rattle.state_key.specs.Sets.{members};
 ghost use Rattle.pursuit.specs.Position.{first_fault, IsPosition, IsSettingOf};
-ghost use Rattle.pursuit.specs.Rules.{graph_of, is_catch, is_chase_over, node_of, pursuit_game, reach, width_of, KeepsRules};
+ghost use Rattle.pursuit.specs.Rules.{graph_of, is_catch, is_chase_over, key_bits, node_of, pursuit_game, pursuit_numbering, reach, width_of, KeepsRules};
 
 mod laws;
 mod position;
 mod refusals;
 
 pub use laws::{more_rounds_are_no_worse, position_has_one_game};
-use position::{check_edges, check_loops, check_places, neighbour_sets, width_of, with_node};
-use sim_game::{CHANCE, Game, Side};
+use position::{
+    check_edges, check_loops, check_places, most_nodes, most_rounds, neighbour_sets, width_of,
+    with_node,
+};
+use sim_game::{CHANCE, Game, Limits, Side};
 use state_key::{Key, put};
 use thiserror::Error;
+
+/// The most nodes that a graph may have where the limits are wide.
+pub const MOST_NODES: usize = 64;
 
 /// The nodes of both players, the rounds left, and whether Two is caught.
 #[derive(Clone, Copy, PartialEq, Eq, Debug)]
@@ -31,13 +38,13 @@ pub struct State {
 #[derive(Clone, Copy, PartialEq, Eq, Debug)]
 pub struct Setting {
     pub nodes: u8,
-    pub neighbours: [u32; 32],
+    pub neighbours: [u64; MOST_NODES],
     pub one: u8,
     pub two: u8,
     pub rounds: u8,
 }
 
-/// A position of the game.
+/// A position of the game, within the wide limits.
 #[derive(Clone, Copy, PartialEq, Eq, Debug)]
 pub struct Pursuit {
     pub setting: Setting,
@@ -49,7 +56,7 @@ pub struct Pursuit {
 /// Why there is no such position. Places are numbered from 0.
 #[derive(Clone, Copy, PartialEq, Eq, Debug, Error)]
 pub enum PursuitError {
-    #[error("the number of nodes is not 1 to 32")]
+    #[error("there is no node, or there are too many")]
     NodesRange,
     #[error("the last edge has one node alone")]
     EdgeOdd,
@@ -59,16 +66,18 @@ pub enum PursuitError {
     EdgeLoop { place: u32 },
     #[error("a player stands on no node")]
     PlaceRange { side: Side },
-    #[error("there are more than 31 rounds")]
+    #[error("there are too many rounds")]
     RoundsRange,
 }
 
 impl Pursuit {
     /// The position with these nodes, edges, players and rounds. The edges are pairs of nodes, one pair after the
     /// other; an edge that is listed twice, in either order, counts once. An error names the first rule that is
-    /// broken: nodes are 1 to 32; the list of edges has an even length; each number in it is a node; no edge joins a
-    /// node with itself; One stands on a node, and so does Two; rounds are 0 to 31.
+    /// broken: nodes are 1 to 32, 64 where the limits are wide; the list of edges has an even length; each number in it
+    /// is a node; no edge joins a node with itself; One stands on a node, and so does Two; rounds are 0 to 31, 63 where
+    /// the limits are wide.
     pub fn new(
+        limits: Limits,
         nodes: u8,
         edges: &[u8],
         one: u8,
@@ -77,11 +86,11 @@ impl Pursuit {
     ) -> Result<Pursuit, PursuitError>
         requires { length edges.now < 2 ^ 31 }
         ensures { MatchResult result
-            (λ game. (first_fault nodes edges.now one two rounds ≡ None)
+            (λ game. (first_fault limits nodes edges.now one two rounds ≡ None)
             × IsSettingOf nodes edges.now one two rounds game.setting)
-            (λ fault. first_fault nodes edges.now one two rounds ≡ Some fault) }
+            (λ fault. first_fault limits nodes edges.now one two rounds ≡ Some fault) }
     {
-        if nodes == 0 || nodes > 32 {
+        if nodes == 0 || nodes > most_nodes(limits) {
             return Err(PursuitError::NodesRange);
         }
         if edges.len() % 2 == 1 {
@@ -90,7 +99,7 @@ impl Pursuit {
         check_edges(edges, nodes)?;
         check_loops(edges)?;
         check_places(nodes, one, two)?;
-        if rounds > 31 {
+        if rounds > most_rounds(limits) {
             return Err(PursuitError::RoundsRange);
         }
         let neighbours = neighbour_sets(edges);
@@ -109,7 +118,7 @@ impl Pursuit {
 
     /// The nodes to which a player may go from a node.
     #[inline]
-    fn reach(&self, node: u8) -> u32
+    fn reach(&self, node: u8) -> u64
         requires { node < self.now.setting.nodes }
         ensures is { members self.now.setting.nodes 0 result ≡ reach (graph_of self.now.setting) node }
         ensures small { result < 2 ^ self.now.setting.nodes }
@@ -161,10 +170,21 @@ impl State {
     }
 }
 
+/// How many bits of a key the rounds take, and each of both nodes.
+#[inline]
+fn key_bits(nodes: u8, rounds: u8) -> u32
+    ensures is { result ≡ key_bits nodes rounds }
+    ensures small { result ≤ 6 }
+{
+    if nodes > 32 || rounds > 31 { 6 } else { 5 }
+}
+
 impl Game for Pursuit {
     type State = State;
 
     ghost model = { λ game. pursuit_game game.setting };
+
+    ghost numbering = { λ game. pursuit_numbering game.setting };
 
     fn root(&self) -> State {
         State {
@@ -223,12 +243,18 @@ impl Game for Pursuit {
 
     #[inline]
     fn key(&self, s: State) -> u64 {
-        let rounds = put(put(Key(0), s.caught as u64, 1), s.rounds as u64, 5);
-        put(put(rounds, s.one as u64, 5), s.two as u64, 5).0
+        let bits = key_bits(self.setting.nodes, self.setting.rounds);
+        let rounds = put(put(Key(0), s.caught as u64, 1), s.rounds as u64, bits);
+        put(put(rounds, s.one as u64, bits), s.two as u64, bits).0
     }
 
     fn most_states(&self) -> u64 {
-        1 << 16
+        1 << (3 * key_bits(self.setting.nodes, self.setting.rounds) + 1)
+    }
+
+    #[inline]
+    fn place(&self, s: State) -> u64 {
+        self.key(s)
     }
 
     #[inline]
@@ -271,6 +297,8 @@ impl Game for Pursuit {
     }
 
     ghost lawful = { λ game. pursuit_is_game game.setting game.valid };
+
+    ghost numbered = { λ game. pursuit_numbered game.setting game.valid };
 }
 
 /// Every call answers by the rules on the graph of the edges of the position.

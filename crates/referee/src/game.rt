@@ -1,6 +1,7 @@
 //! One game, by given words.
 
-ghost use Rattle.std.specs.Prelude.{◌≡◌, ◌≤◌, length, IfOk};
+ghost use Rattle.std.specs.Prelude.{◌≡◌, ◌*◌, ◌≤◌, length, IfOk};
+ghost use Rattle.sim_game.specs.declared.TheConstants.{MOST_TURNS};
 ghost use Rattle.referee.specs.Transcripts.{IsGamePlayed, IsPlayable, IsRecord, words_needed};
 
 use crate::picks::turn_by;
@@ -39,7 +40,7 @@ pub fn play<G: Game>(
 /// Three words for each rank of the root.
 pub(crate) fn words_needed<G: Game>(g: G) -> u32
     ensures is { result ≡ words_needed (G.model g) }
-    ensures few { result ≤ 93 }
+    ensures few { result ≤ 3 * MOST_TURNS }
 {
     3 * g.rank(g.root())
 }

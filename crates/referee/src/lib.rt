@@ -48,7 +48,7 @@ pub struct Record {
 pub enum RefereeError {
     #[error("there are fewer than {need} words")]
     WordsShort {
-        /// Three for each rank of the root, at most 93.
+        /// Three for each rank of the root, at most 189.
         need: u32,
     },
     #[error("there is no memory")]

@@ -2,6 +2,7 @@
 
 ghost use Rattle.std.specs.Prelude.{◌≡◌, ◌<◌, ◌≤◌, ℕ, List, length, slice_index, sum, map};
 ghost use Rattle.std.specs.List.Sorted.{IsStrictlyIncreasing};
+ghost use Rattle.sums.specs.declared.TheConstants.{MOST_MOVES};
 ghost use Rattle.sim_game.specs.Model.{Reachable, Turn, IsTurn};
 ghost use Rattle.plan_book.specs.Sheets.{plan_of};
 ghost use Rattle.referee.specs.Picks.{pick};
@@ -15,7 +16,7 @@ use sim_game::{CHANCE, Game, Side};
 fn pick(weights: &[u32], total: u32, word: u64) -> u32
     requires some { 1 ≤ total }
     requires sums { sum weights.now ≡ total }
-    requires few { length weights.now ≤ 32 }
+    requires few { length weights.now ≤ MOST_MOVES }
     ensures { result ≡ pick (length weights.now) (slice_index weights.now) word }
 {
     let mut left = word % u64::from(total);

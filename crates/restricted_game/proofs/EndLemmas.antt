@@ -7,6 +7,7 @@ use Rattle.std.proofs.lemmas.List.{length_push}
 use Rattle.sim_game.specs.declared.Side.{Side}
 use Rattle.sim_game.specs.declared.Side.TheVariants.{One, Two}
 use Rattle.sim_game.specs.Model.{GameModel, IsGame, Reachable}
+use Rattle.sim_game.specs.Resolution.{IsFineWeight}
 use Rattle.sim_game.specs.Sides.{other_side}
 use Rattle.bounds_board.specs.Views.{BoardView}
 use Rattle.matrix_game.specs.declared.solver.StageSolver.{StageSolver}
@@ -14,7 +15,7 @@ use Rattle.restricted_game.specs.declared.held.StepEnd.TheVariants.{Grown, Done}
 use Rattle.restricted_game.specs.declared.plans.Plans.{Plans}
 use Rattle.restricted_game.specs.declared.table.Table.{Table}
 use Rattle.restricted_game.specs.Gaps.{HasStepGap}
-use Rattle.restricted_game.specs.Held.{HeldMoves, AreMoves, IsHolding, HoldsAll, count_held, with_move, held_after}
+use Rattle.restricted_game.specs.Held.{HeldMoves, AreMoves, IsHolding, HoldsAll, count_held, count_moves, with_move, held_after}
 use Rattle.restricted_game.specs.Runs.{IsPlan, IsStepRun}
 use Rattle.restricted_game.specs.Tables.{ArePlans}
 use Rattle.restricted_game.proofs.HeldLemmas.{moves_more, held_few}
@@ -85,8 +86,8 @@ module _ {S : Type 0} (m : GameModel S) (s : S) (h held : HeldMoves) (is : h ≡
     few_cols = holding.few_cols;
   }
 
-  pub has_grown : IsSome row ⊎ IsSome col → (count_held held < count_held (held_after h (Grown row col))) × (count_held (held_after h (Grown row col)) ≤ 64)
-  has_grown some = subst (λ (k : HeldMoves). (count_held k < count_held (held_after h (Grown row col))) × (count_held (held_after h (Grown row col)) ≤ 64)) is (
+  pub has_grown : IsSome row ⊎ IsSome col → (count_held held < count_held (held_after h (Grown row col))) × (count_held (held_after h (Grown row col)) ≤ count_moves (held_after h (Grown row col)))
+  has_grown some = subst (λ (k : HeldMoves). (count_held k < count_held (held_after h (Grown row col))) × (count_held (held_after h (Grown row col)) ≤ count_moves (held_after h (Grown row col)))) is (
     ⊎_elim (λ (r : IsSome row). omega (arith, with_longer h.rows row r, with_length h.cols col)) (λ (k : IsSome col). omega (arith, with_longer h.cols col k, with_length h.rows row)) some,
     held_few (held_after h (Grown row col)) holding_after,
   )
@@ -100,7 +101,7 @@ module _ {S : Type 0} (m : GameModel S) (s : S) (h held : HeldMoves) (is : h ≡
       omega (arith, more.0, holding_after.rows.few, holding_after.cols.few, all.rows, all.cols, rows, cols)
 
 pub end_gap : {S G N : Type 0} (m : GameModel S) (game : IsGame m) (u v : BoardView G N) (s : S) (reach : Reachable m s) (h held : HeldMoves)
-    → h ≡ held → IsHolding h → held.most_rows ≡ m.moves One s → held.most_cols ≡ m.moves Two s → 8192 ≤ u.total
+    → h ≡ held → IsHolding h → held.most_rows ≡ m.moves One s → held.most_cols ≡ m.moves Two s → IsFineWeight m u.total
     → {solver : StageSolver} (lower upper : ℤ) → IsStepRun m u v solver s h.rows h.cols None None lower upper → HasStepGap m u v s held (Done lower upper)
 end_gap m game u v s reach h held is holding most_rows most_cols enough {solver} lower upper run = subst (λ (k : HeldMoves). HasStepGap m u v s k (Done lower upper)) is (λ gap stage close is_gap.
     step_close m game u v s reach enough h lower upper run (subst (λ (n : ℕ). AreMoves n h.rows) (ap (λ (k : HeldMoves). k.most_rows) is ∙ most_rows) holding.rows)

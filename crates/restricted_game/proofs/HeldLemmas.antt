@@ -13,7 +13,7 @@ use Rattle.std.specs.Cmp.{nat_eq_equiv}
 use Rattle.std.specs.List.{Contains, IsDistinct, list_any, range_with_len}
 use Rattle.restricted_game.specs.declared.held.StepEnd.{StepEnd}
 use Rattle.restricted_game.specs.declared.held.StepEnd.TheVariants.{Grown, Done}
-use Rattle.restricted_game.specs.Held.{HeldMoves, AreMoves, IsHolding, count_held, HasGrown, IsGrown, AreSteps, FewSteps}
+use Rattle.restricted_game.specs.Held.{HeldMoves, AreMoves, IsHolding, count_held, count_moves, HasGrown, IsGrown, AreSteps, FewSteps}
 
 alone : (x : ℕ) → IsDistinct eqb (x ∷ [])
 unfolding IsDistinct
@@ -58,31 +58,31 @@ pub all_moves_held : (n : ℕ) → 1 ≤ n → AreMoves n (range_with_len 0 n)
 all_moves_held zero h = absurd (omega arith)
 all_moves_held (suc n) h = first_moves (suc n) n (omega arith)
 
--- no more than 64 moves are held
-pub held_few : (h : HeldMoves) → IsHolding h → count_held h ≤ 64
-held_few h held = let a = held.rows.few in let b = held.cols.few in let c = held.few_rows in let d = held.few_cols in omega arith
+-- no more moves are held than there are
+pub held_few : (h : HeldMoves) → IsHolding h → count_held h ≤ count_moves h
+held_few h held = let a = held.rows.few in let b = held.cols.few in omega arith
 
 -- ---- how many steps there are
-grown_more : (old new : HeldMoves) (end : StepEnd) → HasGrown old new end → IsGrown end → (count_held old < count_held new) × (count_held new ≤ 64)
+grown_more : (old new : HeldMoves) (end : StepEnd) → HasGrown old new end → IsGrown end → (count_held old < count_held new) × (count_held new ≤ count_moves new)
 grown_more old new (Grown row col) h g = h
 grown_more old new (Done lower upper) h g = absurd g
 
-held_next : (held : ℕ → HeldMoves) (ends : ℕ → StepEnd) (count i : ℕ) → AreSteps held ends count → suc i < count → i + 2 ≤ count_held (held i)
-    → (i + 3 ≤ count_held (held (suc i))) × (count_held (held (suc i)) ≤ 64)
-held_next held ends count i steps h before =
+held_next : (moves : ℕ) (held : ℕ → HeldMoves) (ends : ℕ → StepEnd) (count i : ℕ) → AreSteps moves held ends count → suc i < count → i + 2 ≤ count_held (held i)
+    → (i + 3 ≤ count_held (held (suc i))) × (count_held (held (suc i)) ≤ moves)
+held_next moves held ends count i steps h before =
     let more = grown_more (held i) (held (i + 1)) (ends i) (steps.each i (omega arith)) (steps.growing i (omega arith)) in
     let same : count_held (held (i + 1)) ≡ count_held (held (suc i)) = ap (λ (k : ℕ). count_held (held k)) (add-one i) in
-    (omega arith, omega arith)
+    (omega arith, omega (arith, steps.same (i + 1) (omega arith)))
 
-held_at : (held : ℕ → HeldMoves) (ends : ℕ → StepEnd) (count : ℕ) → AreSteps held ends count → (i : ℕ) → i < count → i + 2 ≤ count_held (held i)
-held_at held ends count steps zero h = steps.starts
-held_at held ends count steps (suc i) h = let next = held_next held ends count i steps h (held_at held ends count steps i (omega arith)) in omega arith
+held_at : (moves : ℕ) (held : ℕ → HeldMoves) (ends : ℕ → StepEnd) (count : ℕ) → AreSteps moves held ends count → (i : ℕ) → i < count → i + 2 ≤ count_held (held i)
+held_at moves held ends count steps zero h = steps.starts
+held_at moves held ends count steps (suc i) h = let next = held_next moves held ends count i steps h (held_at moves held ends count steps i (omega arith)) in omega arith
 
 pub few_steps : FewSteps
-few_steps held ends zero steps = omega arith
-few_steps held ends (suc zero) steps = omega arith
-few_steps held ends (suc (suc i)) steps =
-    let next = held_next held ends (suc (suc i)) i steps (omega arith) (held_at held ends (suc (suc i)) steps i (omega arith)) in omega arith
+few_steps moves held ends zero steps = omega (arith, steps.starts, steps.fits)
+few_steps moves held ends (suc zero) steps = omega (arith, steps.starts, steps.fits)
+few_steps moves held ends (suc (suc i)) steps =
+    let next = held_next moves held ends (suc (suc i)) i steps (omega arith) (held_at moves held ends (suc (suc i)) steps i (omega arith)) in omega arith
 
 -- ---- cells of held moves
 -- where the cell of a held row and a held column stands among all

@@ -3,6 +3,7 @@ use Rattle.std.proofs.Common.{◌≡◌, ℕ, ◌≤◌, ℤ, Option, None, Some
 use Rattle.sim_game.specs.declared.Side.{Side}
 use Rattle.sim_game.specs.declared.Side.TheVariants.{One, Two}
 use Rattle.sim_game.specs.Model.{GameModel, IsGame, Reachable}
+use Rattle.sim_game.specs.Resolution.{IsFineWeight}
 use Rattle.plan_book.specs.declared.Entry.{Entry}
 use Rattle.bounds_board.specs.Views.{BoardView, IsLater, IsPostable}
 use Rattle.bounds_board.proofs.ViewLemmas.{later_refl, later_trans}
@@ -73,12 +74,13 @@ module _ {S G N : Type 0} (m : GameModel S) (game : IsGame m) (s : S) (reach : R
     over_run quiet = step_run m game s reach goes_on (is_total ∙ are.later.total) low are.later are.filled planned after quiet holds posted
 
   module _ (w : BoardView G N) (row : ℕ) (after : IsLater v w) (holds : v.key_at row ≡ Some (m.key s)) (posted : ArePosted m v w s numbers.table plans)
-      (u : BoardView G N) (are : AreStageNumbers m u v s h numbers) (holding : IsHolding h) (rows : h.most_rows ≡ m.moves One s) (cols : h.most_cols ≡ m.moves Two s) where
+      (u : BoardView G N) (are : AreStageNumbers m u v s h numbers) (holding : IsHolding h) (rows : h.most_rows ≡ m.moves One s) (cols : h.most_cols ≡ m.moves Two s)
+      (fine : IsFineWeight m total) where
     pub over_gap : plans.two.fresh ≡ None → plans.one.fresh ≡ None → HasStepGap m u w s h (Done plans.one.bound plans.two.bound)
     over_gap no_row no_col gap stage close is_gap =
         let quiet_u = with_entries u v.entries in
         let run = over_run w row after holds posted quiet_u (numbers_with m u v v.entries s h numbers are) refl in
         let done = subst (λ (k : Option ℕ). IsStepRun m quiet_u w solver s h.rows h.cols None k plans.one.bound plans.two.bound) no_col
         (subst (λ (k : Option ℕ). IsStepRun m quiet_u w solver s h.rows h.cols k plans.one.fresh plans.one.bound plans.two.bound) no_row run) in
-        let enough : 8192 ≤ u.total = subst (λ (n : ℕ). 8192 ≤ n) (is_total ∙ are.later.total) low in
+        let enough : IsFineWeight m u.total = subst (IsFineWeight m) (is_total ∙ are.later.total) fine in
         end_gap m game quiet_u w s reach h h refl holding rows cols enough plans.one.bound plans.two.bound done gap stage (record { close = close.close }) is_gap

@@ -11,7 +11,7 @@ use Rattle.sums.proofs.CountLemmas.{count_list}
 use Rattle.sums.proofs.SumLemmas.{sum_same}
 use Rattle.sim_game.specs.declared.Side.TheVariants.{One, Two}
 use Rattle.sim_game.specs.Model.{GameModel, IsGame, Reachable, bound_scale}
-use Rattle.sim_game.specs.Resolution.{IsStageGap, payoff_range}
+use Rattle.sim_game.specs.Resolution.{IsFineWeight, IsStageGap, payoff_range}
 use Rattle.sim_game.specs.Sides.{opening_bound, turn_reward}
 use Rattle.sim_game.proofs.SideLemmas.{looser_trans, opening_state, side_turn}
 use Rattle.plan_book.specs.Steps.{cell, worth}
@@ -33,7 +33,8 @@ not_fresh : (fresh : Bool) (place : ℕ) → None ≡ then_some fresh place → 
 not_fresh true place e = absurd (cc)
 not_fresh false place e = refl
 
-module _ {S G N : Type 0} (m : GameModel S) (game : IsGame m) (u v : BoardView G N) (s : S) (reach : Reachable m s) (enough : 8192 ≤ u.total) (h : HeldMoves) {solver : StageSolver} (lower upper : ℤ)
+module _ {S G N : Type 0} (m : GameModel S) (game : IsGame m) (u v : BoardView G N) (s : S) (reach : Reachable m s)
+    (enough : IsFineWeight m u.total) (h : HeldMoves) {solver : StageSolver} (lower upper : ℤ)
     (run : IsStepRun m u v solver s h.rows h.cols None None lower upper) (held_rows : AreMoves (m.moves One s) h.rows) (held_cols : AreMoves (m.moves Two s) h.cols) where
   abbrev total : ℕ
   total = u.total
@@ -93,12 +94,14 @@ module _ {S G N : Type 0} (m : GameModel S) (game : IsGame m) (u v : BoardView G
 
   stage_fine : (stage : ℕ) → IsStageGap m total stage → col_ceiling run.grid run.col_weights ≤ℤ (row_floor run.grid run.row_weights +ℤ pos (total * stage))
   stage_fine stage gap =
-      let square : m.width * m.width ≤ 32 * 32 = mul-le-mul game.width_high game.width_high in
       let few : run.grid.rows ≤ m.width = let a = run.is_grid.all_rows in let b = held_rows.few in let c = game.moves_high One s reach in omega arith in
-      run.stage.resolution m.width (payoff_range m * bound_scale) stage few grid_spread (omega arith) (fine m.width (payoff_range m) total stage gap.enough)
+      run.stage.resolution m.width (payoff_range m * bound_scale) stage few grid_spread enough (fine m.width (payoff_range m) total stage gap.enough)
     where
       fine : (n r w q : ℕ) → 2 * n * (r * bound_scale) * (r * bound_scale) ≤ w * q * q → 2 * (n * (r * bound_scale * (r * bound_scale))) ≤ w * (q * q)
       fine n r w q l = omega arith
+
+  some_total : 1 ≤ total
+  some_total = let square : 1 * 1 ≤ m.width * m.width = mul-le-mul game.width_low game.width_low in omega (arith, square, enough)
 
   -- ---- cells after held moves
   module _ (gap : ℕ) (close : AreClose m u s h gap) where
@@ -180,7 +183,7 @@ module _ {S G N : Type 0} (m : GameModel S) (game : IsGame m) (u v : BoardView G
     step_close stage is_gap =
         let one = run.one.planned in
         let two = run.two.planned in
-        let near = quotients_close total (cell_gap + stage) one.sum two.sum (omega arith) (sums one.sum two.sum _ _ low_secured high_conceded (stage_fine stage is_gap)) in
+        let near = quotients_close total (cell_gap + stage) one.sum two.sum some_total (sums one.sum two.sum _ _ low_secured high_conceded (stage_fine stage is_gap)) in
         let bounds : upper ≤ℤ (lower +ℤ pos (step_gap m gap stage)) = last _ _ _ _ one.bound_is two.bound_is near in
         record { bounds = bounds; known = known (known_bound m v One s) (known_bound m v Two s) run.one.known run.two.known bounds }
       where

@@ -1,6 +1,6 @@
 //! The moves that a restricted game holds.
 ghost use Rattle.std.specs.Prelude.{◌≡◌, ◌⊎◌, ◌↔◌, ◌≤◌, ◌<◌, ◌∷◌, [], Some, Err, IfOk, OnOk, OnErr, IfSome, vec_len, vec_capacity};
-ghost use Rattle.matrix_game.specs.declared.TheConstants.{MOST_MOVES};
+ghost use Rattle.sums.specs.declared.TheConstants.{MOST_MOVES};
 ghost use Rattle.std.specs.List.{range_with_len};
 ghost use Rattle.sim_game.specs.Model.{Reachable};
 ghost use Rattle.plan_book.specs.Books.{Grows};

@@ -22,7 +22,7 @@ pub use held::{Restricted, StepEnd, StepFault};
 pub use node::Node;
 pub use table::StageNumbers;
 
-/// A restricted game takes at most 63 steps up to and with the first that is done.
+/// A restricted game takes fewer steps than there are moves of both sides, up to and with the first that is done.
 pub fn few_steps()
     ensures { FewSteps }
 {}

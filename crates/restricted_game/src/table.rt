@@ -1,8 +1,7 @@
 //! Tables of what a step reads, and of its cells.
 
 ghost use Rattle.std.specs.Prelude.{◌≡◌, ◌*◌, ◌≤◌, All, length, vec_len};
-ghost use Rattle.sums.specs.declared.TheConstants.{MOST_BOUND};
-ghost use Rattle.matrix_game.specs.declared.TheConstants.{MOST_MOVES};
+ghost use Rattle.sums.specs.declared.TheConstants.{MOST_BOUND, MOST_MOVES};
 ghost use Rattle.matrix_game.specs.Grid.{IsSmallCell};
 ghost use Rattle.restricted_game.specs.Sizes.{IsSmallEnclosure};
 

@@ -4,6 +4,7 @@ use Rattle.std.proofs.Common.{drop, ◌-◌, refl, sym, ap, subst, ◌∙◌, ap
 use Rattle.std.proofs.Math.Seq.{drop-append_seam, take-length}
 use Rattle.std.proofs.lemmas.Bool.{cases_lt}
 use Rattle.sim_game.specs.declared.Side.{Side}
+use Rattle.sim_game.specs.declared.TheConstants.{MOST_TURNS}
 use Rattle.sim_game.specs.Model.{GameModel, IsGame, IsTurn, IsEnd, Reachable}
 use Rattle.sim_game.specs.Sides.{other_side, IsNoTighter, opening_bound, state_bound, end_bound, turn_of, draws_of, child_of, better, IsTighter, turn_reward, after_reward}
 use Rattle.plan_book.specs.Steps.{cell}
@@ -79,7 +80,7 @@ near_turn m game side s own reply draw x r turn near =
     apart x (turn_reward m side s own reply draw) (m.rank s) (m.rank (child_of m side s own reply draw)) near (reward_small m game side s own reply draw r turn)
     (game.rank_falls s (turn_of side own reply draw) r turn) (game.rank_high s r)
   where
-    apart : (x c : ℤ) (n k : ℕ) → unsigned_abs x ≤ 8000000000 * (32 - n) → unsigned_abs c ≤ 8000000000 → k < n → n ≤ 31 → unsigned_abs (x -ℤ c) ≤ 8000000000 * (32 - k)
+    apart : (x c : ℤ) (n k : ℕ) → unsigned_abs x ≤ 8000000000 * (1 + MOST_TURNS - n) → unsigned_abs c ≤ 8000000000 → k < n → n ≤ MOST_TURNS → unsigned_abs (x -ℤ c) ≤ 8000000000 * (1 + MOST_TURNS - k)
     apart x c n k p q l h = omega (arith, ints)
 
 pub move_window : {S : Type 0} (m : GameModel S) (side : Side) (s : S) (worse good value : ℤ) → IsWindow m side s worse good → IsTighter side good value → IsNear m s value

@@ -1,6 +1,7 @@
 -- What a search finds, and what it keeps.
-use Rattle.std.specs.Prelude.{◌≡◌, ℕ, ◌-◌, ◌*◌, ◌<◌, ◌≤◌, ℤ, Some, unsigned_abs, Result, Ok, Err, List, [], ◌∷◌, ◌++◌, length}
+use Rattle.std.specs.Prelude.{◌≡◌, ℕ, ◌+◌, ◌-◌, ◌*◌, ◌<◌, ◌≤◌, ℤ, Some, unsigned_abs, Result, Ok, Err, List, [], ◌∷◌, ◌++◌, length}
 use Rattle.sim_game.specs.declared.Side.{Side}
+use Rattle.sim_game.specs.declared.TheConstants.{MOST_TURNS}
 use Rattle.sim_game.specs.Model.{GameModel, IsEnd}
 use Rattle.plan_book.specs.declared.Entry.{Entry}
 use Rattle.sim_game.specs.Sides.{other_side, IsNoTighter, opening_bound, state_bound, end_bound, draws_of, after_reward, IsTighter}
@@ -35,7 +36,7 @@ pub record IsInStateRange {S : Type 0} (m : GameModel S) (side : Side) (s : S) (
 
 -- the number is no further from 0 than a payoff by more than the rewards of the turns before the state
 abbrev pub IsNear : {S : Type 0} → GameModel S → S → ℤ → Type 0
-IsNear m s x = unsigned_abs x ≤ 8000000000 * (32 - m.rank s)
+IsNear m s x = unsigned_abs x ≤ 8000000000 * (1 + MOST_TURNS - m.rank s)
 
 -- the window of a side, from its worse end to its better one, in a game in which payoffs differ
 pub record IsWindow {S : Type 0} (m : GameModel S) (side : Side) (s : S) (worse better : ℤ) : Type 0 where

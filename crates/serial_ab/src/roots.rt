@@ -1,7 +1,9 @@
 //! The serial bounds of a whole game.
 ghost use Rattle.std.specs.Prelude.{◌≡◌, ◌≤◌, IfOk};
 ghost use Rattle.sim_game.specs.declared.Side.TheVariants.{One, Two};
+ghost use Rattle.sim_game.specs.declared.TheConstants.{MOST_ROWS};
 ghost use Rattle.sim_game.specs.Model.{LeadsTo};
+ghost use Rattle.sim_game.specs.Resolution.{IsFineWeight};
 ghost use Rattle.plan_book.specs.Serial.{tree_size};
 ghost use Rattle.bounds_board.specs.Views.{WasFull};
 ghost use Rattle.serial_ab.specs.Counts.{left_on, IsCut, HasCounted};
@@ -30,7 +32,7 @@ pub enum RootEnd {
     Full,
 }
 
-/// The serial bounds of the root, by a search for One and one for Two over a plain board of 1 to 1048576 rows. Where
+/// The serial bounds of the root, by a search for One and one for Two over a plain board of 1 to `MOST_ROWS` rows. Where
 /// the root is an end, or all that can be got from it is one number, there is no search and no visit. Without an answer
 /// only for want of memory.
 pub fn root_bounds<G: Game>(
@@ -41,8 +43,9 @@ pub fn root_bounds<G: Game>(
     visits: &mut Visits,
 ) -> Result<RootEnd, NoMemory>
     requires rows_low { 1 ≤ rows }
-    requires rows_high { rows ≤ 1048576 }
+    requires rows_high { rows ≤ MOST_ROWS }
     requires total_low { 8192 ≤ total }
+    requires total_fine { IsFineWeight (G.model g) total }
     requires total_high { total ≤ 1048576 }
     ensures ends { IfOk result (IsRootEnd (G.model g) rows visits.old visits.new) }
     ensures counted { HasCounted visits.old visits.new }

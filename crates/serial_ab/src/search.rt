@@ -1,6 +1,7 @@
 //! The search: a state, its moves, a move, a pair of moves, its draws. One stack of numbers, `reads`, serves them all:
 //! a move pushes the numbers of its turns, and pops them when it is left or done.
-ghost use Rattle.std.specs.Prelude.{◌≡◌, ◌+◌, ◌<◌, ◌≤◌, ℤ, ◌+ℤ◌, ◌-ℤ◌, unsigned_abs, Some, Err, IfSome, IfOk, OnOk, OnErr};
+ghost use Rattle.std.specs.Prelude.{◌≡◌, ◌+◌, ◌*◌, ◌<◌, ◌≤◌, ℤ, ◌+ℤ◌, ◌-ℤ◌, unsigned_abs, Some, Err, IfSome, IfOk, OnOk, OnErr};
+ghost use Rattle.sim_game.specs.declared.TheConstants.{MOST_TURNS};
 ghost use Rattle.sim_game.specs.Model.{Reachable, LeadsTo};
 ghost use Rattle.sim_game.specs.Sides.{other_side, opening_bound, move_of_one, move_of_two, draws_of, IsTighter};
 ghost use Rattle.plan_book.specs.Serial.{tree_size};
@@ -241,8 +242,8 @@ fn search_move<G: Game, B: Bounds<G>>(
 
 /// The window at the state that a turn of this reward leads to.
 fn window_after(window: Window, reward: i64) -> Window
-    requires worse { unsigned_abs window.worse ≤ 256000000000 }
-    requires better { unsigned_abs window.better ≤ 256000000000 }
+    requires worse { unsigned_abs window.worse ≤ 8000000000 * (1 + MOST_TURNS) }
+    requires better { unsigned_abs window.better ≤ 8000000000 * (1 + MOST_TURNS) }
     requires reward { unsigned_abs reward ≤ 8000000000 }
     ensures worse { result.worse ≡ window.worse -ℤ reward }
     ensures better { result.better ≡ window.better -ℤ reward }

@@ -4,6 +4,7 @@ use Rattle.atomic_table.specs.Table.{Me, Step}
 use Rattle.atomic_table.specs.Seated.{TableId}
 use Rattle.sim_game.specs.declared.Side.{Side}
 use Rattle.sim_game.specs.declared.Side.TheVariants.{One, Two}
+use Rattle.sim_game.specs.declared.TheConstants.{MOST_ROWS}
 use Rattle.sim_game.specs.Model.{GameModel}
 use Rattle.bounds_board.specs.Views.{IsInnerKey}
 use Rattle.shared_board.specs.Words.{key_word, bound_word, IsLooser, tighter, row_after, IsProved}
@@ -125,7 +126,7 @@ pub record MayClaim {S G : Type 0} (m : GameModel S) (rows : ℕ) (v : View G) (
 
 -- the board has so many rows
 abbrev pub IsSized : TableId → ℕ → ℕ → Type 0
-IsSized z rows n = (rows ≡ n) × (z.words ≡ 3 * n + 1) × (1 ≤ n) × (n ≤ 1048576)
+IsSized z rows n = (rows ≡ n) × (z.words ≡ 3 * n + 1) × (1 ≤ n) × (n ≤ MOST_ROWS)
 
 -- the seat is at this table, holds a ticket and no slot
 abbrev pub IsAt : {G : Type 0} → TableId → TableId → Me (Unit {0}) (View G) → Type 0

@@ -1,6 +1,8 @@
 //! The board that threads share.
 ghost use Rattle.std.specs.Prelude.{◌≡◌, ◌<◌, ◌≤◌, true, [], ◌++◌, IfOk, IfErr, OnOk, OnErr};
 ghost use Rattle.sim_game.specs.declared.Side.TheVariants.{One, Two};
+ghost use Rattle.sim_game.specs.declared.TheConstants.{MOST_ROWS};
+ghost use Rattle.sim_game.specs.Resolution.{IsFineWeight};
 ghost use Rattle.shared_board.specs.Words.{opening_word};
 ghost use Rattle.shared_board.specs.Rule.{first_view};
 ghost use Rattle.shared_board.specs.Passes.{KnowsNoLess};
@@ -31,6 +33,8 @@ pub struct Board<G: Game> {
 
 impl<G: Game> Model for Board<G> {
     ghost use Rattle.std.specs.Prelude.{◌≡◌, ◌+◌, ◌*◌, ◌≤◌};
+    ghost use Rattle.sim_game.specs.declared.TheConstants.{MOST_ROWS};
+    ghost use Rattle.sim_game.specs.Resolution.{IsFineWeight};
     ghost use Rattle.shared_board.specs.Values.{BoardValue};
 
     ghost Value = { BoardValue G };
@@ -38,8 +42,8 @@ impl<G: Game> Model for Board<G> {
     ghost view = { λ b. record { name = b.words.shared.table_id; game = b.game; rows = b.rows; total = b.total } };
 
     ghost invariant = { λ b. (b.words.shared.key ≡ (b.game, b.rows)) × (b.words.shared.table_id.words ≡ 3 * b.rows + 1)
-        × (1 ≤ b.rows) × (b.rows ≤ 1048576) × (b.words.shared.table_id.slots ≡ 0) × (8192 ≤ b.total)
-        × (b.total ≤ 1048576) };
+        × (1 ≤ b.rows) × (b.rows ≤ MOST_ROWS) × (b.words.shared.table_id.slots ≡ 0) × (8192 ≤ b.total)
+        × (b.total ≤ 1048576) × IsFineWeight (G.model b.game) b.total };
 }
 
 /// 65535 tickets of the board were issued.
@@ -55,16 +59,16 @@ pub struct JoinError<G: Game> {
 const MOST_TICKETS: u32 = 65535;
 
 impl<G: Game> Board<G> {
-    /// A board of free rows, and the pass of its lead.
+    /// A board of 1 to `MOST_ROWS` free rows, and the pass of its lead.
     pub fn create(
         alloc: Global,
         game: G,
         rows: u32,
         total: u32,
     ) -> Result<(Board<G>, Pass<G>), NoMemory>
-        requires rows_low { 1 ≤ rows }
-        requires rows_high { rows ≤ 1048576 }
+        requires rows { (1 ≤ rows) × (rows ≤ MOST_ROWS) }
         requires total_low { 8192 ≤ total }
+        requires total_fine { IsFineWeight (G.model game) total }
         requires total_high { total ≤ 1048576 }
         ensures game { IfOk result (λ r. r.0.game ≡ game) }
         ensures rows { IfOk result (λ r. r.0.rows ≡ rows) }

@@ -2,6 +2,7 @@
 ghost use Rattle.std.specs.Prelude.{◌≡◌, ℕ, ◌+◌, ◌*◌, ◌<◌, ◌≤◌, true, [], length, vec_capacity, IfOk, OnOk, IfErr};
 ghost use Rattle.std.specs.Mem.Slots.{slots_items, slots_len, IsFull};
 ghost use Rattle.sim_game.specs.declared.Side.{Side};
+ghost use Rattle.sim_game.specs.declared.TheConstants.{MOST_ROWS};
 ghost use Rattle.plan_book.specs.Books.{IsClosed};
 ghost use Rattle.shared_board.specs.Words.{bound_in_row};
 ghost use Rattle.shared_board.specs.Values.{IsPassOf};
@@ -49,7 +50,7 @@ pub enum CloseError<G: Game> {
 
 /// The claimed rows among so many, in order.
 fn keep_rows(words: &ClosedWords<(), Global>, rows: u32, kept: &mut Vec<Kept>)
-    requires words { IsFull words.now.words × (slots_len words.now.words ≡ 3 * rows + 1) × (rows ≤ 1048576) }
+    requires words { IsFull words.now.words × (slots_len words.now.words ≡ 3 * rows + 1) × (rows ≤ MOST_ROWS) }
     requires bounds { (side : Side) (i : ℕ) → i < rows
         → bound_in_row (slots_items words.now.words) side i ≤ 8000000000 }
     requires kept { (kept.old.items ≡ []) × (rows ≤ vec_capacity kept.old) }

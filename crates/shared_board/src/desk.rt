@@ -54,7 +54,7 @@ impl<'a, G: Game> Desk<'a, G> {
         Desk {
             board,
             pass,
-            known: KnownRows::new(board.alloc),
+            known: KnownRows::new(board.alloc, board.rows),
             marks: Marks::new(board.alloc),
         }
     }

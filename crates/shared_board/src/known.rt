@@ -2,6 +2,7 @@
 ghost use Rattle.std.specs.Prelude.{◌≡◌, ℕ, ◌+◌, ◌^◌, ◌<◌, [], ◌∷◌, All, Contains, replicate, slice_set, length, vec_len, IfSome};
 ghost use Rattle.shared_board.specs.Known.{IsFreeOrIn};
 
+use sim_game::MOST_ROWS;
 use std::alloc::Global;
 use std::mem::size_of;
 
@@ -22,12 +23,14 @@ pub(crate) struct KnownRows {
     pub places: Vec<Place>,
     /// How many more places may be taken before they double.
     pub room: usize,
-    pub may_grow: bool,
+    /// They double as long as they are fewer.
+    pub most: usize,
 }
 
 const LEAST_PLACES: usize = 1024;
 
-const MOST_PLACES: usize = 1048576;
+/// The places double up to so many, and beyond as far as the board has rows.
+const MANY_PLACES: usize = 1048576;
 
 /// How many places are tried for a key: with three quarters taken, all but a few keys in a thousand find a free one.
 const MOST_TRIED: u32 = 32;
@@ -41,7 +44,7 @@ fn first_place(key: u64, places: usize) -> usize
     // Multiplicative hashing: the high bits of the product depend on all fields of the key. A second product brings
     // them into range without a division.
     let hash = key.wrapping_mul(0x9e37_79b9_7f4a_7c15) >> 32;
-    ((hash * places.min(MOST_PLACES) as u64) >> 32) as usize
+    ((hash * places.min(MOST_ROWS as usize) as u64) >> 32) as usize
 }
 
 /// The place behind, which is the first one behind the last.
@@ -70,19 +73,19 @@ fn place_for(places: &[Place], key: u64) -> usize
 }
 
 impl KnownRows {
-    /// No rows, and no places for any. It takes no memory.
-    pub(crate) fn new(alloc: Global) -> KnownRows
+    /// No rows of a board of so many, and no places for any. It takes no memory.
+    pub(crate) fn new(alloc: Global, rows: u32) -> KnownRows
         ensures { result.places.items ≡ [] }
     {
         KnownRows {
             places: Vec::new(alloc),
             room: 0,
-            may_grow: true,
+            most: MANY_PLACES.max(rows as usize),
         }
     }
 
     /// So many free places, where there is memory for them.
-    fn with_places(alloc: Global, places: usize) -> Option<KnownRows>
+    fn with_places(alloc: Global, places: usize, most: usize) -> Option<KnownRows>
         ensures { IfSome result (λ known. known.places.items
             ≡ replicate places (record { key = 0; row_plus_one = 0 })) }
     {
@@ -94,7 +97,7 @@ impl KnownRows {
             Ok(free_places) => Some(KnownRows {
                 places: free_places,
                 room: places / 4 * 3,
-                may_grow: places < MOST_PLACES,
+                most,
             }),
             Err(_) => None,
         }
@@ -139,12 +142,12 @@ impl KnownRows {
     fn make_room(&mut self, alloc: Global)
         ensures { All (IsFreeOrIn self.old.places.items) self.new.places.items }
     {
-        if self.room > 0 || !self.may_grow {
+        if self.room > 0 || self.places.len() >= self.most {
             return;
         }
         let places = (2 * self.places.len()).max(LEAST_PLACES);
-        let Some(mut wider) = KnownRows::with_places(alloc, places) else {
-            self.may_grow = false;
+        let Some(mut wider) = KnownRows::with_places(alloc, places, self.most) else {
+            self.most = 0;
             return;
         };
         for place in &self.places {

@@ -1,5 +1,6 @@
 //! Bounds as words of a board.
 ghost use Rattle.std.specs.Prelude.{◌≡◌, ◌+◌, ◌*◌, ◌≤◌, pos, neg_ℤ, ◌≤ℤ◌, IfOk};
+ghost use Rattle.sim_game.specs.declared.TheConstants.{MOST_ROWS};
 ghost use Rattle.shared_board.specs.Words.{word_of, as_bound, IsBlank};
 
 use sim_game::NoMemory;
@@ -32,7 +33,7 @@ pub(crate) fn blank_words(
     low: u64,
     high: u64,
 ) -> Result<Vec<u64>, NoMemory>
-    requires { rows ≤ 1048576 }
+    requires { rows ≤ MOST_ROWS }
     ensures { IfOk result (λ v. IsBlank v.items rows low high) }
 {
     let mut words = Vec::with_capacity(alloc, 3 * rows as usize + 1)?;

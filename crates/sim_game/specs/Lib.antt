@@ -1,4 +1,5 @@
 pub mod Model
+pub mod Numbers
 pub mod Resolution
 pub mod Sides
 pub use Rattle.sums.specs.Sums

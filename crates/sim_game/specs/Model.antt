@@ -3,6 +3,8 @@ use Rattle.std.specs.Prelude.{◌≡◌, ◌≢◌, ℕ, ◌<◌, ◌≤◌, ◌
 use Rattle.sim_game.specs.declared.Side.{Side}
 use Rattle.sim_game.specs.declared.Side.TheVariants.{One, Two}
 use Rattle.sums.specs.Sums.{count_below}
+use Rattle.sums.specs.declared.TheConstants.{MOST_MOVES}
+use Rattle.sim_game.specs.declared.TheConstants.{MOST_TURNS}
 
 pub record GameModel (S : Type 0) : Type 0 where
   pub root : S
@@ -84,14 +86,14 @@ IsEnd m s = m.rank s ≡ 0
 -- what every game promises
 pub record IsGame {S : Type 0} (m : GameModel S) : Type 0 where
   pub width_low : 1 ≤ m.width
-  pub width_high : m.width ≤ 32
+  pub width_high : m.width ≤ MOST_MOVES
   pub low_least : neg_ℤ (pos 4000) ≤ℤ m.low
   pub low_high : m.low ≤ℤ m.high
   pub high_most : m.high ≤ℤ pos 4000
   pub end_moves : (side : Side) (s : S) → Reachable m s → IsEnd m s → m.moves side s ≡ 0
   pub other_moves : (side : Side) (s : S) → Reachable m s → 1 ≤ m.rank s → 1 ≤ m.moves side s
   pub moves_high : (side : Side) (s : S) → Reachable m s → m.moves side s ≤ m.width
-  pub rank_high : (s : S) → Reachable m s → m.rank s ≤ 31
+  pub rank_high : (s : S) → Reachable m s → m.rank s ≤ MOST_TURNS
   pub rank_falls : (s : S) (t : Turn) → Reachable m s → IsTurn m s t → m.rank (after_turn m s t) < m.rank s
   pub least_low : (s : S) → Reachable m s → m.low ≤ℤ m.least s
   pub most_high : (s : S) → Reachable m s → m.most s ≤ℤ m.high

@@ -2,7 +2,9 @@
 #![tactic(auto)]
 
 ghost use Rattle.std.specs.Prelude.{◌≡◌, ℕ, ◌<◌, ◌≤◌, pos, ◌≤ℤ◌};
-ghost use Rattle.sim_game.specs.Model.{GameModel, IsGame, IsEnd, HasAtMost, Reachable};
+ghost use Rattle.sums.specs.declared.TheConstants.{MOST_MOVES};
+ghost use Rattle.sim_game.specs.Model.{GameModel, HasAtMost, IsGame, IsEnd, Reachable};
+ghost use Rattle.sim_game.specs.Numbers.{Numbering, IsNumbering};
 ghost use Rattle.sim_game.specs.Resolution.{IsLeastGap, IsResolution};
 
 mod sides;
@@ -13,8 +15,22 @@ use std::alloc::{AllocError, AllocFailed};
 /// How many parts a payoff of 1 has in a bound.
 pub const SCALE: i64 = 1000000;
 
+/// The most turns of a history: a rank fits six bits.
+pub const MOST_TURNS: u32 = 63;
+
+/// The most rows of a board, and of a sheet.
+pub const MOST_ROWS: u32 = 16_777_216;
+
 /// What the weights of the draws of one pair of moves sum to.
 pub const CHANCE: u32 = 360360;
+
+/// What a position may hold. The wide limits are those of positions with linear stages, and of reports from version 3
+/// on; the narrow ones those of all others.
+#[derive(Clone, Copy, PartialEq, Eq, Debug)]
+pub enum Limits {
+    Narrow,
+    Wide,
+}
 
 /// There was no memory.
 #[derive(Clone, Copy, PartialEq, Eq, Debug)]
@@ -46,6 +62,9 @@ pub trait Game: Copy {
 
     /// The game that the calls speak of.
     ghost model: { Self → GameModel Self.State };
+
+    /// The places of the states.
+    ghost numbering: { Self → Numbering Self.State };
 
     /// The position itself.
     fn root(&self) -> Self::State
@@ -89,7 +108,7 @@ pub trait Game: Copy {
         requires { Reachable (model self.now) s }
         ensures { result ≡ (model self.now).most s };
 
-    /// The rank, 0 to 31: 0 exactly at an end, and lower after each turn.
+    /// The rank, 0 to `MOST_TURNS`: 0 exactly at an end, and lower after each turn.
     fn rank(&self, s: Self::State) -> u32
         requires { Reachable (model self.now) s }
         ensures { result ≡ (model self.now).rank s };
@@ -99,12 +118,15 @@ pub trait Game: Copy {
         requires { Reachable (model self.now) s }
         ensures { result ≡ (model self.now).key s };
 
-    /// A number that the states, ends included, are no more than. A board of more rows is never full.
+    /// How many places there are, 2^63 where a game does not count its states. The states, ends included, are no more;
+    /// a board of more rows is never full.
     fn most_states(&self) -> u64
-        ensures { HasAtMost (model self.now) result }
-    {
-        1 << 63
-    }
+        ensures { result ≡ (numbering self.now).most };
+
+    /// The place of a state, below `most_states`. No two states of the game have one place.
+    fn place(&self, s: Self::State) -> u64
+        requires { Reachable (model self.now) s }
+        ensures { result ≡ (numbering self.now).place s };
 
     /// The least sum from any state on, at least -4000.
     fn low(&self) -> i32
@@ -114,7 +136,7 @@ pub trait Game: Copy {
     fn high(&self) -> i32
         ensures { result ≡ (model self.now).high };
 
-    /// An upper limit on the moves of a side, 1 to 32.
+    /// An upper limit on the moves of a side, 1 to `MOST_MOVES`.
     fn width(&self) -> u32
         ensures { result ≡ (model self.now).width };
 
@@ -152,6 +174,8 @@ pub trait Game: Copy {
         ensures { result ≡ (model self.now).drawn s a b d };
 
     ghost lawful: { (g : Self) → IsGame (model g) };
+
+    ghost numbered: { (g : Self) → IsNumbering (model g) (numbering g) };
 }
 
 /// The gap, in millionths of a payoff, that a search with stages of this weight reaches at the root.
@@ -169,7 +193,7 @@ pub fn resolution<G: Game>(g: G, weight: u32) -> i64
 
 /// The least gap for which the stage law holds at this width and range of payoffs, by bisection.
 fn least_gap(width: u32, range: u32, weight: u32) -> u32
-    requires width { width ≤ 32 }
+    requires width { width ≤ MOST_MOVES }
     requires range { range ≤ 8000 }
     requires low { 8192 ≤ weight }
     requires high { weight ≤ 1048576 }
@@ -191,7 +215,9 @@ fn least_gap(width: u32, range: u32, weight: u32) -> u32
     low
 }
 
-/// A game keeps its laws.
+/// A game keeps its laws, and has no more states than places.
 pub fn keeps_laws<G: Game>(_g: &G)
-    ensures { IsGame (G.model _g.now) }
+    ensures game { IsGame (G.model _g.now) }
+    ensures numbered { IsNumbering (G.model _g.now) (G.numbering _g.now) }
+    ensures states { HasAtMost (G.model _g.now) (G.numbering _g.now).most }
 {}

@@ -1,5 +1,5 @@
 -- That the report of what was found is a solution.
-use Rattle.std.proofs.Common.{◌≡◌, ℕ, ◌<◌, ◌≤◌, ℤ, ◌-ℤ◌, ◌≤ℤ◌, List, [], ◌∷◌, length, All, w64, SFits, to_z, of_z, refl, sym, subst, ◌∙◌, arith}
+use Rattle.std.proofs.Common.{◌≡◌, ℕ, ◌<◌, ◌≤◌, ℤ, ◌-ℤ◌, ◌≤ℤ◌, false, List, [], ◌∷◌, length, All, w64, SFits, to_z, of_z, refl, sym, subst, ◌∙◌, arith}
 use Rattle.std.specs.List.{AllByRecursion}
 use Rattle.std.proofs.lemmas.Int.{ints, to_z-of_z}
 use Rattle.std.proofs.lemmas.List.{length-map}
@@ -15,8 +15,7 @@ use Rattle.fields.specs.declared.positions.PositionText.{PositionText}
 use Rattle.certificate.specs.declared.report.Report.{Report}
 use Rattle.certificate.specs.Outcomes.{Allows}
 use Rattle.fields.specs.Ranges.{Within, IsAskInRange, IsPositionInRange}
-use Rattle.fields.specs.declared.positions.Limits.{Limits}
-use Rattle.certificate.specs.Versions.{limits_of, version_of}
+use Rattle.certificate.specs.Versions.{limits_of, is_long, needs_newest, version_of}
 use Rattle.certificate.specs.Ranges.{IsSheetInRange, IsInRange}
 use Rattle.matrix_game.specs.Budget.{Budget}
 use Rattle.lazy_workers.specs.declared.summary.Found.{Found}
@@ -26,8 +25,8 @@ use Rattle.lazy_workers.specs.Searched.{HasRoom, TooFewTurns}
 use Rattle.lazy_workers.proofs.FoundLemmas.{found_game}
 use Rattle.solution.specs.declared.report.Solved.{Solved}
 use Rattle.solution.specs.Outcomes.{HasGap, IsOutcomeFor}
-use Rattle.solution.specs.Solutions.{spent_of, report_with, IsReportOf, IsSolution, IsSolvedGame}
-use Rattle.solution.proofs.RangeLemmas.{sheet_in_range}
+use Rattle.solution.specs.Solutions.{spent_of, HasWidthOf, report_with, IsReportOf, IsSolution, IsSolvedGame}
+use Rattle.solution.proofs.RangeLemmas.{rows_in, moves_in, short_one, short_two, sheet_in_range}
 
 -- what holds of each worker's spent turns holds of its turns
 from_spent : (P : ℕ → Type 0) (turns : List Budget) → AllByRecursion P (spent_of turns) → AllByRecursion (λ t. P t.spent) turns
@@ -38,7 +37,7 @@ module _ {S : Type 0} (m : GameModel S) (ask : Ask) (x : Found) (found : IsFound
   pub has_gap : HasGap x
   has_gap = record { lower = found.one.small; upper = found.two.small }
 
-  module _ (game : IsGame m) (asks : IsAskInRange ask) (text : PositionText) (place : IsPositionInRange text)
+  module _ (game : IsGame m) (asks : IsAskInRange ask) (text : PositionText) (place : IsPositionInRange text) (width : HasWidthOf m text)
       (outcome : Outcome) (ends : IsOutcomeFor (found_gap x) ask.gap x.resolution x.was_full outcome) where
     abbrev r : Report
     r = report_with text ask x outcome
@@ -50,10 +49,11 @@ module _ {S : Type 0} (m : GameModel S) (ask : Ask) (x : Found) (found : IsFound
     none_spent : All (λ n. n ≡ 0) (spent_of x.turns) → All (λ t. t.spent ≡ 0) x.turns
     none_spent each = All-from_recursion (λ t. t.spent ≡ 0) x.turns (from_spent (λ n. n ≡ 0) x.turns (recursion_from_All (λ n. n ≡ 0) (spent_of x.turns) each))
 
-    in_sheet : (limits : Limits) (side : Side) (sheet : Sheet) (bound : ℤ) → IsFoundPlan m ask (IsIdle m ask x) side sheet bound → IsSheetInRange limits side ask.weight sheet
-    in_sheet limits side sheet bound plan =
+    in_sheet : (side : Side) (sheet : Sheet) (bound : ℤ) → IsFoundPlan m ask (IsIdle m ask x) side sheet bound → (needs_newest r ≡ false → is_long sheet ≡ false)
+        → IsSheetInRange (limits_of (version_of r)) side ask.weight sheet
+    in_sheet side sheet bound plan short =
         let few = plan.few in let rows = asks.rows in let weight = asks.weight in let total = plan.total_is in
-        let ranged = sheet_in_range m game limits sheet plan.lawful (omega arith) (omega arith) in
+        let ranged = sheet_in_range m game (limits_of (version_of r)) sheet plan.lawful (omega arith) (moves_in r m.width game.width_high width) (rows_in r sheet (omega arith) short) in
         record { side_is = plan.side_is; total_is = total; few = ranged.few; rows = ranged.rows; moves = ranged.moves; rising = ranged.rising }
 
     allowed : (o : Outcome) → IsOutcomeFor (found_gap x) ask.gap x.resolution x.was_full o → Allows (report_with text ask x o) o
@@ -84,8 +84,8 @@ module _ {S : Type 0} (m : GameModel S) (ask : Ask) (x : Found) (found : IsFound
       upper = found.two.small;
       workers = subst (λ (n : ℕ). Within 1 16 n) (sym (length-map x.turns (λ t. t.spent) ∙ found.workers)) asks.workers;
       spent = each_spent (λ n. n ≤ 1099511627776) (All-weaker (HasLimit ask) (λ t. t.spent ≤ 1099511627776) (λ t h. omega (arith, h.spent, asks.turns)) x.turns found.within);
-      one = in_sheet (limits_of (version_of r)) One x.one x.lower found.one;
-      two = in_sheet (limits_of (version_of r)) Two x.two x.upper found.two;
+      one = in_sheet One x.one x.lower found.one (short_one r);
+      two = in_sheet Two x.two x.upper found.two (short_two r);
     }
 
     solution : IsSolution m text ask r
@@ -114,14 +114,14 @@ module _ {S : Type 0} (m : GameModel S) (ask : Ask) (x : Found) (found : IsFound
     }
 
   -- the report of what was found of a game is a solution of it
-  pub found_solution : (text : PositionText) (s : Solved) → IsReportOf text ask x s → IsGame m → IsAskInRange ask → IsPositionInRange text
+  pub found_solution : (text : PositionText) (s : Solved) → IsReportOf text ask x s → IsGame m → IsAskInRange ask → IsPositionInRange text → HasWidthOf m text
       → IsSolution m text ask s.report
-  found_solution text s is game asks place =
-      subst (λ (s : Solved). IsSolution m text ask s.report) (sym is.is_solved) (solution game asks text place is.outcome is.is_outcome)
+  found_solution text s is game asks place width =
+      subst (λ (s : Solved). IsSolution m text ask s.report) (sym is.is_solved) (solution game asks text place width is.outcome is.is_outcome)
 
 -- what the closed board shows of the report
 module _ {S : Type 0} (m : GameModel S) (ask : Ask) (x : Found) (found : IsFoundFor m ask 0 x) where
-  module _ (game : IsGame m) (asks : IsAskInRange ask) (text : PositionText) (place : IsPositionInRange text)
+  module _ (game : IsGame m) (asks : IsAskInRange ask) (text : PositionText) (place : IsPositionInRange text) (width : HasWidthOf m text)
       (outcome : Outcome) (ends : IsOutcomeFor (found_gap x) ask.gap x.resolution x.was_full outcome) where
     no_row : (o : Outcome) → o ≡ Full → IsOutcomeFor (found_gap x) ask.gap x.resolution x.was_full o → length x.kept ≡ ask.rows
     no_row Full is e = found.full e.2
@@ -133,7 +133,7 @@ module _ {S : Type 0} (m : GameModel S) (ask : Ask) (x : Found) (found : IsFound
 
     solved_with : IsSolvedGame m text ask (record { report = report_with text ask x outcome; turns = x.turns; kept = x.kept })
     solved_with = record {
-      solution = solution m ask x (found_game m ask x found) game asks text place outcome ends;
+      solution = solution m ask x (found_game m ask x found) game asks text place width outcome ends;
       within = found.game.within;
       spent = refl;
       one_kept = found.one_kept.rows;
@@ -142,9 +142,10 @@ module _ {S : Type 0} (m : GameModel S) (ask : Ask) (x : Found) (found : IsFound
       root = λ row held at. (found.one_kept.root row held at, found.two_kept.root row held at);
     }
 
-  pub solved_game : (text : PositionText) (s : Solved) → IsReportOf text ask x s → IsGame m → IsAskInRange ask → IsPositionInRange text → IsSolvedGame m text ask s
-  solved_game text s is game asks place =
-      subst (IsSolvedGame m text ask) (sym is.is_solved) (solved_with game asks text place is.outcome is.is_outcome)
+  pub solved_game : (text : PositionText) (s : Solved) → IsReportOf text ask x s → IsGame m → IsAskInRange ask → IsPositionInRange text → HasWidthOf m text
+      → IsSolvedGame m text ask s
+  solved_game text s is game asks place width =
+      subst (IsSolvedGame m text ask) (sym is.is_solved) (solved_with game asks text place width is.outcome is.is_outcome)
 
 pub gap_fits : (x : Found) → HasGap x → SFits w64 x.lower → SFits w64 x.upper → SFits w64 (to_z w64 (of_z w64 x.upper) -ℤ to_z w64 (of_z w64 x.lower))
 gap_fits x small lower_fits upper_fits =

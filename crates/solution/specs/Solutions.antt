@@ -1,6 +1,7 @@
 -- What a report says of a game.
-use Rattle.std.specs.Prelude.{◌≡◌, ℕ, ◌<◌, ◌≤◌, pos, ◌≤ℤ◌, List, length, map, All, Contains}
+use Rattle.std.specs.Prelude.{◌≡◌, ℕ, ◌<◌, ◌≤◌, true, pos, ◌≤ℤ◌, List, length, map, All, Contains}
 use Rattle.sim_game.specs.declared.Side.TheVariants.{One, Two}
+use Rattle.sim_game.specs.declared.Limits.TheVariants.{Narrow}
 use Rattle.sim_game.specs.Model.{GameModel}
 use Rattle.sim_game.specs.Sides.{better, state_bound}
 use Rattle.sim_game.specs.Resolution.{IsResolution}
@@ -12,6 +13,8 @@ use Rattle.certificate.specs.declared.report.Outcome.{Outcome}
 use Rattle.certificate.specs.declared.report.Outcome.TheVariants.{Closed, Spent, Full}
 use Rattle.fields.specs.declared.positions.PositionText.{PositionText}
 use Rattle.certificate.specs.declared.report.Report.{Report}
+use Rattle.fields.specs.Positions.{is_narrow}
+use Rattle.certificate.specs.Versions.{most_moves}
 use Rattle.certificate.specs.Outcomes.{IsAllowed}
 use Rattle.certificate.specs.Ranges.{IsInRange}
 use Rattle.shared_board.specs.declared.close.Kept.{Kept}
@@ -49,6 +52,10 @@ pub record IsReportOf (text : PositionText) (ask : Ask) (x : Found) (s : Solved)
   pub outcome : Outcome
   pub is_outcome : IsOutcomeFor (found_gap x) ask.gap x.resolution x.was_full outcome
   pub is_solved : s ≡ record { report = report_with text ask x outcome; turns = x.turns; kept = x.kept }
+
+-- a game of a position within the narrow limits has no more moves of a side than these allow
+abbrev pub HasWidthOf : {S : Type 0} → GameModel S → PositionText → Type 0
+HasWidthOf m text = is_narrow text ≡ true → m.width ≤ most_moves Narrow
 
 -- the report tells what was asked
 pub record IsOfAsk (text : PositionText) (ask : Ask) (r : Report) : Type 0 where

@@ -8,7 +8,7 @@ ghost use Rattle.lazy_workers.specs.Findings.{IsFoundGame, IsFoundFor};
 ghost use Rattle.lazy_workers.specs.declared.summary.Found.{Found};
 ghost use Rattle.solution.specs.declared.report.Solved.{Solved};
 ghost use Rattle.solution.specs.Outcomes.{HasGap, IsOutcomeFor};
-ghost use Rattle.solution.specs.Solutions.{spent_of, IsReportOf, IsSolution, IsSolvedGame};
+ghost use Rattle.solution.specs.Solutions.{spent_of, HasWidthOf, IsReportOf, IsSolution, IsSolvedGame};
 
 use certificate::{Ask, Outcome, PositionText, Report};
 use lazy_workers::Found;
@@ -61,10 +61,10 @@ pub fn report_of(
 /// The report of what was found of a game is a solution of the game; and where a board is left, its rows account for it.
 pub fn reports_are_solutions<G: Game>(g: &G)
     ensures solutions { (text : PositionText) (ask : Ask) (x : Found) → IsAskInRange ask → IsPositionInRange text
-        → IsFoundGame (G.model g.now) ask x → (s : Solved) → IsReportOf text ask x s
+        → HasWidthOf (G.model g.now) text → IsFoundGame (G.model g.now) ask x → (s : Solved) → IsReportOf text ask x s
         → IsSolution (G.model g.now) text ask s.report }
     ensures rows { (text : PositionText) (ask : Ask) (x : Found) → IsAskInRange ask → IsPositionInRange text
-        → IsFoundFor (G.model g.now) ask 0 x → (s : Solved) → IsReportOf text ask x s
+        → HasWidthOf (G.model g.now) text → IsFoundFor (G.model g.now) ask 0 x → (s : Solved) → IsReportOf text ask x s
         → IsSolvedGame (G.model g.now) text ask s }
 {}
 

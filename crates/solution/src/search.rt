@@ -1,9 +1,10 @@
 //! The search of a position's game, and its report.
 
 ghost use Rattle.std.specs.Prelude.{IfOk};
+ghost use Rattle.sim_game.specs.Resolution.{IsFineWeight};
 ghost use Rattle.fields.specs.Ranges.{IsAskInRange, IsPositionInRange};
 ghost use Rattle.lazy_workers.specs.Findings.{IsFoundFor};
-ghost use Rattle.solution.specs.Solutions.{IsSolvedGame};
+ghost use Rattle.solution.specs.Solutions.{HasWidthOf, IsSolvedGame};
 
 use crate::report::{Solved, report_of};
 use certificate::{Ask, PositionText};
@@ -26,7 +27,9 @@ pub fn solve<R: Threads + Sync, G: Game + Send + Sync, T: Gate + Sync>(
 where
     G::State: Send + Sync,
     requires ask { IsAskInRange ask.now }
+    requires fine { IsFineWeight (G.model g) ask.now.weight }
     requires position { IsPositionInRange position }
+    requires width { HasWidthOf (G.model g) position }
     ensures { IfOk result (IsSolvedGame (G.model g) position ask.now) }
 {
     let budgets = Budgets::whole(alloc, ask)?;
@@ -43,7 +46,9 @@ pub fn solve_alone<G: Game, T: Gate>(
     gate: &T,
 ) -> Result<Solved, NoMemory>
     requires ask { IsAskInRange ask.now }
+    requires fine { IsFineWeight (G.model g) ask.now.weight }
     requires position { IsPositionInRange position }
+    requires width { HasWidthOf (G.model g) position }
     ensures { IfOk result (IsSolvedGame (G.model g) position ask.now) }
 {
     let budgets = Budgets::whole(alloc, ask)?;
@@ -61,6 +66,7 @@ fn report_for<G: Game>(
 ) -> Result<Solved, NoMemory>
     requires ask { IsAskInRange ask.now }
     requires position { IsPositionInRange position }
+    requires width { HasWidthOf (G.model g.now) position }
     requires found { IsFoundFor (G.model g.now) ask.now 0 found }
     ensures { IfOk result (IsSolvedGame (G.model g.now) position ask.now) }
 {

@@ -4,6 +4,9 @@
 ghost use Rattle.std.specs.Prelude.{◌≡◌, ◌*◌, ◌≤◌, pos, neg_ℤ, ◌*ℤ◌, ◌<ℤ◌, unsigned_abs};
 ghost use Rattle.sums.specs.Quotients.{floor_quotient, ceiling_quotient};
 
+/// The most moves of a side: two sets of them are two words of 64 bits, and a move's number fits a byte.
+pub const MOST_MOVES: u32 = 64;
+
 /// The greatest weight of a move.
 pub const MOST_WEIGHT: u32 = 1_048_576;
 

@@ -1,5 +1,6 @@
 -- Tables computed by hand.
 use Rattle.std.proofs.Common.{◌≡◌, ℕ, ◌+◌, ℤ, pos, negsuc, neg_ℤ, Bool, true, false, List, [], ◌∷◌, map, replicate, Option, None, Some, refl}
+use Rattle.sim_game.specs.declared.Limits.TheVariants.{Narrow, Wide}
 use Rattle.table.specs.declared.TableError.{TableError}
 use Rattle.table.specs.declared.TableError.TheVariants as errors
 use Rattle.table.specs.Faults.{first_fault}
@@ -20,7 +21,7 @@ draw state weight = pos state ∷ pos weight ∷ []
 abbrev pennies : List StateForm
 pennies = Rows (pair (to 1) (to 2) ∷ pair (to 2) (to 1) ∷ []) ∷ End (pos 1) ∷ End (neg_ℤ (pos 1)) ∷ []
 
-pennies_in_range : are_in_range pennies ≡ true
+pennies_in_range : are_in_range Narrow pennies ≡ true
 pennies_in_range = refl
 
 abbrev pennies_lists : Lists
@@ -36,7 +37,7 @@ pennies_lists = record {
 lists_of_pennies : lists_of_states pennies ≡ pennies_lists
 lists_of_pennies = refl
 
-pennies_fine : first_fault pennies_lists ≡ None
+pennies_fine : first_fault Narrow pennies_lists ≡ None
 pennies_fine = refl
 
 pennies_low : (table_game pennies_lists).low ≡ neg_ℤ (pos 1)
@@ -62,7 +63,7 @@ stages =
     ∷ Rows (pair (to 3) (to 4) ∷ pair (to 5) (to 6) ∷ [])
     ∷ End (pos 5) ∷ End (pos 1) ∷ End (neg_ℤ (pos 1)) ∷ End (neg_ℤ (pos 5)) ∷ []
 
-stages_in_range : are_in_range stages ≡ true
+stages_in_range : are_in_range Narrow stages ≡ true
 stages_in_range = refl
 
 abbrev stages_lists : Lists
@@ -78,7 +79,7 @@ stages_lists = record {
 lists_of_stages : lists_of_states stages ≡ stages_lists
 lists_of_stages = refl
 
-stages_fine : first_fault stages_lists ≡ None
+stages_fine : first_fault Narrow stages_lists ≡ None
 stages_fine = refl
 
 stages_with_chance : (table_game stages_lists).chance_free ≡ false
@@ -107,7 +108,7 @@ tolls =
     ∷ Rows (pair (to 2) (to 3) ∷ pair (to 3) (to 2) ∷ [])
     ∷ End (pos 1) ∷ End (neg_ℤ (pos 1)) ∷ []
 
-tolls_in_range : are_in_range tolls ≡ true
+tolls_in_range : are_in_range Narrow tolls ≡ true
 tolls_in_range = refl
 
 abbrev tolls_lists : Lists
@@ -123,7 +124,7 @@ tolls_lists = record {
 lists_of_tolls : lists_of_states tolls ≡ tolls_lists
 lists_of_tolls = refl
 
-tolls_fine : first_fault tolls_lists ≡ None
+tolls_fine : first_fault Narrow tolls_lists ≡ None
 tolls_fine = refl
 
 tolls_reward : (table_game tolls_lists).reward (record { number = 0 }) 1 1 1 ≡ neg_ℤ (pos 1)
@@ -175,7 +176,7 @@ backward_has_rank_one = refl
 abbrev unreached : List StateForm
 unreached = Rows ((to 3 ∷ []) ∷ []) ∷ Rows ((to 2 ∷ []) ∷ (to 2 ∷ []) ∷ (Draws (draw 2 180180 ∷ draw 3 180180 ∷ []) ∷ []) ∷ []) ∷ End (neg_ℤ (pos 7)) ∷ End (pos 0) ∷ []
 
-unreached_fine : first_fault (lists_of_states unreached) ≡ None
+unreached_fine : first_fault Narrow (lists_of_states unreached) ≡ None
 unreached_fine = refl
 
 unreached_low : (table_game (lists_of_states unreached)).low ≡ neg_ℤ (pos 7)
@@ -192,7 +193,7 @@ unreached_chance = refl
 
 -- ---- forms out of range
 abbrev in_range : StateForm → Bool
-in_range form = are_in_range (form ∷ [])
+in_range form = are_in_range Narrow (form ∷ [])
 
 high_end : in_range (End (pos 1000001)) ≡ false
 high_end = refl
@@ -208,6 +209,19 @@ state_below_none = refl
 
 weight_too_long : in_range (Rows ((Draws (draw 1 1048576 ∷ []) ∷ []) ∷ [])) ≡ false
 weight_too_long = refl
+
+-- within the wide limits
+abbrev in_wide_range : StateForm → Bool
+in_wide_range form = are_in_range Wide (form ∷ [])
+
+longest_weight : in_wide_range (Rows ((Draws (draw 16777215 16777215 ∷ []) ∷ []) ∷ [])) ≡ true
+longest_weight = refl
+
+state_too_far : in_wide_range (Rows ((to 16777216 ∷ []) ∷ [])) ≡ false
+state_too_far = refl
+
+same_end : in_wide_range (End (pos 1000001)) ≡ false
+same_end = refl
 
 abbrev draw_in : List ℤ → Bool
 draw_in numbers = in_range (Rows ((Draws (numbers ∷ []) ∷ []) ∷ []))
@@ -238,7 +252,7 @@ too_many_draws = refl
 
 -- ---- what is told of forms in range: each refusal, and its place
 abbrev told_of : List StateForm → Option TableError
-told_of forms = first_fault (lists_of_states forms)
+told_of forms = first_fault Narrow (lists_of_states forms)
 
 no_states : told_of [] ≡ Some errors.NoStates
 no_states = refl
@@ -251,6 +265,18 @@ no_rows = refl
 
 many_rows : told_of (Rows (replicate 33 (to 1 ∷ [])) ∷ End (pos 0) ∷ []) ≡ Some (errors.RowsRange 0)
 many_rows = refl
+
+abbrev told_wide : List StateForm → Option TableError
+told_wide forms = first_fault Wide (lists_of_states forms)
+
+most_rows_wide : told_wide (Rows (replicate 64 (to 1 ∷ [])) ∷ End (pos 0) ∷ []) ≡ None
+most_rows_wide = refl
+
+many_rows_wide : told_wide (Rows (replicate 65 (to 1 ∷ [])) ∷ End (pos 0) ∷ []) ≡ Some (errors.RowsRange 0)
+many_rows_wide = refl
+
+many_cells_wide : told_wide (Rows (replicate 65 (to 1) ∷ []) ∷ End (pos 0) ∷ []) ≡ Some (errors.CellsRange 0)
+many_cells_wide = refl
 
 no_cells : told_of (Rows ([] ∷ [] ∷ []) ∷ End (pos 0) ∷ []) ≡ Some (errors.CellsRange 0)
 no_cells = refl
@@ -295,32 +321,38 @@ longest_line = refl
 line_too_long : told_of (line_from 0 (replicate 32 0)) ≡ Some (errors.Turns 0)
 line_too_long = refl
 
+longest_line_wide : told_wide (line_from 0 (replicate 63 0)) ≡ None
+longest_line_wide = refl
+
+line_too_long_wide : told_wide (line_from 0 (replicate 64 0)) ≡ Some (errors.Turns 0)
+line_too_long_wide = refl
+
 -- ---- lists that are those of no states
 abbrev counts : List ℕ → List ℤ
 counts = map pos
 
-rank_missing : first_fault (lists_from (counts (1 ∷ 0 ∷ [])) (counts (2 ∷ 2 ∷ 0 ∷ 0 ∷ 0 ∷ 0 ∷ []))
+rank_missing : first_fault Narrow (lists_from (counts (1 ∷ 0 ∷ [])) (counts (2 ∷ 2 ∷ 0 ∷ 0 ∷ 0 ∷ 0 ∷ []))
     (pos 0 ∷ pos 1 ∷ negsuc 0 ∷ []) (pos 1 ∷ pos 2 ∷ pos 2 ∷ pos 1 ∷ []) [] []) ≡ Some errors.Lists
 rank_missing = refl
 
-moves_at_end : first_fault (lists_from (counts (0 ∷ [])) (counts (1 ∷ 0 ∷ [])) (pos 0 ∷ []) [] [] []) ≡ Some errors.Lists
+moves_at_end : first_fault Narrow (lists_from (counts (0 ∷ [])) (counts (1 ∷ 0 ∷ [])) (pos 0 ∷ []) [] [] []) ≡ Some errors.Lists
 moves_at_end = refl
 
-draws_from_one : first_fault (lists_from (counts (1 ∷ 0 ∷ [])) (counts (1 ∷ 1 ∷ 0 ∷ 0 ∷ []))
+draws_from_one : first_fault Narrow (lists_from (counts (1 ∷ 0 ∷ [])) (counts (1 ∷ 1 ∷ 0 ∷ 0 ∷ []))
     (pos 0 ∷ pos 1 ∷ []) (negsuc 1 ∷ []) (counts (1 ∷ 180180 ∷ 1 ∷ 360360 ∷ [])) []) ≡ Some errors.Lists
 draws_from_one = refl
 
 -- the draws of the second cell begin before those of the first
-draws_fall : first_fault (lists_from (counts (1 ∷ 0 ∷ [])) (counts (1 ∷ 2 ∷ 0 ∷ 0 ∷ []))
+draws_fall : first_fault Narrow (lists_from (counts (1 ∷ 0 ∷ [])) (counts (1 ∷ 2 ∷ 0 ∷ 0 ∷ []))
     (pos 0 ∷ pos 0 ∷ []) (negsuc 1 ∷ negsuc 0 ∷ []) (counts (1 ∷ 360360 ∷ 1 ∷ 360360 ∷ [])) []) ≡ Some errors.Lists
 draws_fall = refl
 
 -- a cell that no state has
-cell_too_many : first_fault (lists_from (counts (1 ∷ 0 ∷ [])) (counts (1 ∷ 1 ∷ 0 ∷ 0 ∷ [])) (pos 0 ∷ pos 0 ∷ []) (pos 1 ∷ pos 1 ∷ []) [] []) ≡ Some errors.Lists
+cell_too_many : first_fault Narrow (lists_from (counts (1 ∷ 0 ∷ [])) (counts (1 ∷ 1 ∷ 0 ∷ 0 ∷ [])) (pos 0 ∷ pos 0 ∷ []) (pos 1 ∷ pos 1 ∷ []) [] []) ≡ Some errors.Lists
 cell_too_many = refl
 
 -- lists of a report may have a rank that is no longest way
-rank_too_high : first_fault (lists_from (counts (2 ∷ 0 ∷ 0 ∷ [])) (counts (2 ∷ 2 ∷ 0 ∷ 0 ∷ 0 ∷ 0 ∷ []))
+rank_too_high : first_fault Narrow (lists_from (counts (2 ∷ 0 ∷ 0 ∷ [])) (counts (2 ∷ 2 ∷ 0 ∷ 0 ∷ 0 ∷ 0 ∷ []))
     (pos 0 ∷ pos 1 ∷ negsuc 0 ∷ []) (pos 1 ∷ pos 2 ∷ pos 2 ∷ pos 1 ∷ []) [] []) ≡ Some (errors.Turns 0)
 rank_too_high = refl
 
@@ -345,6 +377,6 @@ back_in_range : told_of (toll (pos 8000) ∷ toll (pos 8000) ∷ End (neg_ℤ (p
 back_in_range = refl
 
 -- one reward for two draws
-reward_missing : first_fault (lists_from (counts (1 ∷ 0 ∷ [])) (counts (1 ∷ 1 ∷ 0 ∷ 0 ∷ []))
+reward_missing : first_fault Narrow (lists_from (counts (1 ∷ 0 ∷ [])) (counts (1 ∷ 1 ∷ 0 ∷ 0 ∷ []))
     (pos 0 ∷ pos 0 ∷ []) (negsuc 0 ∷ []) (counts (1 ∷ 180180 ∷ 1 ∷ 180180 ∷ [])) (pos 1 ∷ [])) ≡ Some errors.Lists
 reward_missing = refl

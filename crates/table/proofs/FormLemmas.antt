@@ -9,6 +9,7 @@ use Rattle.std.proofs.lemmas.Grind.{flat_map-append}
 use Rattle.std.specs.Int.RustNames.{unsigned_abs}
 use Rattle.std.specs.List.{flat_map, list_all}
 use Rattle.sums.specs.Sums.{count_below}
+use Rattle.sim_game.specs.declared.Limits.{Limits}
 use Rattle.table.specs.Lists.{count_in, draws_end}
 use Rattle.table.specs.Nested.{CellForm, Follows, Draws, StateForm, End, Rows, cell_in_range, columns_in, cells_told, draw_in_range, draw_told, draws_of_form, draws_told, is_reward, kept_cells, moves_told, names_state, ranks_told, reward_told, row_in_range, state_in_range, values_told}
 use Rattle.table.specs.NestedGame.{form_at, rows_in}
@@ -75,23 +76,24 @@ cell_told first (Draws draws ∷ cells) (suc k) h =
     cell_told (first + length draws) cells k (omega arith) ∙ ap (λ (n : ℕ). number_told n (get_or cells k (Follows (pos 0)))) same
 
 -- where the draws end of the cells, before which there are so many
-pub ends_told : (first total : ℕ) (cells : List CellForm) → list_all cell_in_range cells ≡ true → total ≡ first + length (flat_map draws_of_form cells)
+pub ends_told : (limits : Limits) (first total : ℕ) (cells : List CellForm) → list_all (cell_in_range limits) cells ≡ true → total ≡ first + length (flat_map draws_of_form cells)
     → draws_end (cells_told first cells) total ≡ first
-ends_told first total [] h e = omega (arith, e)
-ends_told first total (Follows (pos state) ∷ cells) h e = ends_told first total cells (and_parts (names_state (pos state)) (list_all cell_in_range cells) h).1 e
-ends_told first total (Follows (negsuc state) ∷ cells) h e = absurd (cc)
-ends_told first total (Draws draws ∷ cells) h e = refl
+ends_told limits first total [] h e = omega (arith, e)
+ends_told limits first total (Follows (pos state) ∷ cells) h e = ends_told limits first total cells (and_parts (names_state limits (pos state)) (list_all (cell_in_range limits) cells) h).1 e
+ends_told limits first total (Follows (negsuc state) ∷ cells) h e = absurd (cc)
+ends_told limits first total (Draws draws ∷ cells) h e = refl
 
-pub later_ends_told : (first total : ℕ) (cells : List CellForm) (k : ℕ) → list_all cell_in_range cells ≡ true → total ≡ first + length (flat_map draws_of_form cells)
+pub later_ends_told : (limits : Limits) (first total : ℕ) (cells : List CellForm) (k : ℕ) → list_all (cell_in_range limits) cells ≡ true → total ≡ first + length (flat_map draws_of_form cells)
     → draws_end (drop k (cells_told first cells)) total ≡ first + before draws_of_form cells k
-later_ends_told first total cells zero h e = ends_told first total cells h e ∙ omega arith
-later_ends_told first total [] (suc k) h e = omega (arith, e)
-later_ends_told first total (Follows (pos state) ∷ cells) (suc k) h e = later_ends_told first total cells k (and_parts (names_state (pos state)) (list_all cell_in_range cells) h).1 e
-later_ends_told first total (Follows (negsuc state) ∷ cells) (suc k) h e = absurd (cc)
-later_ends_told first total (Draws draws ∷ cells) (suc k) h e =
-    let rest = and_parts (cell_in_range (Draws draws)) (list_all cell_in_range cells) h in
+later_ends_told limits first total cells zero h e = ends_told limits first total cells h e ∙ omega arith
+later_ends_told limits first total [] (suc k) h e = omega (arith, e)
+later_ends_told limits first total (Follows (pos state) ∷ cells) (suc k) h e =
+    later_ends_told limits first total cells k (and_parts (names_state limits (pos state)) (list_all (cell_in_range limits) cells) h).1 e
+later_ends_told limits first total (Follows (negsuc state) ∷ cells) (suc k) h e = absurd (cc)
+later_ends_told limits first total (Draws draws ∷ cells) (suc k) h e =
+    let rest = and_parts (cell_in_range limits (Draws draws)) (list_all (cell_in_range limits) cells) h in
     let more : total ≡ first + length draws + length (flat_map draws_of_form cells) = omega (arith, e, length-append draws (flat_map draws_of_form cells)) in
-    later_ends_told (first + length draws) total cells k rest.1 more ∙ omega (arith, length-append draws (flat_map draws_of_form (take k cells)))
+    later_ends_told limits (first + length draws) total cells k rest.1 more ∙ omega (arith, length-append draws (flat_map draws_of_form (take k cells)))
 
 not_true : (b : Bool) → not b ≡ false → b ≡ true
 not_true true h = refl
@@ -103,20 +105,20 @@ draws_flat [] = refl
 draws_flat (cell ∷ cells) =
     ap (λ (ns : List ℤ). draws_told cell ++ ns) (draws_flat cells) ∙ sym (flat_map-append draw_told (draws_of_form cell) (flat_map draws_of_form cells))
 
-draws_named : (cell : CellForm) → cell_in_range cell ≡ true → list_all draw_in_range (draws_of_form cell) ≡ true
-draws_named (Follows state) h = refl
-draws_named (Draws draws) h = (and_parts (leb (length draws) 255) (list_all draw_in_range draws) h).1
+draws_named : (limits : Limits) (cell : CellForm) → cell_in_range limits cell ≡ true → list_all (draw_in_range limits) (draws_of_form cell) ≡ true
+draws_named limits (Follows state) h = refl
+draws_named limits (Draws draws) h = (and_parts (leb (length draws) 255) (list_all (draw_in_range limits) draws) h).1
 
-pub draws_in_range : (cells : List CellForm) → list_all cell_in_range cells ≡ true → list_all draw_in_range (flat_map draws_of_form cells) ≡ true
-draws_in_range = all_flat cell_in_range draw_in_range draws_of_form draws_named
+pub draws_in_range : (limits : Limits) (cells : List CellForm) → list_all (cell_in_range limits) cells ≡ true → list_all (draw_in_range limits) (flat_map draws_of_form cells) ≡ true
+draws_in_range limits = all_flat (cell_in_range limits) (draw_in_range limits) draws_of_form (draws_named limits)
 
 -- what is in range of a draw: the state, the weight and the reward
-pub draw_parts : (draw : List ℤ) → draw_in_range draw ≡ true
-    → (names_state (get_or draw 0 (pos 0)) ≡ true) × (names_state (get_or draw 1 (pos 0)) ≡ true) × (is_reward (reward_told draw) ≡ true)
-draw_parts draw h =
+pub draw_parts : (limits : Limits) (draw : List ℤ) → draw_in_range limits draw ≡ true
+    → (names_state limits (get_or draw 0 (pos 0)) ≡ true) × (names_state limits (get_or draw 1 (pos 0)) ≡ true) × (is_reward (reward_told draw) ≡ true)
+draw_parts limits draw h =
     let numbers = (and_parts (leb 2 (length draw) && leb (length draw) 3) _ h).1 in
-    let last = and_parts (names_state (get_or draw 0 (pos 0)) && names_state (get_or draw 1 (pos 0))) (is_reward (reward_told draw)) numbers in
-    let first = and_parts (names_state (get_or draw 0 (pos 0))) (names_state (get_or draw 1 (pos 0))) last.0 in
+    let last = and_parts (names_state limits (get_or draw 0 (pos 0)) && names_state limits (get_or draw 1 (pos 0))) (is_reward (reward_told draw)) numbers in
+    let first = and_parts (names_state limits (get_or draw 0 (pos 0))) (names_state limits (get_or draw 1 (pos 0))) last.0 in
     (first.0, first.1, last.1)
 
 two_told : (draw : List ℤ) (i : ℕ) → i < 2 → count_in (draw_told draw) i ≡ count_in draw i
@@ -184,18 +186,18 @@ kept_cell rows a b some one two =
     ∙ ap (λ (n : ℕ). get_or (flat_map (λ (row : List CellForm). row) rows) n (Follows (pos 0))) place
     ∙ get_or-flat_map (λ (row : List CellForm). row) rows a b [] (Follows (pos 0)) one (omega (arith, row_length rows a some one))
 
-row_named : (row : List CellForm) → row_in_range row ≡ true → list_all cell_in_range row ≡ true
-row_named row h = (and_parts (leb (length row) 255) (list_all cell_in_range row) h).1
+row_named : (limits : Limits) (row : List CellForm) → row_in_range limits row ≡ true → list_all (cell_in_range limits) row ≡ true
+row_named limits row h = (and_parts (leb (length row) 255) (list_all (cell_in_range limits) row) h).1
 
-cells_named : (form : StateForm) → state_in_range form ≡ true → list_all cell_in_range (kept_cells form) ≡ true
-cells_named (End payoff) h = refl
-cells_named (Rows rows) h =
-    let all = (and_parts (leb (length rows) 255) (list_all row_in_range rows) h).1 in
-    cond_both (eqb (columns_in rows) 0) [] (flat_map (λ (row : List CellForm). row) rows) (λ (cells : List CellForm). list_all cell_in_range cells ≡ true)
-    (λ e. refl) (λ e. all_flat row_in_range cell_in_range (λ (row : List CellForm). row) row_named rows all)
+cells_named : (limits : Limits) (form : StateForm) → state_in_range limits form ≡ true → list_all (cell_in_range limits) (kept_cells form) ≡ true
+cells_named limits (End payoff) h = refl
+cells_named limits (Rows rows) h =
+    let all = (and_parts (leb (length rows) 255) (list_all (row_in_range limits) rows) h).1 in
+    cond_both (eqb (columns_in rows) 0) [] (flat_map (λ (row : List CellForm). row) rows) (λ (cells : List CellForm). list_all (cell_in_range limits) cells ≡ true)
+    (λ e. refl) (λ e. all_flat (row_in_range limits) (cell_in_range limits) (λ (row : List CellForm). row) (row_named limits) rows all)
 
-pub cells_in_range : (forms : List StateForm) → list_all state_in_range forms ≡ true → list_all cell_in_range (flat_map kept_cells forms) ≡ true
-cells_in_range = all_flat state_in_range cell_in_range kept_cells cells_named
+pub cells_in_range : (limits : Limits) (forms : List StateForm) → list_all (state_in_range limits) forms ≡ true → list_all (cell_in_range limits) (flat_map kept_cells forms) ≡ true
+cells_in_range limits = all_flat (state_in_range limits) (cell_in_range limits) kept_cells (cells_named limits)
 
 -- ---- states
 two_moves : (form : StateForm) → length (moves_told form) ≡ 2

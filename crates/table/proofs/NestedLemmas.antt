@@ -14,6 +14,7 @@ use Rattle.sim_game.specs.declared.Side.{Side}
 use Rattle.sim_game.specs.declared.Side.TheVariants.{One, Two}
 use Rattle.sim_game.specs.Sides.{IsNoTighter}
 use Rattle.sim_game.proofs.SideLemmas.{looser_left, looser_right}
+use Rattle.sim_game.specs.declared.Limits.{Limits}
 use Rattle.table.specs.declared.State.{State}
 use Rattle.table.specs.declared.TableError.{TableError}
 use Rattle.table.specs.declared.TableError.TheVariants as errors
@@ -21,7 +22,7 @@ use Rattle.table.specs.declared.rules.CellRule.TheVariants as CellRule
 use Rattle.table.specs.declared.rules.Rule.TheVariants as Rule
 use Rattle.table.specs.Below.{first_below, worst_upto}
 use Rattle.table.specs.BelowLemmas.{all_from, greatest_high, or_none, or_there, worst_found}
-use Rattle.table.specs.Faults.{AreOrdered, are_rewards, cell_fits, fault_at, is_rank, first_fault, shape_fault, rule_fault, do_draws_fit, do_fit, do_states_fit, have_counts, state_fits}
+use Rattle.table.specs.Faults.{AreOrdered, are_rewards, cell_fits, fault_at, is_rank, first_fault, most_table_turns, shape_fault, rule_fault, do_draws_fit, do_fit, do_states_fit, have_counts, state_fits}
 use Rattle.table.specs.Laws.{bound_turn, is_inner, last_is_end, least_at, moves_width, pair_below, payoff_at, range_state}
 use Rattle.table.specs.Lists.{Lists, cell_rank, next_rank, cells_of, count_in, count_of, draw_reward, draw_state, draw_total, draw_weight, draws_end, draws_at, end_at, first_draw, has_rewards, place_at, state_count, table_cell, table_moves, table_rank, table_reward, table_state, table_value, table_weight}
 use Rattle.table.specs.Nested.{CellForm, Follows, Draws, StateForm, End, Rows, are_in_range, cell_in_range, columns_in, draw_told, draws_of_form, greatest_in, has_paid_draw, kept_cells, lists_of_states, named_by, rank_behind, rank_told, ranks_told, reward_told, state_in_range}
@@ -46,21 +47,21 @@ state_fits_told (Rows rows) rank one two cells value ranked e f v =
     cond-false (eqb rank 0) (eqb one 0 && eqb two 0) (int_eq value (pos cells)) (ne_eqb rank 0 (λ z. absurd (omega arith))) ∙ (Decides-int_eq value (pos cells)).1 v
 
 -- ---- a cell
-first_low : (n : ℕ) (cell : CellForm) → cell_in_range cell ≡ true → first_draw (number_told n cell) ≤ n
-first_low n (Follows (pos state)) fine = omega arith
-first_low n (Follows (negsuc state)) fine = absurd (cc)
-first_low n (Draws draws) fine = omega arith
+first_low : (limits : Limits) (n : ℕ) (cell : CellForm) → cell_in_range limits cell ≡ true → first_draw (number_told n cell) ≤ n
+first_low limits n (Follows (pos state)) fine = omega arith
+first_low limits n (Follows (negsuc state)) fine = absurd (cc)
+first_low limits n (Draws draws) fine = omega arith
 
-count_told : (n last : ℕ) (cell : CellForm) → cell_in_range cell ≡ true → last ≡ n + length (draws_of_form cell) → count_of (number_told n cell) last ≡ cell_draws cell
-count_told n last (Follows (pos state)) fine e = refl
-count_told n last (Follows (negsuc state)) fine e = absurd (cc)
-count_told n last (Draws draws) fine e = omega (arith, e)
+count_told : (limits : Limits) (n last : ℕ) (cell : CellForm) → cell_in_range limits cell ≡ true → last ≡ n + length (draws_of_form cell) → count_of (number_told n cell) last ≡ cell_draws cell
+count_told limits n last (Follows (pos state)) fine e = refl
+count_told limits n last (Follows (negsuc state)) fine e = absurd (cc)
+count_told limits n last (Draws draws) fine e = omega (arith, e)
 
 first_row : (rows : List (List CellForm)) → 1 ≤ columns_in rows → length (get_or rows 0 []) ≡ columns_in rows
 first_row [] some = absurd (omega arith)
 first_row (row ∷ rows) some = row_length (row ∷ rows) 0 some (omega arith)
 
-module _ (forms : List StateForm) (fine : list_all state_in_range forms ≡ true) where
+module _ (limits : Limits) (forms : List StateForm) (fine : list_all (state_in_range limits) forms ≡ true) where
   abbrev l : Lists
   l = lists_of_states forms
 
@@ -70,8 +71,8 @@ module _ (forms : List StateForm) (fine : list_all state_in_range forms ≡ true
   abbrev draws : List (List ℤ)
   draws = flat_map draws_of_form cells
 
-  cells_fine : list_all cell_in_range cells ≡ true
-  cells_fine = cells_in_range forms fine
+  cells_fine : list_all (cell_in_range limits) cells ≡ true
+  cells_fine = cells_in_range limits forms fine
 
   -- ---- counts
   states_are : state_count l ≡ length forms
@@ -136,20 +137,21 @@ module _ (forms : List StateForm) (fine : list_all state_in_range forms ≡ true
 
   end_is : (place : ℕ) → place < length cells → end_at l place ≡ first place + length (draws_of_form (at place))
   end_is place here =
-      later_ends_told 0 (draw_total l) cells (place + 1) cells_fine (omega (arith, total_is))
+      later_ends_told limits 0 (draw_total l) cells (place + 1) cells_fine (omega (arith, total_is))
       ∙ omega (arith, ap (λ (k : ℕ). before draws_of_form cells k) (add-one place), before_more draws_of_form cells place (Follows (pos 0)) here)
 
-  is_fine : (place : ℕ) → place < length cells → cell_in_range (at place) ≡ true
-  is_fine place here = all_in cell_in_range cells (Follows (pos 0)) place cells_fine here
+  is_fine : (place : ℕ) → place < length cells → cell_in_range limits (at place) ≡ true
+  is_fine place here = all_in (cell_in_range limits) cells (Follows (pos 0)) place cells_fine here
 
   cell_fits_at : (place : ℕ) → place < length l.cells → cell_fits l place ≡ true
   cell_fits_at place below =
       let here : place < length cells = omega (arith, cells_are) in
-      let low : first_draw (table_cell l place) ≤ first place = rw (cell_is place here) (first_low (first place) (at place) (is_fine place here)) in
+      let low : first_draw (table_cell l place) ≤ first place = rw (cell_is place here) (first_low limits (first place) (at place) (is_fine place here)) in
       le-leb (first_draw (table_cell l place)) (end_at l place) (omega (arith, low, end_is place here))
 
   draws_fit : do_draws_fit l ≡ true
-  draws_fit = and_from _ _ (all_from (length l.cells) (cell_fits l) cell_fits_at) (eq-eqb (draws_end l.cells (draw_total l)) 0 (ends_told 0 (draw_total l) cells cells_fine (omega (arith, total_is))))
+  draws_fit = and_from _ _ (all_from (length l.cells) (cell_fits l) cell_fits_at)
+      (eq-eqb (draws_end l.cells (draw_total l)) 0 (ends_told limits 0 (draw_total l) cells cells_fine (omega (arith, total_is))))
 
   pub nested_fits : do_fit l ≡ true
   nested_fits = and_from _ _ (and_from _ _ counts_fit states_fit) draws_fit
@@ -157,7 +159,7 @@ module _ (forms : List StateForm) (fine : list_all state_in_range forms ≡ true
   -- ---- draws
   draws_are_at : (place : ℕ) → place < length cells → draws_at l place ≡ cell_draws (at place)
   draws_are_at place here =
-      ap (λ (z : ℤ). count_of z (end_at l place)) (cell_is place here) ∙ count_told (first place) (end_at l place) (at place) (is_fine place here) (end_is place here)
+      ap (λ (z : ℤ). count_of z (end_at l place)) (cell_is place here) ∙ count_told limits (first place) (end_at l place) (at place) (is_fine place here) (end_is place here)
 
   -- a draw of the cell at the place
   draw_is : (place d : ℕ) (more : List (List ℤ)) → place < length cells → at place ≡ Draws more → d < length more
@@ -177,20 +179,20 @@ module _ (forms : List StateForm) (fine : list_all state_in_range forms ≡ true
       ∙ draw_at draws (first place + d) i draw.0 few
       ∙ ap (λ (draw : List ℤ). count_in draw i) draw.1
 
-  weight_of_draw : (place d : ℕ) (cell : CellForm) → place < length cells → at place ≡ cell → cell_in_range cell ≡ true → d < cell_draws cell
+  weight_of_draw : (place d : ℕ) (cell : CellForm) → place < length cells → at place ≡ cell → cell_in_range limits cell ≡ true → d < cell_draws cell
       → draw_weight l.draws (number_told (first place) cell) d ≡ cell_chance cell d
   weight_of_draw place d (Follows (pos state)) here e fine below = refl
   weight_of_draw place d (Follows (negsuc state)) here e fine below = absurd (cc)
   weight_of_draw place d (Draws more) here e fine below = number_at place d 1 more here e below (omega arith)
 
-  state_of_draw : (place d : ℕ) (cell : CellForm) → place < length cells → at place ≡ cell → cell_in_range cell ≡ true → d < cell_draws cell
+  state_of_draw : (place d : ℕ) (cell : CellForm) → place < length cells → at place ≡ cell → cell_in_range limits cell ≡ true → d < cell_draws cell
       → draw_state l.draws (number_told (first place) cell) d ≡ cell_follows cell d
   state_of_draw place d (Follows (pos state)) here e fine below = refl
   state_of_draw place d (Follows (negsuc state)) here e fine below = absurd (cc)
   state_of_draw place d (Draws more) here e fine below =
       ap (λ (n : ℕ). count_in l.draws n) (omega arith) ∙ number_at place d 0 more here e below (omega arith)
 
-  reward_of_draw : (place d : ℕ) (cell : CellForm) → place < length cells → at place ≡ cell → cell_in_range cell ≡ true → d < cell_draws cell
+  reward_of_draw : (place d : ℕ) (cell : CellForm) → place < length cells → at place ≡ cell → cell_in_range limits cell ≡ true → d < cell_draws cell
       → draw_reward l.rewards (number_told (first place) cell) d ≡ cell_reward cell d
   reward_of_draw place d (Follows (pos state)) here e fine below = refl
   reward_of_draw place d (Follows (negsuc state)) here e fine below = absurd (cc)
@@ -256,7 +258,7 @@ module _ (forms : List StateForm) (fine : list_all state_in_range forms ≡ true
         let next = table_state l place d in
         let state : next ≡ cell_follows (at place) d = state_is place d cell.0 (omega (arith, count, draw)) in
         let behind : s < next = leads_behind l s place d (keeps_all CellRule.Order l s k order (omega (arith, states_are)) (omega (arith, kept_are))) draw in
-        let named : get_or (named_by (at place)) d (pos 0) ≡ pos next = named_is (at place) d (is_fine place cell.0) (omega (arith, count, draw)) ∙ ap pos (sym state) in
+        let named : get_or (named_by (at place)) d (pos 0) ≡ pos next = named_is limits (at place) d (is_fine place cell.0) (omega (arith, count, draw)) ∙ ap pos (sym state) in
         ap (λ (c : CellForm). rank_of (get_or (named_by c) d (pos 0))) (sym cell.1) ∙ ap rank_of named ∙ behind_is s ranks next behind ∙ sym (counts_told ranks next)
 
     abbrev most : ℕ
@@ -504,29 +506,29 @@ turns_told : (b : Bool) (s : ℕ) (fault : TableError) → cond b None (Some (er
 turns_told true s fault h = absurd (cc)
 turns_told false s fault h = (refl, cc)
 
-module _ (forms : List StateForm) (fine : list_all state_in_range forms ≡ true) (order : AreOrdered (lists_of_states forms)) where
+module _ (limits : Limits) (forms : List StateForm) (fine : list_all (state_in_range limits) forms ≡ true) (order : AreOrdered (lists_of_states forms)) where
   abbrev lists : Lists
   lists = lists_of_states forms
 
   longest_of : (s : ℕ) (form : StateForm) → s < length forms → form_at forms s ≡ form → 1 ≤ table_rank lists s → table_rank lists s ≡ next_rank lists s + 1
   longest_of s (End payoff) here e inner = absurd (omega (arith, subst (λ (form : StateForm). IsRanked form (table_rank lists s)) e (rank_told_at forms s here)))
-  longest_of s (Rows rows) here e inner = rank_longest forms fine order s rows here e
+  longest_of s (Rows rows) here e inner = rank_longest limits forms fine order s rows here e
 
-  is_rank_told : (s : ℕ) → s < length forms → table_rank lists s ≤ 31 → is_rank lists s ≡ true
-  is_rank_told s here few = and_from _ _ (le-leb (table_rank lists s) 31 few) (elim (cases_lt 0 (table_rank lists s)) [
+  is_rank_told : (most : Limits) (s : ℕ) → s < length forms → table_rank lists s ≤ most_table_turns most → is_rank most lists s ≡ true
+  is_rank_told most s here few = and_from _ _ (le-leb (table_rank lists s) (most_table_turns most) few) (elim (cases_lt 0 (table_rank lists s)) [
     | inl more ↦ or_right (eqb (table_rank lists s) 0) _ (eq-eqb (table_rank lists s) (next_rank lists s + 1) (longest_of s (form_at forms s) here refl (omega arith)))
     | inr none ↦ or_left (eqb (table_rank lists s) 0) _ (eq-eqb (table_rank lists s) 0 (omega arith))
   ])
 
-  too_many_turns : (fault : TableError) → rule_fault Rule.Turns lists ≡ Some fault → (s : ℕ) × (fault ≡ errors.Turns s) × (31 < table_rank lists s)
-  too_many_turns fault h =
-      let found = first_there (state_count lists) (fault_at Rule.Turns lists) fault h in
-      let told = turns_told (is_rank lists found.0) found.0 fault found.2 in (
+  too_many_turns : (most : Limits) (fault : TableError) → rule_fault (Rule.Turns most) lists ≡ Some fault → (s : ℕ) × (fault ≡ errors.Turns s) × (most_table_turns most < table_rank lists s)
+  too_many_turns most fault h =
+      let found = first_there (state_count lists) (fault_at (Rule.Turns most) lists) fault h in
+      let told = turns_told (is_rank most lists found.0) found.0 fault found.2 in (
         found.0,
         told.1,
-        elim (cases_lt 31 (table_rank lists found.0)) [
+        elim (cases_lt (most_table_turns most) (table_rank lists found.0)) [
           | inl more ↦ more
-          | inr few ↦ absurd (both_ways (is_rank lists found.0) told.0 (is_rank_told found.0 (omega (arith, found.1, ranks_count forms)) few))
+          | inr few ↦ absurd (both_ways (is_rank most lists found.0) told.0 (is_rank_told most found.0 (omega (arith, found.1, ranks_count forms)) few))
         ],
       )
 
@@ -537,17 +539,18 @@ module _ (forms : List StateForm) (fine : list_all state_in_range forms ≡ true
   }
 
 -- ---- all forms in range
-states_in_range : (forms : List StateForm) → are_in_range forms ≡ true → list_all state_in_range forms ≡ true
-states_in_range forms h = (and_parts (list_all state_in_range forms) _ h).0
+states_in_range : (limits : Limits) (forms : List StateForm) → are_in_range limits forms ≡ true → list_all (state_in_range limits) forms ≡ true
+states_in_range limits forms h = (and_parts (list_all (state_in_range limits) forms) _ h).0
 
-pub forms_fit : (forms : List StateForm) → are_in_range forms ≡ true → do_fit (lists_of_states forms) ≡ true
-forms_fit forms h = nested_fits forms (states_in_range forms h)
+pub forms_fit : (limits : Limits) (forms : List StateForm) → are_in_range limits forms ≡ true → do_fit (lists_of_states forms) ≡ true
+forms_fit limits forms h = nested_fits limits forms (states_in_range limits forms h)
 
-pub forms_tell_game : (forms : List StateForm) → are_in_range forms ≡ true → first_fault (lists_of_states forms) ≡ None → IsNestedGame forms (table_game (lists_of_states forms))
-forms_tell_game forms h none =
-    let short = forms_in_range forms h in
-    let shaped = (or_none (shape_fault (lists_of_states forms)) _ none).0 in
-    nested_game forms (states_in_range forms h) (table_of (lists_of_states forms) shaped (omega (arith, short.ranks.few)) (omega (arith, short.draws.few)))
+pub forms_tell_game : (limits : Limits) (forms : List StateForm) → are_in_range limits forms ≡ true → first_fault limits (lists_of_states forms) ≡ None
+    → IsNestedGame forms (table_game (lists_of_states forms))
+forms_tell_game limits forms h none =
+    let short = forms_in_range limits forms h in
+    let shaped = (or_none (shape_fault limits (lists_of_states forms)) _ none).0 in
+    nested_game limits forms (states_in_range limits forms h) (table_of limits (lists_of_states forms) shaped (omega (arith, short.ranks.few)) (omega (arith, short.draws.few)))
 
-pub forms_have_longest_ways : (forms : List StateForm) → are_in_range forms ≡ true → AreOrdered (lists_of_states forms) → HaveLongestWays (lists_of_states forms)
-forms_have_longest_ways forms h order = ways_told forms (states_in_range forms h) order
+pub forms_have_longest_ways : (limits : Limits) (forms : List StateForm) → are_in_range limits forms ≡ true → AreOrdered (lists_of_states forms) → HaveLongestWays (lists_of_states forms)
+forms_have_longest_ways limits forms h order = ways_told limits forms (states_in_range limits forms h) order

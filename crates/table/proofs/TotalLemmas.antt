@@ -3,6 +3,7 @@ use Rattle.std.proofs.Common.{◌≡◌, ℕ, zero, suc, ◌+◌, ◌-◌, ◌*�
 use Rattle.std.proofs.lemmas.Bool.{cases_eq, cases_lt, cond-false, cond-true, eq-eqb, ne_eqb}
 use Rattle.std.proofs.lemmas.Int.{ints}
 use Rattle.std.proofs.lemmas.List.{get_or-replicate, get_or-set_other, get_or-set_same, get_or_past, length-replicate, length-set}
+use Rattle.sim_game.specs.declared.TheConstants.{MOST_TURNS}
 use Rattle.sim_game.specs.declared.Side.{Side}
 use Rattle.sim_game.specs.declared.Side.TheVariants.{One, Two}
 use Rattle.sim_game.specs.Sides.{other_side, better}
@@ -138,7 +139,7 @@ module _ (l : Lists) (p : IsTable l) (small : AreSmallRewards l.rewards) where
       near = λ side c. elim (cases_eq c s) [
         | inl same ↦
             let is = written_here side least most e f in
-            let far = total_far side 31 s here (p.rank_high s here) in
+            let far = total_far side MOST_TURNS s here (p.rank_high s here) in
             rw same (omega (arith, ints, is, far.0), omega (arith, ints, is, far.1))
         | inr other ↦ rw (written_other side c least most other) (from.near side c)
       ];

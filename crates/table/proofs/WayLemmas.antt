@@ -7,7 +7,8 @@ use Rattle.std.proofs.lemmas.List.Concat.{get_or-flat_map}
 use Rattle.std.proofs.lemmas.List.Folds.{length-flat_map-take}
 use Rattle.std.specs.Int.RustNames.{unsigned_abs}
 use Rattle.std.specs.List.{flat_map, list_all}
-use Rattle.table.specs.Nested.{CellForm, Follows, Draws, StateForm, cell_in_range, draw_in_range, greatest_in, named_by, rank_behind, rank_told, ranks_told}
+use Rattle.sim_game.specs.declared.Limits.{Limits}
+use Rattle.table.specs.Nested.{CellForm, Follows, Draws, StateForm, cell_in_range, draw_in_range, greatest_in, most_state, named_by, rank_behind, rank_told, ranks_told}
 use Rattle.table.specs.NestedGame.{cell_draws, cell_follows, form_at}
 use Rattle.table.proofs.FormLemmas.{all_in, draw_parts}
 use Rattle.table.proofs.RangeLemmas.{within_parts}
@@ -54,15 +55,15 @@ no_sign : (z : ℤ) → pos 0 ≤ℤ z → z ≡ pos (unsigned_abs z)
 no_sign (pos n) h = refl
 no_sign (negsuc n) h = absurd (omega (arith, ints, h))
 
-pub named_is : (cell : CellForm) (d : ℕ) → cell_in_range cell ≡ true → d < cell_draws cell → get_or (named_by cell) d (pos 0) ≡ pos (cell_follows cell d)
-named_is (Follows state) zero fine below = no_sign state (within_parts (pos 0) (pos 1048575) state fine).0
-named_is (Follows state) (suc d) fine below = absurd (omega arith)
-named_is (Draws draws) d fine below =
+pub named_is : (limits : Limits) (cell : CellForm) (d : ℕ) → cell_in_range limits cell ≡ true → d < cell_draws cell → get_or (named_by cell) d (pos 0) ≡ pos (cell_follows cell d)
+named_is limits (Follows state) zero fine below = no_sign state (within_parts (pos 0) (pos (most_state limits)) state fine).0
+named_is limits (Follows state) (suc d) fine below = absurd (omega arith)
+named_is limits (Draws draws) d fine below =
     let draw = get_or draws d [] in
-    let all = (and_parts (leb (length draws) 255) (list_all draw_in_range draws) fine).1 in
+    let all = (and_parts (leb (length draws) 255) (list_all (draw_in_range limits) draws) fine).1 in
     let state = get_or draw 0 (pos 0) in
-    let named = (draw_parts draw (all_in draw_in_range draws [] d all below)).0 in
-    get_or-map (λ (draw : List ℤ). get_or draw 0 (pos 0)) draws d [] (pos 0) below ∙ no_sign state (within_parts (pos 0) (pos 1048575) state named).0
+    let named = (draw_parts limits draw (all_in (draw_in_range limits) draws [] d all below)).0 in
+    get_or-map (λ (draw : List ℤ). get_or draw 0 (pos 0)) draws d [] (pos 0) below ∙ no_sign state (within_parts (pos 0) (pos (most_state limits)) state named).0
 
 -- ---- ranks
 pub rank_in : (n : ℕ) (forms : List StateForm) (s : ℕ) → s < length forms

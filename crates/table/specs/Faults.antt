@@ -3,6 +3,10 @@ use Rattle.std.specs.Prelude.{◌≡◌, ℕ, ◌+◌, ◌*◌, ◌/◌, ◌%◌
 use Rattle.std.specs.Option.{option_or}
 use Rattle.std.specs.Ordering.{int_eq}
 use Rattle.sums.specs.Sums.{count_below}
+use Rattle.sums.specs.declared.TheConstants.{MOST_MOVES}
+use Rattle.sim_game.specs.declared.TheConstants.{MOST_TURNS}
+use Rattle.sim_game.specs.declared.Limits.{Limits}
+use Rattle.sim_game.specs.declared.Limits.TheVariants.{Narrow, Wide}
 use Rattle.sim_game.specs.declared.Side.TheVariants.{One, Two}
 use Rattle.sim_game.specs.Model.{whole_chance}
 use Rattle.text.specs.Faults.{first_some}
@@ -49,11 +53,21 @@ do_fit l = have_counts l && do_states_fit l && do_draws_fit l
 abbrev pub is_payoff : ℤ → Bool
 is_payoff value = not (int_lt value (neg_ℤ (pos 4000)) || int_lt (pos 4000) value)
 
-abbrev pub are_moves : ℕ → Bool
-are_moves moves = nat_le 1 moves && nat_le moves 32
+-- the most rows of a state, and the most cells of a row
+abbrev pub most_table_moves : Limits → ℕ
+most_table_moves Narrow = 32
+most_table_moves Wide = MOST_MOVES
 
-abbrev pub is_rank : Lists → ℕ → Bool
-is_rank l s = nat_le (table_rank l s) 31 && ((table_rank l s == 0) || (table_rank l s == next_rank l s + 1))
+-- the most turns of a way
+abbrev pub most_table_turns : Limits → ℕ
+most_table_turns Narrow = 31
+most_table_turns Wide = MOST_TURNS
+
+abbrev pub are_moves : Limits → ℕ → Bool
+are_moves limits moves = nat_le 1 moves && nat_le moves (most_table_moves limits)
+
+abbrev pub is_rank : Limits → Lists → ℕ → Bool
+is_rank limits l s = nat_le (table_rank l s) (most_table_turns limits) && ((table_rank l s == 0) || (table_rank l s == next_rank l s + 1))
 
 -- ---- rules of one cell
 abbrev pub are_few_draws : Lists → ℕ → Bool
@@ -95,10 +109,10 @@ cell_fault rule l s = first_below (cells_of l s) (fault_in rule l s)
 -- what is said of the state where it breaks the rule
 abbrev pub fault_at : Rule → Lists → ℕ → Option TableError
 fault_at rules.Payoff l s = if not (table_rank l s == 0) || is_payoff (table_value l s) then None else Some (errors.PayoffRange s)
-fault_at rules.Rows l s = if (table_rank l s == 0) || are_moves (table_moves l One s) then None else Some (errors.RowsRange s)
-fault_at rules.Cells l s = if (table_rank l s == 0) || are_moves (table_moves l Two s) then None else Some (errors.CellsRange s)
+fault_at (rules.Rows limits) l s = if (table_rank l s == 0) || are_moves limits (table_moves l One s) then None else Some (errors.RowsRange s)
+fault_at (rules.Cells limits) l s = if (table_rank l s == 0) || are_moves limits (table_moves l Two s) then None else Some (errors.CellsRange s)
 fault_at (rules.Each rule) l s = cell_fault rule l s
-fault_at rules.Turns l s = if is_rank l s then None else Some (errors.Turns s)
+fault_at (rules.Turns limits) l s = if is_rank limits l s then None else Some (errors.Turns s)
 
 -- what is said of the first state that breaks the rule
 abbrev pub rule_fault : Rule → Lists → Option TableError
@@ -115,12 +129,12 @@ abbrev pub count_fault : Lists → Option TableError
 count_fault l = if state_count l == 0 then Some errors.NoStates else None
 
 -- the first but for the last rule
-abbrev pub shape_fault : Lists → Option TableError
-shape_fault l = first_some (
+abbrev pub shape_fault : Limits → Lists → Option TableError
+shape_fault limits l = first_some (
     lists_fault l ∷ count_fault l ∷
-    rule_fault rules.Payoff l ∷ rule_fault rules.Rows l ∷ rule_fault rules.Cells l ∷
+    rule_fault rules.Payoff l ∷ rule_fault (rules.Rows limits) l ∷ rule_fault (rules.Cells limits) l ∷
     rule_fault (rules.Each Draws) l ∷ rule_fault (rules.Each Weights) l ∷ rule_fault (rules.Each Order) l ∷
-    rule_fault rules.Turns l ∷ [])
+    rule_fault (rules.Turns limits) l ∷ [])
 
 -- the sums from the state on are small
 abbrev pub is_total : Lists → ℕ → Bool
@@ -133,9 +147,9 @@ total_fault_at l s = if is_total l s then None else Some (errors.Total s)
 abbrev pub total_fault : Lists → Option TableError
 total_fault l = if has_rewards l then first_below (state_count l) (total_fault_at l) else None
 
-abbrev pub first_fault : Lists → Option TableError
-first_fault l = option_or (shape_fault l) (total_fault l)
+abbrev pub first_fault : Limits → Lists → Option TableError
+first_fault limits l = option_or (shape_fault limits l) (total_fault l)
 
--- the list has the totals of the states, where turns pay and no other rule is broken
+-- the list has the totals of the states, where turns pay and no other rule is broken within the wide limits
 abbrev pub HasTotals : Lists → List ℤ → Type 0
-HasTotals l totals = has_rewards l ≡ true → shape_fault l ≡ None → AreStateTotals l totals
+HasTotals l totals = has_rewards l ≡ true → shape_fault Wide l ≡ None → AreStateTotals l totals

@@ -6,6 +6,7 @@ use Rattle.std.proofs.lemmas.Int.{ints, clamps}
 use Rattle.std.specs.Int.{int_max, int_min}
 use Rattle.std.specs.Int.RustNames.{unsigned_abs}
 use Rattle.sums.specs.Sums.{count_below}
+use Rattle.sums.specs.declared.TheConstants.{MOST_MOVES}
 use Rattle.sums.proofs.CountLemmas.{count_same}
 use Rattle.sim_game.specs.declared.Side.{Side}
 use Rattle.sim_game.specs.declared.Side.TheVariants.{One, Two}
@@ -119,6 +120,28 @@ pub place_within : (l : Lists) (s k : ℕ) → AreFitting l → s < state_count 
 place_within l s k fits here inner below =
     omega (arith, ap unsigned_abs (fits.places s here inner), fits.cells_count, count_up_to (state_count l) s (cells_of l) here)
 
+-- ---- the width
+pub moves_in_width : (l : Lists) → length l.moves ≡ 2 * state_count l → (side : Side) (s : ℕ) → s < state_count l → table_moves l side s ≤ table_width l
+moves_in_width l count One s here = omega (arith, greatest_at (length l.moves) (count_in l.moves) (2 * s) (omega (arith, count)))
+moves_in_width l count Two s here = omega (arith, greatest_at (length l.moves) (count_in l.moves) (2 * s + 1) (omega (arith, count)))
+
+module _ (l : Lists) (most : ℕ) (some : 1 ≤ most) (count : length l.moves ≡ 2 * state_count l)
+    (few : (side : Side) (s : ℕ) → s < state_count l → table_moves l side s ≤ most) where
+  even_moves : (i s : ℕ) → i ≡ 2 * s → s < state_count l → count_in l.moves i ≤ most
+  even_moves i s e here = rw e (few One s here)
+
+  odd_moves : (i s : ℕ) → i ≡ 2 * s + 1 → s < state_count l → count_in l.moves i ≤ most
+  odd_moves i s e here = rw e (few Two s here)
+
+  pub width_at_most : table_width l ≤ most
+  width_at_most = omega (
+    arith,
+    greatest_high (length l.moves) most (count_in l.moves) (λ i below. elim (cases_lt (i % 2) 1) [
+      | inl even ↦ even_moves i (i / 2) (omega arith) (omega (arith, count))
+      | inr odd ↦ odd_moves i (i / 2) (omega arith) (omega (arith, count))
+    ]),
+  )
+
 module _ (l : Lists) (p : IsTable l) where
   -- a state at which a side has a move is no end
   pub is_inner : (side : Side) (s i : ℕ) → s < state_count l → i < table_moves l side s → 1 ≤ table_rank l s
@@ -127,7 +150,7 @@ module _ (l : Lists) (p : IsTable l) where
     | inr none ↦ absurd (omega (arith, p.fits.ends side s here (omega arith)))
   ]
 
-  few_moves : (side : Side) (s : ℕ) → s < state_count l → table_moves l side s ≤ 32
+  few_moves : (side : Side) (s : ℕ) → s < state_count l → table_moves l side s ≤ MOST_MOVES
   few_moves side s here = elim (cases_lt 0 (table_rank l s)) [
     | inl more ↦ p.moves_high side s here (omega arith)
     | inr none ↦ omega (arith, p.fits.ends side s here (omega arith))
@@ -173,23 +196,10 @@ module _ (l : Lists) (p : IsTable l) where
   ]
 
   pub moves_width : (side : Side) (s : ℕ) → s < state_count l → table_moves l side s ≤ table_width l
-  moves_width One s here = omega (arith, greatest_at (length l.moves) (count_in l.moves) (2 * s) (omega (arith, p.fits.moves_count)))
-  moves_width Two s here = omega (arith, greatest_at (length l.moves) (count_in l.moves) (2 * s + 1) (omega (arith, p.fits.moves_count)))
+  moves_width = moves_in_width l p.fits.moves_count
 
-  even_moves : (i s : ℕ) → i ≡ 2 * s → s < state_count l → count_in l.moves i ≤ 32
-  even_moves i s e here = rw e (few_moves One s here)
-
-  odd_moves : (i s : ℕ) → i ≡ 2 * s + 1 → s < state_count l → count_in l.moves i ≤ 32
-  odd_moves i s e here = rw e (few_moves Two s here)
-
-  width_high : table_width l ≤ 32
-  width_high = omega (
-    arith,
-    greatest_high (length l.moves) 32 (count_in l.moves) (λ i below. elim (cases_lt (i % 2) 1) [
-      | inl even ↦ even_moves i (i / 2) (omega arith) (omega (arith, p.fits.moves_count))
-      | inr odd ↦ odd_moves i (i / 2) (omega arith) (omega (arith, p.fits.moves_count))
-    ]),
-  )
+  width_high : table_width l ≤ MOST_MOVES
+  width_high = width_at_most l MOST_MOVES (omega arith) p.fits.moves_count few_moves
 
   -- ---- what can still be got
   unpaid_same : (side : Side) (x r : ℤ) → r ≡ pos 0 → IsNoTighter side x (r +ℤ x)

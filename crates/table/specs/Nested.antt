@@ -1,6 +1,9 @@
 -- A table as a position tells it: states, whose cells name states by their numbers.
-use Rattle.std.specs.Prelude.{ℕ, suc, ◌+◌, ◌-◌, ◌==◌, nat_le, max, ℤ, pos, negsuc, neg_ℤ, int_le, Bool, not, ◌&&◌, if◌then◌else◌, List, [], ◌∷◌, length, map, sum, slice_index, slice_index_or}
+use Rattle.std.specs.Prelude.{ℕ, suc, ◌+◌, ◌-◌, ◌==◌, nat_le, nat_lt, max, ℤ, pos, negsuc, neg_ℤ, int_le, Bool, not, ◌&&◌, if◌then◌else◌, List, [], ◌∷◌, length, map, sum, slice_index, slice_index_or}
 use Rattle.std.specs.List.{flat_map, list_all}
+use Rattle.sim_game.specs.declared.Limits.{Limits}
+use Rattle.sim_game.specs.declared.Limits.TheVariants.{Narrow, Wide}
+use Rattle.table.specs.declared.nested.TheConstants.{MOST_STATES}
 use Rattle.table.specs.Lists.{Lists}
 
 -- the state that follows for certain, or draws: each is a list of numbers, first the state, then its weight, then the
@@ -18,8 +21,13 @@ pub data StateForm : Type 0 where
 abbrev pub is_within : ℤ → ℤ → ℤ → Bool
 is_within low high z = int_le low z && int_le z high
 
-abbrev pub names_state : ℤ → Bool
-names_state z = is_within (pos 0) (pos 1048575) z
+-- the greatest number that a cell, or a draw, can have for a state, and the greatest weight
+abbrev pub most_state : Limits → ℕ
+most_state Narrow = 1048575
+most_state Wide = 16777215
+
+abbrev pub names_state : Limits → ℤ → Bool
+names_state limits z = is_within (pos 0) (pos (most_state limits)) z
 
 abbrev pub is_reward : ℤ → Bool
 is_reward z = is_within (neg_ℤ (pos 1000000)) (pos 1000000) z
@@ -28,21 +36,21 @@ is_reward z = is_within (neg_ℤ (pos 1000000)) (pos 1000000) z
 abbrev pub reward_told : List ℤ → ℤ
 reward_told draw = slice_index_or draw 2 (pos 0)
 
-abbrev pub draw_in_range : List ℤ → Bool
-draw_in_range draw =
+abbrev pub draw_in_range : Limits → List ℤ → Bool
+draw_in_range limits draw =
     nat_le 2 (length draw) && nat_le (length draw) 3
-    && (names_state (slice_index_or draw 0 (pos 0)) && names_state (slice_index_or draw 1 (pos 0)) && is_reward (reward_told draw))
+    && (names_state limits (slice_index_or draw 0 (pos 0)) && names_state limits (slice_index_or draw 1 (pos 0)) && is_reward (reward_told draw))
 
-abbrev pub cell_in_range : CellForm → Bool
-cell_in_range (Follows state) = names_state state
-cell_in_range (Draws draws) = nat_le (length draws) 255 && list_all draw_in_range draws
+abbrev pub cell_in_range : Limits → CellForm → Bool
+cell_in_range limits (Follows state) = names_state limits state
+cell_in_range limits (Draws draws) = nat_le (length draws) 255 && list_all (draw_in_range limits) draws
 
-abbrev pub row_in_range : List CellForm → Bool
-row_in_range row = nat_le (length row) 255 && list_all cell_in_range row
+abbrev pub row_in_range : Limits → List CellForm → Bool
+row_in_range limits row = nat_le (length row) 255 && list_all (cell_in_range limits) row
 
-abbrev pub state_in_range : StateForm → Bool
-state_in_range (End payoff) = is_within (neg_ℤ (pos 1000000)) (pos 1000000) payoff
-state_in_range (Rows rows) = nat_le (length rows) 255 && list_all row_in_range rows
+abbrev pub state_in_range : Limits → StateForm → Bool
+state_in_range limits (End payoff) = is_within (neg_ℤ (pos 1000000)) (pos 1000000) payoff
+state_in_range limits (Rows rows) = nat_le (length rows) 255 && list_all (row_in_range limits) rows
 
 -- all cells of the state
 abbrev pub given_cells : StateForm → List CellForm
@@ -56,12 +64,15 @@ draws_of_form (Draws draws) = draws
 abbrev pub draw_count_of : List CellForm → ℕ
 draw_count_of cells = sum (map (λ cell. length (draws_of_form cell)) cells)
 
-abbrev pub are_in_range : List StateForm → Bool
-are_in_range forms =
-    list_all state_in_range forms
-    && (nat_le (length forms) 524288
-    && (nat_le (length (flat_map given_cells forms)) 524288
-    && nat_le (draw_count_of (flat_map given_cells forms)) 262144))
+-- The states, the cells and the draws are not too many. One draw fewer may stand there, since a cell that has none names
+-- the draw that would come next.
+abbrev pub are_few : ℕ → ℕ → ℕ → Bool
+are_few states cells draws = nat_le states MOST_STATES && (nat_le cells MOST_STATES && nat_lt draws MOST_STATES)
+
+abbrev pub are_in_range : Limits → List StateForm → Bool
+are_in_range limits forms =
+    list_all (state_in_range limits) forms
+    && are_few (length forms) (length (flat_map given_cells forms)) (draw_count_of (flat_map given_cells forms))
 
 -- ---- what is kept of a state
 -- the length of each row, and 0 where they are not equally long, or there is none

@@ -1,6 +1,8 @@
 -- Which lists make a table that can be played.
 use Rattle.std.specs.Prelude.{◌≡◌, ℕ, ◌+◌, ◌*◌, ◌<◌, ◌≤◌, ◌^◌, pos, neg_ℤ, ◌≤ℤ◌, true, length}
 use Rattle.sums.specs.Sums.{count_below}
+use Rattle.sums.specs.declared.TheConstants.{MOST_MOVES}
+use Rattle.sim_game.specs.declared.TheConstants.{MOST_TURNS}
 use Rattle.sim_game.specs.declared.Side.{Side}
 use Rattle.sim_game.specs.declared.Side.TheVariants.{One, Two}
 use Rattle.sim_game.specs.Model.{whole_chance}
@@ -31,7 +33,7 @@ pub record IsTableCell (l : Lists) (s place : ℕ) : Type 0 where
   pub there : (d : ℕ) → d < draws_at l place → table_state l place d < state_count l
   pub falls : (d : ℕ) → d < draws_at l place → table_rank l (table_state l place d) < table_rank l s
 
--- the table keeps all rules but the last
+-- the table keeps all rules but the last within the wide limits
 pub record IsTable (l : Lists) : Type 0 where
   pub some : 1 ≤ state_count l
   pub few : state_count l < 2 ^ 31
@@ -40,9 +42,9 @@ pub record IsTable (l : Lists) : Type 0 where
   pub payoff_low : (s : ℕ) → s < state_count l → table_rank l s ≡ 0 → neg_ℤ (pos 4000) ≤ℤ table_value l s
   pub payoff_high : (s : ℕ) → s < state_count l → table_rank l s ≡ 0 → table_value l s ≤ℤ pos 4000
   pub moves_low : (side : Side) (s : ℕ) → s < state_count l → 1 ≤ table_rank l s → 1 ≤ table_moves l side s
-  pub moves_high : (side : Side) (s : ℕ) → s < state_count l → 1 ≤ table_rank l s → table_moves l side s ≤ 32
+  pub moves_high : (side : Side) (s : ℕ) → s < state_count l → 1 ≤ table_rank l s → table_moves l side s ≤ MOST_MOVES
   pub cells : (s k : ℕ) → s < state_count l → 1 ≤ table_rank l s → k < cells_of l s → IsTableCell l s (place_at l s k)
-  pub rank_high : (s : ℕ) → s < state_count l → table_rank l s ≤ 31
+  pub rank_high : (s : ℕ) → s < state_count l → table_rank l s ≤ MOST_TURNS
   -- a rank is 1 more than the greatest that can follow
   pub longest : (s : ℕ) → s < state_count l → 1 ≤ table_rank l s → table_rank l s ≡ next_rank l s + 1
 

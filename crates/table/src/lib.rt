@@ -1,13 +1,16 @@
 //! Tables: any finite game, handed in state by state.
 #![tactic(auto)]
 
-ghost use Rattle.std.specs.Prelude.{◌≡◌, ℕ, ◌<◌, ◌^◌, length, true, MatchResult, None, Some};
+ghost use Rattle.std.specs.Prelude.{◌≡◌, ℕ, ◌<◌, ◌≤◌, ◌^◌, length, true, MatchResult, None, Some};
+ghost use Rattle.sim_game.specs.declared.Limits.{Limits};
+ghost use Rattle.sim_game.specs.declared.Limits.TheVariants.{Wide};
 ghost use Rattle.sim_game.specs.declared.Side.TheVariants.{One, Two};
 ghost use Rattle.table.specs.Draws.{AreDraws};
-ghost use Rattle.table.specs.Faults.{first_fault, HasTotals};
+ghost use Rattle.table.specs.Faults.{first_fault, most_table_moves, most_table_turns, HasTotals};
 ghost use Rattle.table.specs.Setting.{cell_number, lists_of, IsSettingOf};
-ghost use Rattle.table.specs.Laws.{table_is_game};
-ghost use Rattle.table.specs.Lists.{table_cell, has_rewards, is_chance_free, lists_from, table_moves, state_count, table_width};
+ghost use Rattle.sim_game.specs.Numbers.{by_key, numbered_by_key};
+ghost use Rattle.table.specs.Laws.{sound, table_is_game};
+ghost use Rattle.table.specs.Lists.{Lists, table_cell, has_rewards, is_chance_free, lists_from, table_moves, table_rank, state_count, table_width};
 ghost use Rattle.table.specs.Position.{AreSmallTotals, IsTable};
 ghost use Rattle.table.specs.Rules.{place_of, table_game, KeepsRules};
 ghost use Rattle.table.specs.Totals.{table_bound, table_range, AreStateTotals};
@@ -22,13 +25,14 @@ mod state_totals;
 mod summary;
 
 pub use nested::{
-    states_fit, states_have_longest_ways, states_have_one_game, states_have_short_lists,
+    MOST_STATES, states_fit, states_have_longest_ways, states_have_one_game,
+    states_have_short_lists, states_widen,
 };
 pub use refusals::position_has_one_game;
 use rules::Shaped;
 use setting::Cell;
 pub use setting::Setting;
-use sim_game::{CHANCE, Game, Side};
+use sim_game::{CHANCE, Game, Limits, Side};
 use state_totals::total_in;
 pub use state_totals::totals;
 use thiserror::Error;
@@ -66,9 +70,9 @@ pub enum TableError {
     NoStates,
     #[error("the payoff of the end {state} is not -4000 to 4000")]
     PayoffRange { state: u32 },
-    #[error("the state {state} has not 1 to 32 rows")]
+    #[error("the state {state} has no row, or too many")]
     RowsRange { state: u32 },
-    #[error("the rows of the state {state} have not 1 to 32 cells")]
+    #[error("the rows of the state {state} have no cell, or too many, or not equally many")]
     CellsRange { state: u32 },
     #[error("the cell {cell} of row {row} of the state {state} has not 1 to 13 draws")]
     DrawsRange { state: u32, row: u32, cell: u32 },
@@ -76,7 +80,7 @@ pub enum TableError {
     Weights { state: u32, row: u32, cell: u32 },
     #[error("the cell {cell} of row {row} of the state {state} names a state that does not stand behind it")]
     Order { state: u32, row: u32, cell: u32 },
-    #[error("the longest way from the state {state} takes more than 31 turns, or not as many as told")]
+    #[error("the longest way from the state {state} takes too many turns, or not as many as told")]
     Turns { state: u32 },
     #[error("what can be got from the state {state} on is not -4000 to 4000")]
     Total { state: u32 },
@@ -84,39 +88,22 @@ pub enum TableError {
 
 impl<'a> Table<'a> {
     /// The table of these lists. An error names the first rule that is broken: the lists fit each other; there is a
-    /// state; payoffs of ends are -4000 to 4000; a state that is no end has 1 to 32 rows, and 1 to 32 cells in each; a
-    /// cell has 1 to 13 draws, whose weights are at least 1 and sum to 360360, and whose states stand behind the
-    /// cell's own; ranks are those of the longest ways, and at most 31; and where turns pay, all that can be got from a
-    /// state on is -4000 to 4000. `totals` are those that the function of this name makes of the lists.
+    /// state; payoffs of ends are -4000 to 4000; a state that is no end has 1 to 32 rows, and 1 to 32 cells in each,
+    /// within wide limits 1 to 64; a cell has 1 to 13 draws, whose weights are at least 1 and sum to 360360, and whose
+    /// states stand behind the cell's own; ranks are those of the longest ways, and at most 31, within wide limits 63;
+    /// and where turns pay, all that can be got from a state on is -4000 to 4000. `totals` are those that the function
+    /// of this name makes of the lists.
     pub fn new(
-        ranks: &'a [i32],
-        moves: &'a [i32],
-        values: &'a [i32],
-        cells: &'a [i32],
-        draws: &'a [i32],
-        rewards: &'a [i32],
+        limits: Limits,
+        setting: Setting<'a>,
         totals: &'a [i32],
     ) -> Result<Table<'a>, TableError>
-        requires ranks { length ranks.now < 2 ^ 31 }
-        requires cells { length cells.now < 2 ^ 31 }
-        requires draws { length draws.now < 2 ^ 31 }
-        requires totals { HasTotals (lists_from ranks.now moves.now values.now cells.now draws.now rewards.now)
-            totals.now }
-        ensures { let l = lists_from ranks.now moves.now values.now cells.now draws.now rewards.now in
-            MatchResult result
-            (λ table. (first_fault l ≡ None)
-            × IsSettingOf ranks.now moves.now values.now cells.now draws.now rewards.now table.setting)
-            (λ fault. first_fault l ≡ Some fault) }
+        requires { HasTotals (lists_of setting) totals.now }
+        ensures { MatchResult result
+            (λ table. (first_fault limits (lists_of setting.entry) ≡ None) × (table.setting ≡ setting.entry))
+            (λ fault. first_fault limits (lists_of setting.entry) ≡ Some fault) }
     {
-        let setting = Setting {
-            ranks,
-            moves,
-            values,
-            cells,
-            draws,
-            rewards,
-        };
-        let shaped = Shaped::new(setting)?;
+        let shaped = Shaped::new(limits, setting)?;
         let table = shaped.table(totals)?;
         Ok(table)
     }
@@ -171,6 +158,8 @@ impl Game for Table<'_> {
 
     ghost model = { λ game. table_game (lists_of game.setting) };
 
+    ghost numbering = { λ game. let l = lists_of game.setting in by_key (table_game l) (state_count l) };
+
     fn root(&self) -> State {
         State { number: 0 }
     }
@@ -220,6 +209,11 @@ impl Game for Table<'_> {
     }
 
     #[inline]
+    fn place(&self, s: State) -> u64 {
+        self.key(s)
+    }
+
+    #[inline]
     fn low(&self) -> i32 {
         self.low
     }
@@ -263,7 +257,24 @@ impl Game for Table<'_> {
     }
 
     ghost lawful = { λ game. table_is_game (lists_of game.setting) game.valid game.small };
+
+    ghost numbered = { λ game. let l = lists_of game.setting in
+        numbered_by_key (table_game l) (table_is_game l game.valid game.small) (state_count l) (sound l game.valid) };
 }
+
+/// Lists that are accepted within some limits have no more moves of a side and no longer ways than these allow. They are
+/// accepted within the wide limits too, and within others wherever they have no more than those allow.
+pub fn tables_keep_limits()
+    ensures width { (limits : Limits) (l : Lists) → first_fault limits l ≡ None
+        → table_width l ≤ most_table_moves limits }
+    ensures turns { (limits : Limits) (l : Lists) → first_fault limits l ≡ None
+        → (s : ℕ) → s < state_count l → table_rank l s ≤ most_table_turns limits }
+    ensures wider { (limits : Limits) (l : Lists) → first_fault limits l ≡ None → first_fault Wide l ≡ None }
+    ensures others { (limits : Limits) (l : Lists) → first_fault limits l ≡ None
+        → (other : Limits) → table_width l ≤ most_table_moves other
+        → ((s : ℕ) → s < state_count l → table_rank l s ≤ most_table_turns other)
+        → first_fault other l ≡ None }
+{}
 
 /// What a state tells of the turns that follow it holds.
 pub fn keeps_rules(_game: &Table)

@@ -1,14 +1,16 @@
 //! The rules that lists which fit each other keep, tried one by one.
 
 ghost use Rattle.std.specs.Prelude.{◌≡◌, ℕ, ◌<◌, ◌≤◌, length, MatchResult, None, Some};
-ghost use Rattle.table.specs.Faults.{are_moves, are_weights, cell_error, cell_fault, fault_at, is_payoff, is_rank, keeps, leads_on, rule_fault, shape_fault, AreOrdered};
+ghost use Rattle.sim_game.specs.declared.Limits.{Limits};
+ghost use Rattle.table.specs.Faults.{are_moves, are_weights, cell_error, cell_fault, fault_at, is_payoff, is_rank, keeps, leads_on, most_table_moves, most_table_turns, rule_fault, shape_fault, AreOrdered};
 ghost use Rattle.table.specs.Setting.{lists_of};
 ghost use Rattle.table.specs.Lists.{cell_rank, cells_of, draws_at, next_rank, place_at, table_rank, table_state, state_count};
 ghost use Rattle.table.specs.Position.{AreFitting, IsTable};
 
 use crate::TableError;
 use crate::setting::{Cell, Setting};
-use sim_game::{CHANCE, Side};
+use sim_game::{CHANCE, Limits, MOST_TURNS, Side};
+use sums::MOST_MOVES;
 
 /// A rule of the cells of a state.
 #[derive(Clone, Copy, PartialEq, Eq, Debug)]
@@ -22,10 +24,10 @@ pub(crate) enum CellRule {
 #[derive(Clone, Copy, PartialEq, Eq, Debug)]
 pub(crate) enum Rule {
     Payoff,
-    Rows,
-    Cells,
+    Rows(Limits),
+    Cells(Limits),
     Each(CellRule),
-    Turns,
+    Turns(Limits),
 }
 
 /// Lists that fit each other.
@@ -41,10 +43,30 @@ fn is_payoff(value: i32) -> bool
     !(value < -4000 || 4000 < value)
 }
 
-fn are_moves(moves: u32) -> bool
-    ensures { result ≡ are_moves moves }
+/// The most rows of a state, and the most cells of a row.
+fn most_moves(limits: Limits) -> u32
+    ensures { result ≡ most_table_moves limits }
 {
-    1 <= moves && moves <= 32
+    match limits {
+        Limits::Narrow => 32,
+        Limits::Wide => MOST_MOVES,
+    }
+}
+
+/// The most turns of a way.
+fn most_turns(limits: Limits) -> u32
+    ensures { result ≡ most_table_turns limits }
+{
+    match limits {
+        Limits::Narrow => 31,
+        Limits::Wide => MOST_TURNS,
+    }
+}
+
+fn are_moves(limits: Limits, moves: u32) -> bool
+    ensures { result ≡ are_moves limits moves }
+{
+    1 <= moves && moves <= most_moves(limits)
 }
 
 impl CellRule {
@@ -161,14 +183,14 @@ impl Fitting<'_> {
         most
     }
 
-    /// Whether the rank of a state is at most 31, and that of the longest way.
-    fn is_rank(&self, s: u32) -> bool
+    /// Whether the rank of a state is within the limits, and that of the longest way.
+    fn is_rank(&self, limits: Limits, s: u32) -> bool
         requires here { s < state_count (lists_of self.now.setting) }
         requires ordered { AreOrdered (lists_of self.now.setting) }
-        ensures { result ≡ is_rank (lists_of self.now.setting) s }
+        ensures { result ≡ is_rank limits (lists_of self.now.setting) s }
     {
         let rank = self.setting.rank(s);
-        if rank > 31 {
+        if rank > most_turns(limits) {
             return false;
         }
         rank == 0 || rank - 1 == self.next_rank(s)
@@ -195,26 +217,28 @@ impl Fitting<'_> {
     /// What is said of the state where it breaks the rule.
     fn fault_at(&self, rule: Rule, s: u32) -> Option<TableError>
         requires here { s < state_count (lists_of self.now.setting) }
-        requires ordered { rule ≡ Rule.Turns → AreOrdered (lists_of self.now.setting) }
+        requires ordered { (limits : Limits) → rule ≡ Rule.Turns limits → AreOrdered (lists_of self.now.setting) }
         ensures { result ≡ fault_at rule (lists_of self.now.setting) s }
     {
         let is_end = self.setting.rank(s) == 0;
         match rule {
             Rule::Payoff if !is_end || is_payoff(self.setting.value(s)) => None,
             Rule::Payoff => Some(TableError::PayoffRange { state: s }),
-            Rule::Rows if is_end || are_moves(self.setting.moves(Side::One, s)) => None,
-            Rule::Rows => Some(TableError::RowsRange { state: s }),
-            Rule::Cells if is_end || are_moves(self.setting.moves(Side::Two, s)) => None,
-            Rule::Cells => Some(TableError::CellsRange { state: s }),
+            Rule::Rows(limits) if is_end || are_moves(limits, self.setting.moves(Side::One, s)) =>
+                None,
+            Rule::Rows(_) => Some(TableError::RowsRange { state: s }),
+            Rule::Cells(limits) if is_end || are_moves(limits, self.setting.moves(Side::Two, s)) =>
+                None,
+            Rule::Cells(_) => Some(TableError::CellsRange { state: s }),
             Rule::Each(rule) => self.cell_fault(rule, s),
-            Rule::Turns if self.is_rank(s) => None,
-            Rule::Turns => Some(TableError::Turns { state: s }),
+            Rule::Turns(limits) if self.is_rank(limits, s) => None,
+            Rule::Turns(_) => Some(TableError::Turns { state: s }),
         }
     }
 
     /// Refuses lists in which a state breaks the rule.
     pub(crate) fn check(&self, rule: Rule) -> Result<(), TableError>
-        requires { rule ≡ Rule.Turns → AreOrdered (lists_of self.now.setting) }
+        requires { (limits : Limits) → rule ≡ Rule.Turns limits → AreOrdered (lists_of self.now.setting) }
         ensures { MatchResult result
             (λ _. rule_fault rule (lists_of self.now.setting) ≡ None)
             (λ fault. rule_fault rule (lists_of self.now.setting) ≡ Some fault) }
@@ -237,10 +261,10 @@ pub(crate) struct Shaped<'a> {
 
 impl<'a> Shaped<'a> {
     /// The lists, where they keep all rules but the last, else the first that is broken.
-    pub(crate) fn new(setting: Setting<'a>) -> Result<Shaped<'a>, TableError>
+    pub(crate) fn new(limits: Limits, setting: Setting<'a>) -> Result<Shaped<'a>, TableError>
         ensures { MatchResult result
-            (λ shaped. (shape_fault (lists_of setting.entry) ≡ None) × (shaped.setting ≡ setting.entry))
-            (λ fault. shape_fault (lists_of setting.entry) ≡ Some fault) }
+            (λ shaped. (shape_fault limits (lists_of setting.entry) ≡ None) × (shaped.setting ≡ setting.entry))
+            (λ fault. shape_fault limits (lists_of setting.entry) ≡ Some fault) }
     {
         if !setting.do_fit() {
             return Err(TableError::Lists);
@@ -250,12 +274,12 @@ impl<'a> Shaped<'a> {
         }
         let lists = Fitting { setting };
         lists.check(Rule::Payoff)?;
-        lists.check(Rule::Rows)?;
-        lists.check(Rule::Cells)?;
+        lists.check(Rule::Rows(limits))?;
+        lists.check(Rule::Cells(limits))?;
         lists.check(Rule::Each(CellRule::Draws))?;
         lists.check(Rule::Each(CellRule::Weights))?;
         lists.check(Rule::Each(CellRule::Order))?;
-        lists.check(Rule::Turns)?;
+        lists.check(Rule::Turns(limits))?;
         Ok(Shaped { setting })
     }
 

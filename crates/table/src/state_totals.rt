@@ -12,7 +12,7 @@ ghost use Rattle.table.specs.Totals.{cell_total, next_total, table_range, total_
 use crate::rules::Shaped;
 use crate::setting::{Cell, Setting};
 use crate::{Table, TableError};
-use sim_game::{NoMemory, Side};
+use sim_game::{Limits, NoMemory, Side};
 use std::alloc::{AllocError, Global};
 
 /// The worse of two numbers for a side: the lesser for One, the greater for Two.
@@ -205,7 +205,8 @@ impl<'a> Shaped<'a> {
 }
 
 /// For each state the least and the greatest sum that One can still get from it on, where turns pay: what a table with
-/// rewards borrows beside its lists. Nobody reads it where no turn pays, or where a rule before the last is broken.
+/// rewards borrows beside its lists. Nobody reads it where no turn pays, or where a rule before the last
+/// is broken within the wide limits.
 pub fn totals(
     alloc: Global,
     ranks: &[i32],
@@ -233,7 +234,7 @@ pub fn totals(
     if rewards.is_empty() {
         return Ok(Vec::new(alloc));
     }
-    match Shaped::new(setting) {
+    match Shaped::new(Limits::Wide, setting) {
         Ok(shaped) => Ok(shaped.totals(alloc)?),
         Err(_) => Ok(Vec::new(alloc)),
     }

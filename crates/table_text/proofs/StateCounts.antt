@@ -1,5 +1,5 @@
 -- How many cells and draws there are, by counts that stop at a number.
-use Rattle.std.proofs.Common.{◌≡◌, ℕ, ◌+◌, ◌≤◌, min, List, [], ◌∷◌, ◌++◌, Bool, true, false, cond, map, length, refl, ap, sym, ◌∙◌, arith, sum, zero-add, leb, ◌&&◌}
+use Rattle.std.proofs.Common.{◌≡◌, ℕ, ◌+◌, ◌≤◌, min, List, [], ◌∷◌, ◌++◌, Bool, true, false, cond, map, length, refl, ap, sym, ◌∙◌, arith, sum, zero-add, ◌&&◌}
 use Rattle.std.specs.List.{flat_map, fold, sum_by, list_all}
 use Rattle.std.proofs.lemmas.List.{length-map, length-append}
 use Rattle.std.proofs.lemmas.List.Folds.{flat_map-map, list_all-map}
@@ -7,7 +7,8 @@ use Rattle.std.proofs.lemmas.List.Sums.{sum-map, sum_by-append}
 use Rattle.serde_json.specs.Data.{Data, null, boolean, number, string, array, object}
 use Rattle.serde_json.specs.View.{view}
 use Rattle.serde_json.specs.declared.value.Value.{Value}
-use Rattle.table.specs.Nested.{CellForm, End, Rows, given_cells, draws_of_form, draw_count_of, state_in_range, are_in_range}
+use Rattle.sim_game.specs.declared.Limits.{Limits}
+use Rattle.table.specs.Nested.{CellForm, End, Rows, given_cells, draws_of_form, draw_count_of, state_in_range, are_few, are_in_range}
 use Rattle.table_text.specs.Elements.{is_whole}
 use Rattle.table_text.specs.States.{elements_of, whole_of, cell_form_of, row_form_of, state_form_of}
 
@@ -98,17 +99,19 @@ draws_in_states most vs =
     (λ v. capped_twice (draw_count_of (given_cells (state_form_of (view v)))) most) vs
 
 -- ---- all of the range
-in_range_parts : (vs : List Value) → are_in_range (map (λ v. state_form_of (view v)) vs) ≡ (list_all (λ v. state_in_range (state_form_of (view v))) vs && (leb (length vs) 524288
-    && (leb (length (flat_map (λ v. given_cells (state_form_of (view v))) vs)) 524288 && leb (draw_count_of (flat_map (λ v. given_cells (state_form_of (view v))) vs)) 262144)))
-in_range_parts vs =
-    rw (list_all-map state_in_range (λ v. state_form_of (view v)) vs, length-map vs (λ v. state_form_of (view v)), flat_map-map given_cells (λ v. state_form_of (view v)) vs) refl
+in_range_parts : (limits : Limits) (vs : List Value) → are_in_range limits (map (λ v. state_form_of (view v)) vs)
+    ≡ (list_all (λ v. state_in_range limits (state_form_of (view v))) vs
+    && are_few (length vs) (length (flat_map (λ v. given_cells (state_form_of (view v))) vs)) (draw_count_of (flat_map (λ v. given_cells (state_form_of (view v))) vs)))
+in_range_parts limits vs =
+    rw (list_all-map (state_in_range limits) (λ v. state_form_of (view v)) vs, length-map vs (λ v. state_form_of (view v)), flat_map-map given_cells (λ v. state_form_of (view v)) vs) refl
 
-pub in_range_is : (vs : List Value) (all few : Bool) → all ≡ list_all (λ v. state_in_range (state_form_of (view v))) vs
-    → few ≡ (leb (length vs) 524288 &&
-    (leb (length (flat_map (λ v. given_cells (state_form_of (view v))) vs)) 524288 && leb (draw_count_of (flat_map (λ v. given_cells (state_form_of (view v))) vs)) 262144))
-    → (all && few) ≡ are_in_range (map (λ v. state_form_of (view v)) vs)
-in_range_is vs all few a f = rw (a, f) (sym (in_range_parts vs))
+pub in_range_is : (limits : Limits) (vs : List Value) (all few : Bool) → all ≡ list_all (λ v. state_in_range limits (state_form_of (view v))) vs
+    → few ≡ are_few (length vs) (length (flat_map (λ v. given_cells (state_form_of (view v))) vs)) (draw_count_of (flat_map (λ v. given_cells (state_form_of (view v))) vs))
+    → (all && few) ≡ are_in_range limits (map (λ v. state_form_of (view v)) vs)
+in_range_is limits vs all few a f = rw (a, f) (sym (in_range_parts limits vs))
 
-pub in_range_not : (vs : List Value) (all : Bool) → all ≡ list_all (λ v. state_in_range (state_form_of (view v))) vs → all ≡ false → all ≡ are_in_range (map (λ v. state_form_of (view v)) vs)
-in_range_not vs all a f = f ∙ sym (in_range_parts vs ∙ ap (λ (b : Bool). b && (leb (length vs) 524288
-    && (leb (length (flat_map (λ v. given_cells (state_form_of (view v))) vs)) 524288 && leb (draw_count_of (flat_map (λ v. given_cells (state_form_of (view v))) vs)) 262144))) (sym a ∙ f))
+pub in_range_not : (limits : Limits) (vs : List Value) (all : Bool) → all ≡ list_all (λ v. state_in_range limits (state_form_of (view v))) vs → all ≡ false
+    → all ≡ are_in_range limits (map (λ v. state_form_of (view v)) vs)
+in_range_not limits vs all a f =
+    let cells = flat_map (λ (v : Value). given_cells (state_form_of (view v))) vs in
+    f ∙ sym (in_range_parts limits vs ∙ ap (λ (b : Bool). b && are_few (length vs) (length cells) (draw_count_of cells)) (sym a ∙ f))

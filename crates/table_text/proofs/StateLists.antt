@@ -1,7 +1,7 @@
 -- Lists that grow at their end, as cells and states are told.
-use Rattle.std.proofs.Common.{◌≡◌, ℕ, ℤ, pos, negsuc, neg_ℤ, ◌+◌, ◌<◌, ◌≤◌, ◌≤ℤ◌, List, [], ◌∷◌, ◌++◌, Bool, true, false, cond, ◌&&◌, map, length, take, drop, get_or, refl, ap, sym, ◌∙◌, subst, arith, zero-add, leb, eqb, suc, int_le, append_assoc, ◌⊎◌, inl, inr}
+use Rattle.std.proofs.Common.{◌≡◌, ℕ, ℤ, pos, negsuc, neg_ℤ, ◌+◌, ◌<◌, ◌≤◌, ◌≤ℤ◌, List, [], ◌∷◌, ◌++◌, Bool, true, false, cond, ◌&&◌, map, length, take, drop, get_or, refl, ap, sym, ◌∙◌, subst, arith, zero-add, leb, ltb, eqb, suc, int_le, append_assoc, ◌⊎◌, inl, inr}
 use Rattle.std.specs.List.{flat_map, list_all}
-use Rattle.std.proofs.lemmas.Bool.{cond_both, and_parts, leb-true, eq-eqb}
+use Rattle.std.proofs.lemmas.Bool.{cond_both, and_parts, leb-true, ltb-true, eq-eqb}
 use Rattle.std.proofs.lemmas.Float.{T_from_true}
 use Rattle.std.proofs.lemmas.Grind.{flat_map-append}
 use Rattle.std.proofs.Math.Bool.{and_assoc, and-true}
@@ -13,7 +13,10 @@ use Rattle.std.proofs.lemmas.List.Sums.{AllPass-from_list_all, sum-map}
 use Rattle.serde_json.specs.Data.{Data}
 use Rattle.serde_json.specs.View.{view}
 use Rattle.serde_json.specs.declared.value.Value.{Value}
-use Rattle.table.specs.Nested.{CellForm, Follows, Draws, StateForm, End, Rows, is_within, is_reward, names_state, cell_in_range, row_in_range, state_in_range, draws_of_form, draw_count_of, draw_in_range, cells_told, draw_told, reward_told, kept_draws, values_told, moves_told, kept_cells, given_cells, are_in_range, columns_in}
+use Rattle.sim_game.specs.declared.Limits.{Limits}
+use Rattle.sim_game.specs.declared.Limits.TheVariants.{Wide}
+use Rattle.table.specs.declared.nested.TheConstants.{MOST_STATES}
+use Rattle.table.specs.Nested.{CellForm, Follows, Draws, StateForm, End, Rows, is_within, is_reward, names_state, cell_in_range, row_in_range, state_in_range, draws_of_form, draw_count_of, draw_in_range, cells_told, draw_told, reward_told, kept_draws, values_told, moves_told, kept_cells, given_cells, are_few, are_in_range, columns_in}
 use Rattle.table.proofs.FormLemmas.{draw_parts}
 use Rattle.table_text.specs.declared.lists.DrawLists.{DrawLists}
 use Rattle.table_text.specs.declared.lists.Cells.{Cells}
@@ -50,13 +53,13 @@ read_past vs d i is past =
     sym (get_or_past (map (λ (w : Value). whole_of (view w)) vs) i (pos 0) (omega (arith, length-map vs (λ (w : Value). whole_of (view w)))))
     ∙ ap (λ (zs : List ℤ). get_or zs i (pos 0)) (forms_are whole_of vs d is)
 
-pub draw_is : (draw : List ℤ) (count numbers : Bool) → count ≡ (leb 2 (length draw) && leb (length draw) 3)
-    → numbers ≡ (names_state (get_or draw 0 (pos 0)) && names_state (get_or draw 1 (pos 0)) && is_reward (reward_told draw)) → (count && numbers) ≡ draw_in_range draw
-draw_is draw count numbers c n = rw (c, n) refl
+pub draw_is : (limits : Limits) (draw : List ℤ) (count numbers : Bool) → count ≡ (leb 2 (length draw) && leb (length draw) 3)
+    → numbers ≡ (names_state limits (get_or draw 0 (pos 0)) && names_state limits (get_or draw 1 (pos 0)) && is_reward (reward_told draw)) → (count && numbers) ≡ draw_in_range limits draw
+draw_is limits draw count numbers c n = rw (c, n) refl
 
-pub draw_not : (draw : List ℤ) (count : Bool) → count ≡ (leb 2 (length draw) && leb (length draw) 3) → count ≡ false → count ≡ draw_in_range draw
-draw_not draw count c f =
-    f ∙ sym (ap (λ (b : Bool). b && (names_state (get_or draw 0 (pos 0)) && names_state (get_or draw 1 (pos 0)) && is_reward (reward_told draw))) (sym c ∙ f))
+pub draw_not : (limits : Limits) (draw : List ℤ) (count : Bool) → count ≡ (leb 2 (length draw) && leb (length draw) 3) → count ≡ false → count ≡ draw_in_range limits draw
+draw_not limits draw count c f =
+    f ∙ sym (ap (λ (b : Bool). b && (names_state limits (get_or draw 0 (pos 0)) && names_state limits (get_or draw 1 (pos 0)) && is_reward (reward_told draw))) (sym c ∙ f))
 
 -- each of them is small
 pub record IsSmall (z : ℤ) : Type 0 where
@@ -71,12 +74,12 @@ pub record IsSmallDraw (draw : List ℤ) : Type 0 where
   pub weight : IsSmall (get_or draw 1 (pos 0))
   pub reward : IsSmall (get_or draw 2 (pos 0))
 
-pub small_draw : (draw : List ℤ) → draw_in_range draw ≡ true → IsSmallDraw draw
+pub small_draw : (draw : List ℤ) → draw_in_range Wide draw ≡ true → IsSmallDraw draw
 small_draw draw h =
-    let parts = draw_parts draw h in
+    let parts = draw_parts Wide draw h in
     record {
-      state = small (pos 0) (pos 1048575) (get_or draw 0 (pos 0)) (omega (arith, ints)) (omega (arith, ints)) parts.0;
-      weight = small (pos 0) (pos 1048575) (get_or draw 1 (pos 0)) (omega (arith, ints)) (omega (arith, ints)) parts.1;
+      state = small (pos 0) (pos 16777215) (get_or draw 0 (pos 0)) (omega (arith, ints)) (omega (arith, ints)) parts.0;
+      weight = small (pos 0) (pos 16777215) (get_or draw 1 (pos 0)) (omega (arith, ints)) (omega (arith, ints)) parts.1;
       reward = small (neg_ℤ (pos 1000000)) (pos 1000000) (get_or draw 2 (pos 0)) (omega (arith, ints)) (omega (arith, ints)) parts.2;
     }
 
@@ -233,31 +236,31 @@ pub row_cells : (vs : List Value) (d : Data) → map view vs ≡ elements_of d �
 row_cells vs d is = flat_map_single (λ (v : Value). cell_form_of (view v)) vs ∙ forms_are cell_form_of vs d is
 
 -- ---- the rows of a state
-pub rows_few : (rows : List (List CellForm)) → list_all row_in_range rows ≡ true → columns_in rows ≤ 255
+pub rows_few : (rows : List (List CellForm)) → list_all (row_in_range Wide) rows ≡ true → columns_in rows ≤ 255
 rows_few [] h = omega arith
 rows_few (row ∷ rows) h =
-    let here = (and_parts (row_in_range row) (list_all row_in_range rows) h).0 in
-    let few = leb-true (length row) 255 (and_parts (leb (length row) 255) (list_all cell_in_range row) here).0 in
+    let here = (and_parts (row_in_range Wide row) (list_all (row_in_range Wide) rows) h).0 in
+    let few = leb-true (length row) 255 (and_parts (leb (length row) 255) (list_all (cell_in_range Wide) row) here).0 in
     cond_both (list_all (λ (other : List CellForm). eqb (length other) (length row)) rows) (length row) 0 (λ (n : ℕ). n ≤ 255) (λ _. few) (λ _. omega arith)
 
-columns_few : (vs : List Value) → list_all (λ v. row_in_range (row_form_of (view v))) vs ≡ true → columns_in (map (λ v. row_form_of (view v)) vs) ≤ 255
-columns_few vs h = rows_few (map (λ v. row_form_of (view v)) vs) (list_all-map row_in_range (λ (v : Value). row_form_of (view v)) vs ∙ h)
+columns_few : (vs : List Value) → list_all (λ v. row_in_range Wide (row_form_of (view v))) vs ≡ true → columns_in (map (λ v. row_form_of (view v)) vs) ≤ 255
+columns_few vs h = rows_few (map (λ v. row_form_of (view v)) vs) (list_all-map (row_in_range Wide) (λ (v : Value). row_form_of (view v)) vs ∙ h)
 
 pub record AreRows (vs : List Value) : Type 0 where
   pub few : length vs ≤ 255
   pub columns : columns_in (map (λ v. row_form_of (view v)) vs) ≤ 255
-  pub range : list_all (λ v. row_in_range (row_form_of (view v))) vs ≡ true
+  pub range : list_all (λ v. row_in_range Wide (row_form_of (view v))) vs ≡ true
 
-pub are_rows : (vs : List Value) (d : Data) → map view vs ≡ elements_of d → is_whole d ≡ false → state_in_range (state_form_of d) ≡ true → AreRows vs
+pub are_rows : (vs : List Value) (d : Data) → map view vs ≡ elements_of d → is_whole d ≡ false → state_in_range Wide (state_form_of d) ≡ true → AreRows vs
 are_rows vs d is whole h =
-    let both = and_parts (leb (length vs) 255) (list_all (λ v. row_in_range (row_form_of (view v))) vs)
-    (few_forms (λ n. leb n 255) row_in_range row_form_of vs d is ∙ sym (ap state_in_range (state_list d whole)) ∙ h) in
+    let both = and_parts (leb (length vs) 255) (list_all (λ v. row_in_range Wide (row_form_of (view v))) vs)
+    (few_forms (λ n. leb n 255) (row_in_range Wide) row_form_of vs d is ∙ sym (ap (state_in_range Wide) (state_list d whole)) ∙ h) in
     record { few = leb-true (length vs) 255 both.0; columns = columns_few vs both.1; range = both.1 }
 
 pub kept_range : (rows kept : List Value) (d : Data) → map view rows ≡ elements_of d → (kept ≡ []) ⊎ (map view kept ≡ elements_of d)
-    → list_all (λ v. row_in_range (row_form_of (view v))) rows ≡ true → list_all (λ v. row_in_range (row_form_of (view v))) kept ≡ true
+    → list_all (λ v. row_in_range Wide (row_form_of (view v))) rows ≡ true → list_all (λ v. row_in_range Wide (row_form_of (view v))) kept ≡ true
 kept_range rows kept d is (inl none) h = rw none refl
-kept_range rows kept d is (inr all) h = all_elements (λ e. row_in_range (row_form_of e)) kept d all ∙ sym (all_elements (λ e. row_in_range (row_form_of e)) rows d is) ∙ h
+kept_range rows kept d is (inr all) h = all_elements (λ e. row_in_range Wide (row_form_of e)) kept d all ∙ sym (all_elements (λ e. row_in_range Wide (row_form_of e)) rows d is) ∙ h
 
 -- ---- states
 values_told-append : (cells : ℕ) (xs ys : List StateForm) → values_told cells (xs ++ ys) ≡ values_told cells xs ++ values_told (cells + length (flat_map kept_cells xs)) ys
@@ -320,29 +323,29 @@ all_kept_less (form ∷ forms) =
 
 -- ---- what is known of states in range
 pub record AreStates (vs : List Value) : Type 0 where
-  pub range : list_all (λ v. state_in_range (state_form_of (view v))) vs ≡ true
-  pub few : length vs ≤ 524288
-  pub cells : length (flat_map (λ v. kept_cells (state_form_of (view v))) vs) ≤ 524288
-  pub draws : draw_count_of (flat_map (λ v. kept_cells (state_form_of (view v))) vs) ≤ 262144
+  pub range : list_all (λ v. state_in_range Wide (state_form_of (view v))) vs ≡ true
+  pub few : length vs ≤ MOST_STATES
+  pub cells : length (flat_map (λ v. kept_cells (state_form_of (view v))) vs) ≤ MOST_STATES
+  pub draws : draw_count_of (flat_map (λ v. kept_cells (state_form_of (view v))) vs) ≤ MOST_STATES
 
-pub are_states_in_range : (vs : List Value) → are_in_range (map (λ v. state_form_of (view v)) vs) ≡ true → AreStates vs
+pub are_states_in_range : (vs : List Value) → are_in_range Wide (map (λ v. state_form_of (view v)) vs) ≡ true → AreStates vs
 are_states_in_range vs h =
     let forms = map (λ (v : Value). state_form_of (view v)) vs in
     let given = flat_map given_cells forms in
-    let first = and_parts (list_all state_in_range forms) (leb (length forms) 524288 && (leb (length given) 524288 && leb (draw_count_of given) 262144)) h in
-    let second = and_parts (leb (length forms) 524288) (leb (length given) 524288 && leb (draw_count_of given) 262144) first.1 in
-    let third = and_parts (leb (length given) 524288) (leb (draw_count_of given) 262144) second.1 in
+    let first = and_parts (list_all (state_in_range Wide) forms) (are_few (length forms) (length given) (draw_count_of given)) h in
+    let second = and_parts (leb (length forms) MOST_STATES) (leb (length given) MOST_STATES && ltb (draw_count_of given) MOST_STATES) first.1 in
+    let third = and_parts (leb (length given) MOST_STATES) (ltb (draw_count_of given) MOST_STATES) second.1 in
     let less = all_kept_less forms in
     let kept = flat_map-map kept_cells (λ (v : Value). state_form_of (view v)) vs in
     record {
-      range = sym (list_all-map state_in_range (λ (v : Value). state_form_of (view v)) vs) ∙ first.0;
-      few = omega (arith, leb-true (length forms) 524288 second.0, length-map vs (λ (v : Value). state_form_of (view v)));
-      cells = subst (λ (cells : List CellForm). length cells ≤ 524288) kept (omega (arith, less.cells, leb-true (length given) 524288 third.0));
-      draws = subst (λ (cells : List CellForm). draw_count_of cells ≤ 262144) kept (omega (arith, less.draws, leb-true (draw_count_of given) 262144 third.1));
+      range = sym (list_all-map (state_in_range Wide) (λ (v : Value). state_form_of (view v)) vs) ∙ first.0;
+      few = omega (arith, leb-true (length forms) MOST_STATES second.0, length-map vs (λ (v : Value). state_form_of (view v)));
+      cells = subst (λ (cells : List CellForm). length cells ≤ MOST_STATES) kept (omega (arith, less.cells, leb-true (length given) MOST_STATES third.0));
+      draws = subst (λ (cells : List CellForm). draw_count_of cells ≤ MOST_STATES) kept (omega (arith, less.draws, ltb-true (draw_count_of given) MOST_STATES third.1));
     }
 
 pub few_so_far : (vs : List Value) (i : ℕ) (v : Value) (lists : Lists) → AreStates vs → i < length vs → AreListsOf (map (λ v. state_form_of (view v)) (take i vs)) lists
-    → length lists.cells.numbers.items ≤ 524288
+    → length lists.cells.numbers.items ≤ MOST_STATES
 few_so_far vs i v lists states below before =
     let kept = flat_map-map kept_cells (λ (v : Value). state_form_of (view v)) (take i vs) in
     omega (
@@ -355,7 +358,7 @@ few_so_far vs i v lists states below before =
     )
 
 pub room_so_far : (vs : List Value) (i : ℕ) (v : Value) (lists : Lists) → AreStates vs → i < length vs → v ≡ get_or vs i v → AreListsOf (map (λ v. state_form_of (view v)) (take i vs)) lists
-    → length lists.cells.draws.rewards.items + draw_count_of (kept_cells (state_form_of (view v))) ≤ 262144
+    → length lists.cells.draws.rewards.items + draw_count_of (kept_cells (state_form_of (view v))) ≤ MOST_STATES
 room_so_far vs i v lists states below is before =
     let forms = map (λ (v : Value). state_form_of (view v)) (take i vs) in
     let kept = flat_map-map kept_cells (λ (v : Value). state_form_of (view v)) (take i vs) in

@@ -9,6 +9,7 @@ use Rattle.std.proofs.lemmas.List.Elements.{All-nil, All-cons, All-weaker, All-a
 use Rattle.std.proofs.lemmas.List.Folds.{flat_map-map}
 use Rattle.serde_json.specs.View.{view}
 use Rattle.serde_json.specs.declared.value.Value.{Value}
+use Rattle.table.specs.declared.nested.TheConstants.{MOST_STATES}
 use Rattle.table.specs.Nested.{CellForm, Draws, StateForm, End, Rows, kept_cells, kept_draws, draws_of_form, draw_told, draws_told, reward_told, rewards_told, greatest_in, named_by, rank_behind, rank_told, ranks_told, lists_of_states}
 use Rattle.table_text.specs.States.{draw_form_of, cell_form_of, row_form_of, state_form_of, are_unpaid, rank_in, rank_among, AreListsOf, table_text_of}
 use Rattle.table_text.specs.declared.lists.Lists.{Lists}
@@ -153,15 +154,15 @@ numbers_low most zs low (pos n) = elim (cases_lt n (length zs)) [
 ]
 
 -- each rank is at most the number of states
-pub all_low : (s : ℕ) (vs : List Value) (ranks : List ℤ) → AreRanksFrom s vs ranks → length vs ≤ 524288 → (z : ℤ) → rank_in ranks z ≤ 524288
+pub all_low : (s : ℕ) (vs : List Value) (ranks : List ℤ) → AreRanksFrom s vs ranks → length vs ≤ MOST_STATES → (z : ℤ) → rank_in ranks z ≤ MOST_STATES
 all_low s vs ranks h few =
     let rest = map (λ (v : Value). state_form_of (view v)) (drop s vs) in
-    let low = All-weaker (λ r. r ≤ length rest) (λ r. r ≤ 524288) (λ r k. omega (arith, length-map (drop s vs) (λ (v : Value). state_form_of (view v)), length-drop s vs)) (ranks_told s rest)
+    let low = All-weaker (λ r. r ≤ length rest) (λ r. r ≤ MOST_STATES) (λ r k. omega (arith, length-map (drop s vs) (λ (v : Value). state_form_of (view v)), length-drop s vs)) (ranks_told s rest)
     (ranks_low s rest) in
-    numbers_low 524288 ranks
-    (subst (All (λ z. unsigned_abs z ≤ 524288)) (sym h.told)
-    (All-append (λ z. unsigned_abs z ≤ 524288) (replicate s (pos 0)) (map pos (ranks_told s rest)) (All-replicate (λ z. unsigned_abs z ≤ 524288) s (pos 0) (omega arith))
-    (All-map (λ z. unsigned_abs z ≤ 524288) pos (ranks_told s rest) low)))
+    numbers_low MOST_STATES ranks
+    (subst (All (λ z. unsigned_abs z ≤ MOST_STATES)) (sym h.told)
+    (All-append (λ z. unsigned_abs z ≤ MOST_STATES) (replicate s (pos 0)) (map pos (ranks_told s rest)) (All-replicate (λ z. unsigned_abs z ≤ MOST_STATES) s (pos 0) (omega arith))
+    (All-map (λ z. unsigned_abs z ≤ MOST_STATES) pos (ranks_told s rest) low)))
 
 -- one state before
 pub ranks_more : (s left : ℕ) (vs : List Value) (v : Value) (ranks : List ℤ) (rank : ℕ) → left ≡ s + 1 → s < length vs → v ≡ get_or vs s v → AreRanksFrom left vs ranks

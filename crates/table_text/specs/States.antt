@@ -3,6 +3,7 @@ use Rattle.std.specs.Prelude.{◌≡◌, ◌++◌, ◌==◌, length, ℕ, suc, �
 use Rattle.std.specs.List.{list_all, flat_map}
 use Rattle.serde_json.specs.Data.{Data}
 use Rattle.serde_json.specs.Find.{as_array}
+use Rattle.sim_game.specs.declared.Limits.{Limits}
 use Rattle.table.specs.Lists.{Lists as TableLists}
 use Rattle.table.specs.Nested.{CellForm, Follows, Draws, StateForm, End, Rows, are_in_range, lists_of_states, cells_told, draws_of_form, draw_told, reward_told, moves_told, values_told, kept_cells, kept_draws, greatest_in, named_by}
 use Rattle.fields.specs.declared.positions.PositionText.{PositionText}
@@ -65,12 +66,12 @@ forms_in d = if are_state_kinds d then Some (forms_of d) else None
 abbrev pub table_text_of : TableLists → PositionText
 table_text_of l = texts.Table l.ranks l.moves l.values l.cells l.draws l.rewards
 
-abbrev pub text_of_forms : Option (List StateForm) → Result PositionText StatesFault
-text_of_forms None = Err faults.Kind
-text_of_forms (Some forms) = if are_in_range forms then Ok (table_text_of (lists_of_states forms)) else Err faults.Range
+abbrev pub text_of_forms : Limits → Option (List StateForm) → Result PositionText StatesFault
+text_of_forms limits None = Err faults.Kind
+text_of_forms limits (Some forms) = if are_in_range limits forms then Ok (table_text_of (lists_of_states forms)) else Err faults.Range
 
-unfoldable pub table_text_in : Data → Result PositionText StatesFault
-table_text_in d = text_of_forms (forms_in d)
+unfoldable pub table_text_in : Limits → Data → Result PositionText StatesFault
+table_text_in limits d = text_of_forms limits (forms_in d)
 
 -- What a function returned, seen by view, is what reading gives, unless memory ran out.
 abbrev pub Fails : {Y : Type 0} → StatesFault → Result Y StatesFault → Type 0

@@ -3,6 +3,8 @@
 ghost use Rattle.std.specs.Prelude.{◌≡◌, ◌&&◌, ◌∷◌, ◌++◌, [], ◌+◌, ◌<◌, ◌≤◌, ◌^◌, ◌==◌, ◌⊎◌, true, false, pos, negsuc, neg_ℤ, ◌≤ℤ◌, map, length, if◌then◌else◌, IfOk, OnOk};
 ghost use Rattle.std.specs.List.{list_all, flat_map};
 ghost use Rattle.serde_json.specs.View.{view};
+ghost use Rattle.sim_game.specs.declared.Limits.TheVariants.{Wide};
+ghost use Rattle.table.specs.declared.nested.TheConstants.{MOST_STATES};
 ghost use Rattle.table.specs.Nested.{Draws, End, Rows, is_within, draw_in_range, cell_in_range, row_in_range, state_in_range, are_in_range, draw_count_of, kept_cells, columns_in};
 ghost use Rattle.table_text.specs.Elements.{is_whole};
 ghost use Rattle.table_text.specs.States.{elements_of, whole_of, draw_form_of, cell_form_of, row_form_of, state_form_of, are_unpaid, AddsDraws, AddsCells, AddsState, AreListsOf};
@@ -73,7 +75,7 @@ fn are_unpaid(before: bool, draw: &Value) -> bool
 
 impl DrawLists {
     fn push(&mut self, draw: &Value) -> Result<(), AllocError>
-        requires { draw_in_range (draw_form_of (view draw.now)) ≡ true }
+        requires { draw_in_range Wide (draw_form_of (view draw.now)) ≡ true }
         ensures { OnOk result (AddsDraws self.old self.new (draw_form_of (view draw.now) ∷ [])) }
     {
         push_whole(&mut self.numbers, whole_at(draw, 0))?;
@@ -84,7 +86,7 @@ impl DrawLists {
     }
 
     fn push_all(&mut self, draws: &[Value]) -> Result<(), AllocError>
-        requires { list_all (λ v. draw_in_range (draw_form_of (view v))) draws.now ≡ true }
+        requires { list_all (λ v. draw_in_range Wide (draw_form_of (view v))) draws.now ≡ true }
         ensures { OnOk result (AddsDraws self.old self.new (map (λ v. draw_form_of (view v)) draws.now)) }
     {
         for draw in draws {
@@ -103,8 +105,8 @@ pub(crate) fn told_rewards(alloc: Global, rewards: Vec<i32>, unpaid: bool) -> Ve
 
 impl Cells {
     fn push_draws(&mut self, draws: &[Value]) -> Result<(), AllocError>
-        requires range { list_all (λ v. draw_in_range (draw_form_of (view v))) draws.now ≡ true }
-        requires room { length self.old.draws.rewards.items ≤ 262144 }
+        requires range { list_all (λ v. draw_in_range Wide (draw_form_of (view v))) draws.now ≡ true }
+        requires room { length self.old.draws.rewards.items ≤ MOST_STATES }
         ensures { OnOk result (AddsCells self.old self.new (Draws (map (λ v. draw_form_of (view v)) draws.now) ∷ [])) }
     {
         push_first(&mut self.numbers, self.draws.rewards.len())?;
@@ -113,9 +115,9 @@ impl Cells {
     }
 
     fn push_cell(&mut self, cell: &Value) -> Result<(), AllocError>
-        requires range { cell_in_range (cell_form_of (view cell.now)) ≡ true }
+        requires range { cell_in_range Wide (cell_form_of (view cell.now)) ≡ true }
         requires room { length self.old.draws.rewards.items
-            + draw_count_of (cell_form_of (view cell.now) ∷ []) ≤ 262144 }
+            + draw_count_of (cell_form_of (view cell.now) ∷ []) ≤ MOST_STATES }
         ensures { OnOk result (AddsCells self.old self.new (cell_form_of (view cell.now) ∷ [])) }
     {
         if is_whole(cell) {
@@ -127,9 +129,9 @@ impl Cells {
     }
 
     fn push_row(&mut self, cells: &[Value]) -> Result<(), AllocError>
-        requires range { list_all (λ v. cell_in_range (cell_form_of (view v))) cells.now ≡ true }
+        requires range { list_all (λ v. cell_in_range Wide (cell_form_of (view v))) cells.now ≡ true }
         requires room { length self.old.draws.rewards.items
-            + draw_count_of (flat_map (λ v. cell_form_of (view v) ∷ []) cells.now) ≤ 262144 }
+            + draw_count_of (flat_map (λ v. cell_form_of (view v) ∷ []) cells.now) ≤ MOST_STATES }
         ensures { OnOk result (AddsCells self.old self.new (flat_map (λ v. cell_form_of (view v) ∷ []) cells.now)) }
     {
         for cell in cells {
@@ -139,9 +141,9 @@ impl Cells {
     }
 
     fn push_rows(&mut self, rows: &[Value]) -> Result<(), AllocError>
-        requires range { list_all (λ v. row_in_range (row_form_of (view v))) rows.now ≡ true }
+        requires range { list_all (λ v. row_in_range Wide (row_form_of (view v))) rows.now ≡ true }
         requires room { length self.old.draws.rewards.items
-            + draw_count_of (flat_map (λ v. row_form_of (view v)) rows.now) ≤ 262144 }
+            + draw_count_of (flat_map (λ v. row_form_of (view v)) rows.now) ≤ MOST_STATES }
         ensures { OnOk result (AddsCells self.old self.new (flat_map (λ v. row_form_of (view v)) rows.now)) }
     {
         for row in rows {
@@ -215,10 +217,10 @@ impl Lists {
 
     fn push_rows(&mut self, state: &Value) -> Result<(), AllocError>
         requires kind { is_whole (view state.now) ≡ false }
-        requires range { state_in_range (state_form_of (view state.now)) ≡ true }
-        requires few { length self.old.cells.numbers.items ≤ 524288 }
+        requires range { state_in_range Wide (state_form_of (view state.now)) ≡ true }
+        requires few { length self.old.cells.numbers.items ≤ MOST_STATES }
         requires room { length self.old.cells.draws.rewards.items
-            + draw_count_of (kept_cells (state_form_of (view state.now))) ≤ 262144 }
+            + draw_count_of (kept_cells (state_form_of (view state.now))) ≤ MOST_STATES }
         ensures { OnOk result (AddsState self.old self.new (state_form_of (view state.now))) }
     {
         let rows = elements(state);
@@ -230,10 +232,10 @@ impl Lists {
     }
 
     fn push_state(&mut self, state: &Value) -> Result<(), AllocError>
-        requires range { state_in_range (state_form_of (view state.now)) ≡ true }
-        requires few { length self.old.cells.numbers.items ≤ 524288 }
+        requires range { state_in_range Wide (state_form_of (view state.now)) ≡ true }
+        requires few { length self.old.cells.numbers.items ≤ MOST_STATES }
         requires room { length self.old.cells.draws.rewards.items
-            + draw_count_of (kept_cells (state_form_of (view state.now))) ≤ 262144 }
+            + draw_count_of (kept_cells (state_form_of (view state.now))) ≤ MOST_STATES }
         ensures { OnOk result (AddsState self.old self.new (state_form_of (view state.now))) }
     {
         if is_whole(state) {
@@ -246,7 +248,7 @@ impl Lists {
 
     /// The lists of the states.
     pub(crate) fn of_states(alloc: Global, states: &[Value]) -> Result<Lists, AllocError>
-        requires { are_in_range (map (λ v. state_form_of (view v)) states.now) ≡ true }
+        requires { are_in_range Wide (map (λ v. state_form_of (view v)) states.now) ≡ true }
         ensures { IfOk result (AreListsOf (map (λ v. state_form_of (view v)) states.now)) }
     {
         let mut lists = Lists::new(alloc);

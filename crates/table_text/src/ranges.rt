@@ -1,13 +1,16 @@
 //! The ranges of what stands in the states of a table.
 
-ghost use Rattle.std.specs.Prelude.{◌≡◌, ◌&&◌, ◌==◌, ◌-◌, ◌^◌, min, map, length, nat_le};
+ghost use Rattle.std.specs.Prelude.{◌≡◌, ◌&&◌, ◌==◌, ◌-◌, ◌^◌, pos, min, map, length, nat_le};
 ghost use Rattle.std.specs.List.{list_all, flat_map};
 ghost use Rattle.serde_json.specs.View.{view};
-ghost use Rattle.table.specs.Nested.{names_state, is_reward, draw_in_range, cell_in_range, row_in_range, state_in_range, are_in_range, given_cells, draws_of_form, draw_count_of, is_within};
+ghost use Rattle.sim_game.specs.declared.Limits.{Limits};
+ghost use Rattle.table.specs.Nested.{most_state, names_state, is_reward, draw_in_range, cell_in_range, row_in_range, state_in_range, are_few, are_in_range, given_cells, draws_of_form, draw_count_of, is_within};
 ghost use Rattle.table_text.specs.States.{draw_form_of, cell_form_of, row_form_of, state_form_of};
 
 use crate::kinds::{draw_length, elements, is_whole, whole, whole_at};
 use serde_json::Value;
+use sim_game::Limits;
+use table::MOST_STATES;
 
 fn is_within(low: i64, high: i64, number: i64) -> bool
     ensures { result ≡ is_within low high number }
@@ -15,10 +18,20 @@ fn is_within(low: i64, high: i64, number: i64) -> bool
     low <= number && number <= high
 }
 
-fn names_state(number: i64) -> bool
-    ensures { result ≡ names_state number }
+/// The greatest number that can be told of a state, and the greatest weight.
+fn most_state(limits: Limits) -> i64
+    ensures { result ≡ pos (most_state limits) }
 {
-    is_within(0, 1_048_575, number)
+    match limits {
+        Limits::Narrow => 1_048_575,
+        Limits::Wide => 16_777_215,
+    }
+}
+
+fn names_state(limits: Limits, number: i64) -> bool
+    ensures { result ≡ names_state limits number }
+{
+    is_within(0, most_state(limits), number)
 }
 
 /// Whether it is a payoff of an end, or a reward, that can be told.
@@ -34,89 +47,94 @@ fn has_draw_length(draw: &Value) -> bool
     2 <= draw_length(draw) && draw_length(draw) <= 3
 }
 
-fn are_draw_numbers(state: i64, weight: i64, reward: i64) -> bool
-    ensures { result ≡ (names_state state && names_state weight && is_reward reward) }
+fn are_draw_numbers(limits: Limits, state: i64, weight: i64, reward: i64) -> bool
+    ensures { result ≡ (names_state limits state && names_state limits weight && is_reward reward) }
 {
-    names_state(state) && names_state(weight) && is_payoff(reward)
+    names_state(limits, state) && names_state(limits, weight) && is_payoff(reward)
 }
 
 /// A draw has a state, a weight and, where it tells one, a reward.
-fn draw_in_range(draw: &Value) -> bool
-    ensures { result ≡ draw_in_range (draw_form_of (view draw.now)) }
+fn draw_in_range(limits: Limits, draw: &Value) -> bool
+    ensures { result ≡ draw_in_range limits (draw_form_of (view draw.now)) }
 {
     has_draw_length(draw)
-        && are_draw_numbers(whole_at(draw, 0), whole_at(draw, 1), whole_at(draw, 2))
+        && are_draw_numbers(
+            limits,
+            whole_at(draw, 0),
+            whole_at(draw, 1),
+            whole_at(draw, 2),
+        )
 }
 
-fn all_draws(values: &[Value]) -> bool
-    ensures { result ≡ list_all (λ v. draw_in_range (draw_form_of (view v))) values.now }
+fn all_draws(limits: Limits, values: &[Value]) -> bool
+    ensures { result ≡ list_all (λ v. draw_in_range limits (draw_form_of (view v))) values.now }
 {
-    values.iter().all(draw_in_range)
+    values.iter().all(|draw| draw_in_range(limits, draw))
 }
 
-fn are_draws(values: &[Value]) -> bool
+fn are_draws(limits: Limits, values: &[Value]) -> bool
     ensures { result ≡ (nat_le (length values.now) 255
-        && list_all (λ v. draw_in_range (draw_form_of (view v))) values.now) }
+        && list_all (λ v. draw_in_range limits (draw_form_of (view v))) values.now) }
 {
-    values.len() <= 255 && all_draws(values)
+    values.len() <= 255 && all_draws(limits, values)
 }
 
-fn cell_in_range(cell: &Value) -> bool
-    ensures { result ≡ cell_in_range (cell_form_of (view cell.now)) }
+fn cell_in_range(limits: Limits, cell: &Value) -> bool
+    ensures { result ≡ cell_in_range limits (cell_form_of (view cell.now)) }
 {
     if is_whole(cell) {
-        names_state(whole(cell))
+        names_state(limits, whole(cell))
     } else {
-        are_draws(elements(cell))
+        are_draws(limits, elements(cell))
     }
 }
 
-fn all_cells(values: &[Value]) -> bool
-    ensures { result ≡ list_all (λ v. cell_in_range (cell_form_of (view v))) values.now }
+fn all_cells(limits: Limits, values: &[Value]) -> bool
+    ensures { result ≡ list_all (λ v. cell_in_range limits (cell_form_of (view v))) values.now }
 {
-    values.iter().all(cell_in_range)
+    values.iter().all(|cell| cell_in_range(limits, cell))
 }
 
-fn are_cells(values: &[Value]) -> bool
+fn are_cells(limits: Limits, values: &[Value]) -> bool
     ensures { result ≡ (nat_le (length values.now) 255
-        && list_all (λ v. cell_in_range (cell_form_of (view v))) values.now) }
+        && list_all (λ v. cell_in_range limits (cell_form_of (view v))) values.now) }
 {
-    values.len() <= 255 && all_cells(values)
+    values.len() <= 255 && all_cells(limits, values)
 }
 
-fn row_in_range(row: &Value) -> bool
-    ensures { result ≡ row_in_range (row_form_of (view row.now)) }
+fn row_in_range(limits: Limits, row: &Value) -> bool
+    ensures { result ≡ row_in_range limits (row_form_of (view row.now)) }
 {
-    are_cells(elements(row))
+    are_cells(limits, elements(row))
 }
 
-fn all_rows(values: &[Value]) -> bool
-    ensures { result ≡ list_all (λ v. row_in_range (row_form_of (view v))) values.now }
+fn all_rows(limits: Limits, values: &[Value]) -> bool
+    ensures { result ≡ list_all (λ v. row_in_range limits (row_form_of (view v))) values.now }
 {
-    values.iter().all(row_in_range)
+    values.iter().all(|row| row_in_range(limits, row))
 }
 
-fn are_rows(values: &[Value]) -> bool
+fn are_rows(limits: Limits, values: &[Value]) -> bool
     ensures { result ≡ (nat_le (length values.now) 255
-        && list_all (λ v. row_in_range (row_form_of (view v))) values.now) }
+        && list_all (λ v. row_in_range limits (row_form_of (view v))) values.now) }
 {
-    values.len() <= 255 && all_rows(values)
+    values.len() <= 255 && all_rows(limits, values)
 }
 
-fn state_in_range(state: &Value) -> bool
-    ensures { result ≡ state_in_range (state_form_of (view state.now)) }
+fn state_in_range(limits: Limits, state: &Value) -> bool
+    ensures { result ≡ state_in_range limits (state_form_of (view state.now)) }
 {
     if is_whole(state) {
         is_payoff(whole(state))
     } else {
-        are_rows(elements(state))
+        are_rows(limits, elements(state))
     }
 }
 
-fn all_states(values: &[Value]) -> bool
-    ensures { result ≡ list_all (λ v. state_in_range (state_form_of (view v))) values.now }
+fn all_states(limits: Limits, values: &[Value]) -> bool
+    ensures { result ≡ list_all (λ v. state_in_range limits (state_form_of (view v))) values.now }
 {
-    values.iter().all(state_in_range)
+    values.iter().all(|state| state_in_range(limits, state))
 }
 
 /// How many draws the cell has.
@@ -197,18 +215,16 @@ fn cells_of_states(states: &[Value]) -> usize
 }
 
 fn are_few(states: &[Value]) -> bool
-    ensures { result ≡ (nat_le (length states.now) 524288
-        && (nat_le (length (flat_map (λ v. given_cells (state_form_of (view v))) states.now)) 524288
-        && nat_le (draw_count_of (flat_map (λ v. given_cells (state_form_of (view v))) states.now)) 262144)) }
+    ensures { let cells = flat_map (λ v. given_cells (state_form_of (view v))) states.now in
+        result ≡ are_few (length states.now) (length cells) (draw_count_of cells) }
 {
-    states.len() <= 524_288
-        && cells_of_states(states) <= 524_288
-        && draws_of_states(states) <= 262_144
+    let most = MOST_STATES as usize;
+    states.len() <= most && cells_of_states(states) <= most && draws_of_states(states) < most
 }
 
 /// Whether all that the states tell is in range.
-pub(crate) fn are_in_range(states: &[Value]) -> bool
-    ensures { result ≡ are_in_range (map (λ v. state_form_of (view v)) states.now) }
+pub(crate) fn are_in_range(limits: Limits, states: &[Value]) -> bool
+    ensures { result ≡ are_in_range limits (map (λ v. state_form_of (view v)) states.now) }
 {
-    all_states(states) && are_few(states)
+    all_states(limits, states) && are_few(states)
 }

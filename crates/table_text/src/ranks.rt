@@ -1,8 +1,9 @@
 //! The ranks of states, from the last to the first.
 
-ghost use Rattle.std.specs.Prelude.{◌≡◌, ℤ, pos, ◌≤◌, map, length, max, slice_index_or, IfOk};
+ghost use Rattle.std.specs.Prelude.{◌≡◌, ℤ, pos, ◌+◌, ◌≤◌, map, length, max, slice_index_or, IfOk};
 ghost use Rattle.std.specs.List.{flat_map};
 ghost use Rattle.serde_json.specs.View.{view};
+ghost use Rattle.table.specs.declared.nested.TheConstants.{MOST_STATES};
 ghost use Rattle.table.specs.Nested.{Draws, named_by, greatest_in, ranks_told};
 ghost use Rattle.table_text.specs.States.{draw_form_of, cell_form_of, row_form_of, state_form_of, rank_in, rank_among};
 
@@ -78,9 +79,9 @@ fn rows_rank(rows: &[Value], ranks: &[i32]) -> u32
 
 /// The rank of a state, given those of the states behind it, with 0 for each state up to it.
 fn rank(state: &Value, ranks: &[i32]) -> u32
-    requires { (z : ℤ) → rank_in ranks.now z ≤ 524288 }
+    requires { (z : ℤ) → rank_in ranks.now z ≤ MOST_STATES }
     ensures exact { result ≡ rank_among ranks.now (state_form_of (view state.now)) }
-    ensures low { result ≤ 524289 }
+    ensures low { result ≤ MOST_STATES + 1 }
 {
     if is_whole(state) {
         0
@@ -97,7 +98,7 @@ fn zeros(alloc: Global, states: &[Value]) -> Result<Vec<i32>, AllocError>
 
 /// The ranks of the states.
 pub(crate) fn ranks(alloc: Global, states: &[Value]) -> Result<Vec<i32>, AllocError>
-    requires { length states.now ≤ 524288 }
+    requires { length states.now ≤ MOST_STATES }
     ensures { IfOk result (λ v. v.items ≡ map pos (ranks_told 0 (map (λ v. state_form_of (view v)) states.now))) }
 {
     let mut ranks = zeros(alloc, states)?;

@@ -3,6 +3,7 @@
 ghost use Rattle.std.specs.Prelude.{◌≡◌, true, map, IfOk};
 ghost use Rattle.serde_json.specs.View.{view};
 ghost use Rattle.fields.specs.Ranges.{IsPositionInRange};
+ghost use Rattle.sim_game.specs.declared.Limits.TheVariants.{Wide};
 ghost use Rattle.table.specs.Nested.{are_in_range, lists_of_states};
 ghost use Rattle.table_text.specs.States.{Gives, state_form_of, table_text_of, table_text_in};
 
@@ -14,11 +15,12 @@ use crate::ranks::ranks;
 use fields::PositionText;
 use seq::Seq;
 use serde_json::Value;
+use sim_game::Limits;
 use std::alloc::{AllocError, Global};
 
-/// The text of a table of the states, which are in range.
+/// The text of a table of the states, which are in range within the wide limits.
 fn text_of_states(alloc: Global, states: &[Value]) -> Result<PositionText, AllocError>
-    requires { are_in_range (map (λ v. state_form_of (view v)) states.now) ≡ true }
+    requires { are_in_range Wide (map (λ v. state_form_of (view v)) states.now) ≡ true }
     ensures exact { IfOk result
         (λ t. t ≡ table_text_of (lists_of_states (map (λ v. state_form_of (view v)) states.now))) }
 {
@@ -36,17 +38,21 @@ fn text_of_states(alloc: Global, states: &[Value]) -> Result<PositionText, Alloc
     })
 }
 
-/// The text of the table whose states the value tells. Kinds are told before ranges, wherever they stand.
+/// The text of the table whose states the value tells, within the limits. Kinds are told before ranges, wherever they stand.
 #[tactic(auto, unfolding(crate::specs::States::table_text_in))]
-pub fn read_states(alloc: Global, value: &Value) -> Result<PositionText, StatesFault>
-    ensures exact { Gives (λ t. t) result (table_text_in (view value.now)) }
+pub fn read_states(
+    limits: Limits,
+    alloc: Global,
+    value: &Value,
+) -> Result<PositionText, StatesFault>
+    ensures exact { Gives (λ t. t) result (table_text_in limits (view value.now)) }
     ensures in_range { IfOk result IsPositionInRange }
 {
     if !are_state_kinds(value) {
         return Err(StatesFault::Kind);
     }
     let states = elements(value);
-    if !are_in_range(states) {
+    if !are_in_range(limits, states) {
         return Err(StatesFault::Range);
     }
     Ok(text_of_states(alloc, states)?)

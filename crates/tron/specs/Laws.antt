@@ -242,7 +242,7 @@ module _ (g : Setting) (p : IsPosition g) where
     end_moves = λ side s r h. end_moves side s (tron_sound s r) h;
     other_moves = λ side s r h. some_moves side s h;
     moves_high = λ side s r. ways_few (is_over (arena_of g s)) (directions_of (arena_of g s) side) 4 (few_directions (arena_of g s) (head_of side (arena_of g s)));
-    rank_high = λ s r. rank_high s (tron_sound s r);
+    rank_high = λ s r. omega (arith, rank_high s (tron_sound s r));
     rank_falls = λ s t r turn. rank_falls s t (tron_sound s r) turn;
     least_low = λ s r. omega (arith, ints);
     most_high = λ s r. omega (arith, ints);

@@ -4,6 +4,7 @@
 ghost use Rattle.std.specs.Prelude.{◌≡◌, ◌*◌, ◌<◌, ◌^◌, true, length, slice_index_or, MatchResult, None, Some};
 ghost use Rattle.tron.specs.declared.Direction.TheVariants.{North};
 ghost use Rattle.sim_game.specs.Model.{Reachable};
+ghost use Rattle.sim_game.specs.Numbers.{by_key, numbered_by_key};
 ghost use Rattle.tron.specs.Laws.{tron_is_game};
 ghost use Rattle.tron.specs.Position.{first_fault, IsPosition, IsSettingOf};
 ghost use Rattle.tron.specs.Rules.{arena_of, directions_of, entered, goes_on, head_of, is_open, is_over, neighbour, number_of, tron_game, ways_of, KeepsRules};
@@ -229,6 +230,8 @@ impl Game for Tron {
 
     ghost model = { λ game. tron_game game.setting };
 
+    ghost numbering = { λ game. by_key (tron_game game.setting) (2 ^ 63) };
+
     fn root(&self) -> State {
         State {
             taken: self.setting.taken,
@@ -305,6 +308,15 @@ impl Game for Tron {
         .0
     }
 
+    fn most_states(&self) -> u64 {
+        1 << 63
+    }
+
+    #[inline]
+    fn place(&self, s: State) -> u64 {
+        self.key(s)
+    }
+
     #[inline]
     fn low(&self) -> i32 {
         -1
@@ -345,6 +357,9 @@ impl Game for Tron {
     }
 
     ghost lawful = { λ game. tron_is_game game.setting game.valid };
+
+    ghost numbered = { λ game. let lawful = tron_is_game game.setting game.valid in
+        numbered_by_key (tron_game game.setting) lawful (2 ^ 63) lawful.key_high };
 }
 
 /// The states stand for a list of taken cells and both heads, and every call answers by the rules on these.

@@ -1,5 +1,7 @@
 //! A game of chance alone.
 
+ghost use Rattle.sim_game.specs.Numbers.{by_key, numbered_by_key};
+ghost use Rattle.std.specs.Prelude.{◌^◌};
 ghost use Rattle.worked_rows.specs.Chance.{one_in_three, one_in_three_is_game};
 
 use sim_game::{Game, Side};
@@ -22,6 +24,8 @@ impl Game for OneInThree {
     type State = Place;
 
     ghost model = { λ game. one_in_three };
+
+    ghost numbering = { λ game. by_key one_in_three (2 ^ 63) };
 
     fn root(&self) -> Place {
         Place::Root
@@ -70,6 +74,14 @@ impl Game for OneInThree {
         }
     }
 
+    fn most_states(&self) -> u64 {
+        1 << 63
+    }
+
+    fn place(&self, s: Place) -> u64 {
+        self.key(s)
+    }
+
     fn low(&self) -> i32 {
         0
     }
@@ -107,4 +119,7 @@ impl Game for OneInThree {
     }
 
     ghost lawful = { λ game. one_in_three_is_game };
+
+    ghost numbered = { λ game.
+        numbered_by_key one_in_three one_in_three_is_game (2 ^ 63) one_in_three_is_game.key_high };
 }

@@ -2,7 +2,7 @@ use crate::games::two_cards;
 use certificate::read;
 use checker::{Verdict, Why, check};
 use oshi_zumo::OshiZumo;
-use sim_game::{Game, Side};
+use sim_game::{Game, Limits, Side};
 use std::alloc::{AllocError, Global};
 use std::process::Abort;
 use std::test::Fail;
@@ -112,7 +112,7 @@ const PUSH: &str =
 
 #[test]
 fn a_tie_and_a_push(rt: HostRuntime) -> Result<(), Fail> {
-    let Ok(g) = OshiZumo::new(1, 2, 1, 1, 0) else {
+    let Ok(g) = OshiZumo::new(Limits::Narrow, 1, 2, 1, 1, 0) else {
         panic!(rt; "the position is valid");
     };
     let root = 16449;

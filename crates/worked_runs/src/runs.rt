@@ -20,6 +20,22 @@ const WORST: &str = "exploit one exact -2147483648 65536 2\n";
 
 const GAMES: &str = "turn 1 2 0\nturn 3 3 0\npayoff -1\ngames 2 sum -2 least -1 most -1\n";
 
+// One has more coins than the narrow limits allow, which hold where stages are not linear. One bids 20 each time.
+const WIDE: &str =
+    "{\"game\":\"oshi_zumo\",\"size\":0,\"one\":40,\"two\":20,\"least\":20,\"place\":0,\
+         \"gap\":0,\"weight\":65536,\"turns\":1000,\"visits\":1000,\"rows\":1024,\"workers\":1,\
+         \"stages\":\"linear\"}\n";
+
+const WIDE_REPORT: &str =
+    "dosolve report 3\ngame oshi_zumo 0 40 20 20 0\nweight 65536\nturns 1000\nasked 0\nresolution 101264\n\
+         outcome closed\nlower 1000000\nupper 1000000\nspent 0\none 2\n66816 1000000 65536\n\
+         68116 1000000 65536 0 0 0 0 0 0 0 0 0 0 0 0 0 0 0 0 0 0 0 0\ntwo 0\nend\n";
+
+// Each side has 33 bids, and the weight is one too small for them.
+const COARSE: &str =
+    "{\"game\":\"oshi_zumo\",\"size\":0,\"one\":41,\"two\":41,\"least\":9,\"place\":0,\
+         \"gap\":0,\"weight\":32767,\"turns\":0,\"visits\":0,\"rows\":1,\"workers\":1,\"stages\":\"linear\"}\n";
+
 // What a call of the sink takes at most.
 const CHUNK: u32 = 40;
 
@@ -87,6 +103,18 @@ fn fail_each_call<'a, R: Threads + Abort + Sync>(
     )
 }
 
+// The same for each of the cases.
+fn fail_each_of<'a, R: Threads + Abort + Sync>(
+    rt: &R,
+    alloc: Global,
+    cases: &[Case<'a>],
+) -> Result<(), Fail> {
+    for case in cases {
+        fail_each_call(rt, alloc, *case)?;
+    }
+    Ok(())
+}
+
 #[test]
 fn solve_over_failing_devices(rt: HostRuntime) -> Result<(), Fail> {
     let case = Case {
@@ -143,19 +171,56 @@ fn an_end_in_the_middle_of_a_number(rt: HostRuntime) -> Result<(), Fail> {
     ) else {
         panic!(rt; "both numbers are there");
     };
-    for (command, input, reads, status, text) in [
-        ("solve", position, 2, 2, "input 10 not json\n"),
-        ("bounds", position, 2, 2, "input 10 not json\n"),
-        ("check", report, 3, 9, "report short\n"),
-    ] {
-        let case = Case {
-            words: &[command],
-            input,
-            reads,
-            status,
-            text,
-        };
-        fail_each_call(&rt, rt.alloc(), case)?;
-    }
-    Ok(())
+    let cases = [
+        Case {
+            words: &["solve"],
+            input: position,
+            reads: 2,
+            status: 2,
+            text: "input 10 not json\n",
+        },
+        Case {
+            words: &["bounds"],
+            input: position,
+            reads: 2,
+            status: 2,
+            text: "input 10 not json\n",
+        },
+        Case {
+            words: &["check"],
+            input: report,
+            reads: 3,
+            status: 9,
+            text: "report short\n",
+        },
+    ];
+    fail_each_of(&rt, rt.alloc(), &cases)
+}
+
+#[test]
+fn wide_limits_over_failing_devices(rt: HostRuntime) -> Result<(), Fail> {
+    let cases = [
+        Case {
+            words: &["solve"],
+            input: WIDE,
+            reads: 2,
+            status: 0,
+            text: WIDE_REPORT,
+        },
+        Case {
+            words: &["check"],
+            input: WIDE_REPORT,
+            reads: 3,
+            status: 0,
+            text: "accepted 1000000 1000000 closed\n",
+        },
+        Case {
+            words: &["solve"],
+            input: COARSE,
+            reads: 2,
+            status: 2,
+            text: "input 91 weight\n",
+        },
+    ];
+    fail_each_of(&rt, rt.alloc(), &cases)
 }

@@ -13,12 +13,13 @@ from __future__ import annotations
 import math
 from abc import ABC, abstractmethod
 from collections.abc import Collection, Iterable, Iterator, Sequence, Set
-from dataclasses import dataclass, replace
+from dataclasses import dataclass, fields, replace
 from fractions import Fraction
+from functools import cached_property
 from typing import Any, ClassVar, Final, Generic, Literal, NewType, Self, TypeVar, cast
 
 from ..errors import InputRefusedError, InvalidError
-from ..limits import MOST_KEY, MOST_ROWS, NEWEST_VERSION
+from ..limits import MOST_KEY, MOST_WIDE_ROWS, NARROW, NEWEST_VERSION, WIDE, Limits
 from ..values import Record, as_field, as_points, is_whole, shorten
 
 Side = Literal["one", "two"]
@@ -74,6 +75,10 @@ class Field:
             fault = "range" if kind else "kind"
             raise InputRefusedError(f"input {15 if kind else 14} {fault} of {self.name}",
                                     self.told(value))
+
+    def within(self, limits: Limits) -> Field:
+        """The field as these limits have it."""
+        return self
 
     def takes(self, value: object) -> bool:
         """Whether a value is of the field's kind and in its range."""
@@ -313,17 +318,41 @@ class Game(ABC, Generic[S_co]):
     """The fields of a position."""
 
     def __post_init__(self) -> None:
+        self._settle(WIDE)
+
+    def _settle(self, limits: Limits) -> None:
+        """Keeps the settings as plain numbers and lists, and refuses them by these limits."""
         for field in self.settings:
-            value = as_field(getattr(self, field.name))
-            object.__setattr__(self, field.name, value)
-            field.refuse(value)
-        fault = self._fault()
+            object.__setattr__(self, field.name, as_field(getattr(self, field.name)))
+        self.refuse_beyond(limits)
+
+    def refuse_beyond(self, limits: Limits) -> None:
+        """Refuses the settings that these limits do not allow, as the program does."""
+        for field, value in zip(self.settings, self.values()):
+            field.within(limits).refuse(value)
+        fault = self._fault(limits)
         if fault is not None:
             raise InputRefusedError(f"input {fault[0]}", fault[1])
 
+    @classmethod
+    def within(cls, limits: Limits, *values: Any) -> Self:
+        """The game of these settings, refused by these limits; the constructor has the wide
+        ones."""
+        made = object.__new__(cls)
+        for field, value in zip(fields(cast(Any, cls)), values):
+            object.__setattr__(made, field.name, value)
+        made._settle(limits)
+        return made
+
     @abstractmethod
-    def _fault(self) -> tuple[str, str] | None:
-        """The first rule that the settings break: its number and words, and what is wrong."""
+    def _fault(self, limits: Limits) -> tuple[str, str] | None:
+        """The first rule that the settings break within these limits: its number and words, and
+        what is wrong."""
+
+    @cached_property
+    def is_wide(self) -> bool:
+        """Whether only the wide limits allow the game, so that it asks for linear stages."""
+        return self._fault(NARROW) is not None
 
     @classmethod
     def line_settings(cls, version: int) -> tuple[Field, ...]:
@@ -333,17 +362,17 @@ class Game(ABC, Generic[S_co]):
                                                   if word not in field.late))
                      for field in cls.settings)
 
-    @classmethod
-    def is_new(cls, values: Sequence[object]) -> bool:
-        """Whether only a report of the newest version can have these fields in its second line."""
-        before = cls.line_settings(NEWEST_VERSION - 1)
-        return len(values) > len(before) or not all(
+    @property
+    def is_new(self) -> bool:
+        """Whether only a report of the newest version can be on the game."""
+        before, values = self.line_settings(NEWEST_VERSION - 1), self.line_values()
+        return self.is_wide or len(values) > len(before) or not all(
             field.takes(value) for field, value in zip(before, values))
 
     @classmethod
-    def of_line(cls, *values: Any) -> Self:
-        """The game of the fields of a report's second line."""
-        return cls(*values)
+    def of_line(cls, *values: Any, limits: Limits = WIDE) -> Self:
+        """The game of the fields of a report's second line, within these limits."""
+        return cls.within(limits, *values)
 
     @abstractmethod
     def root(self) -> S_co:
@@ -391,20 +420,21 @@ class Game(ABC, Generic[S_co]):
     def most_states(self) -> int:
         """At least the number of states that are no ends, where that is known without a walk;
         else the rows that a board can have."""
-        return MOST_ROWS
+        return MOST_WIDE_ROWS
 
     def count_states(self) -> int | None:
         """The number of states with moves that play can reach, where the game counts them without
-        a walk; `MOST_ROWS + 1` where they are more than a board has room for. None where it does
-        not count them."""
+        a walk; `MOST_WIDE_ROWS + 1` where they are more than a board has room for. None where it
+        does not count them."""
         return None
 
-    def fits(self) -> bool | None:
-        """Whether a board has room for all states with moves; None where that is not known."""
-        if self.most_states < MOST_ROWS:
+    def fits(self, rows: int = MOST_WIDE_ROWS) -> bool | None:
+        """Whether a board of so many rows has room for all states with moves; None where that is
+        not known."""
+        if self.most_states < rows:
             return True
         count = self.count_states()
-        return None if count is None else count <= MOST_ROWS
+        return None if count is None else count <= rows
 
     def starting_at(self, state: State) -> AnyGame:
         """The game that begins in a state of this one."""

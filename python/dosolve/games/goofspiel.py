@@ -3,11 +3,12 @@ from __future__ import annotations
 
 import math
 from abc import abstractmethod
-from collections.abc import Iterator, Sequence
+from collections.abc import Iterable, Iterator, Sequence
 from dataclasses import dataclass, field, fields
 from functools import lru_cache
+from itertools import accumulate, combinations
 
-from ..limits import MOST_CARD, MOST_PRIZE, MOST_ROWS, MOST_SCORE
+from ..limits import MOST_CARD, MOST_PRIZE, MOST_SCORE, MOST_WIDE_ROWS, Limits
 from .game import (
     CHANCE, AnyGame, Field, Game, S_co, Side, State, members, packed, sign, unpacked,
 )
@@ -39,48 +40,103 @@ def _without(cards: tuple[int, ...], card: int) -> tuple[int, ...]:
     return tuple(left for left in cards if left != card)
 
 
+Order = tuple[int, ...]
+"""How played cards of both hands lie among one another, rising: 1 is a card of One, 2 of Two, 3 of
+both."""
+
+Scores = dict[tuple[Order, tuple[int, ...]], int]
+"""For each order of played cards, and each set of prizes that were bid for, by their places, the
+scores that they can have come to, as bits."""
+
+
 @lru_cache(64)
 def _count(one: tuple[int, ...], two: tuple[int, ...], prizes: tuple[int, ...],
            drawn: bool) -> int:
     """How many states with moves play can reach; one more than a board has room for where they are
     more than that.
 
-    `found` has the scores, as bits, that each layer's played hands can have come to; with drawn
-    prizes for each set of prizes that were bid for, by their places, and each place that is. On
-    the average these are no fewer in later layers, so that a layer tells what is left at least.
+    Scores depend on how the played cards lie among one another, and there are far fewer such orders
+    than pairs of hands. On the average they are no fewer in later layers of the game, so that a
+    layer tells what is left at least.
     """
-    sizes = [math.comb(len(prizes), played)**2 * (
-        math.comb(len(prizes) - 1, played - 1) * (len(prizes) - played) if drawn and played else 1)
-        for played in range(len(prizes))]
-    found, count = {(0, 0, 0, 0): 1 << sum(prizes)}, 0
-    for played in range(len(prizes)):
-        here = sum(scores.bit_count() for scores in found.values())
-        if count + here * sum(sizes[played:]) // sizes[played] > MOST_ROWS:
-            return MOST_ROWS + 1
+    cards = len(prizes)
+    places = [cards - played if drawn and played else 1 for played in range(cards)]
+    sizes = [math.comb(cards, played)**2 * places[played] * (
+        math.comb(cards - 1, played - 1) if drawn and played else 1) for played in range(cards)]
+    found: Scores = {}
+    count = 0
+    for played in range(cards):
+        orders = dict(_orders(one, two, played))
+        found = _scores_after(found, orders, prizes, played, drawn)
+        here = places[played] * sum(orders[order] * scores.bit_count()
+                                    for (order, _), scores in found.items())
+        if count + here * sum(sizes[played:]) // sizes[played] > MOST_WIDE_ROWS:
+            return MOST_WIDE_ROWS + 1
         count += here
-        after: dict[tuple[int, int, int, int], int] = {}
-        for (mine, yours, paid, place), scores in found.items() if played + 1 < len(prizes) else ():
-            prize = prizes[place]
-            left = [(paid | 1 << place, at) for at in range(len(prizes))
-                    if not (paid | 1 << place) >> at & 1] if drawn else [(0, played + 1)]
-            steps = scores << prize, scores, scores >> prize
-            for hand, reply, step in _bids(one, two, mine, yours):
-                for key in left:
-                    reached = (hand, reply, *key)
-                    after[reached] = after.get(reached, 0) | steps[step]
-        found = after
     return count
 
 
-def _bids(one: tuple[int, ...], two: tuple[int, ...], mine: int,
-          yours: int) -> Iterator[tuple[int, int, int]]:
-    """The hands, as bits, after each pair of cards that are not among those played, and whether
-    One wins the prize (0), both share it (1) or Two wins it (2)."""
-    for card in one:
-        if not mine >> card & 1:
-            for reply in two:
-                if not yours >> reply & 1:
-                    yield mine | 1 << card, yours | 1 << reply, 1 - sign(card - reply)
+def _orders(one: tuple[int, ...], two: tuple[int, ...],
+            played: int) -> Iterator[tuple[Order, int]]:
+    """The orders of so many cards of each hand, with how many such cards have it. `ends` has the
+    ways in which an order can end with each card of the deck."""
+    deck = [(card in one) + 2 * (card in two) for card in sorted({*one, *two})]
+    waiting: list[tuple[Order, int, int, list[int]]] = [
+        ((), played, played, [1] + [0] * len(deck))]
+    while waiting:
+        order, ones, twos, ends = waiting.pop()
+        if ones == twos == 0:
+            yield order, sum(ends)
+            continue
+        before = list(accumulate(ends))
+        for kind in (1, 2, 3):
+            left = ones - (kind & 1), twos - (kind >> 1)
+            after = [0, *(before[at] if each & kind == kind else 0 for at, each in enumerate(deck))]
+            if min(left) >= 0 and any(after):
+                waiting.append(((*order, kind), *left, after))
+
+
+def _scores_after(before: Scores, orders: Iterable[Order], prizes: tuple[int, ...], played: int,
+                  drawn: bool) -> Scores:
+    """The scores of a layer, by those of the layer before: for each pair of cards that can have
+    been the last, and each prize."""
+    if played == 0:
+        return {((), ()): 1 << sum(prizes)}
+    found: Scores = {}
+    for paid in _paid(len(prizes), played, drawn):
+        lasts = [paid.index(0)] if played == 1 else range(1, played) if drawn else [played - 1]
+        for order in orders:
+            scores = 0
+            for rest, step in _without_last(order):
+                for last in lasts:
+                    known, prize = before[rest, paid[:last] + paid[last + 1:]], prizes[paid[last]]
+                    scores |= (known << prize, known, known >> prize)[step]
+            found[order, paid] = scores
+    return found
+
+
+def _paid(cards: int, played: int, drawn: bool) -> Iterator[tuple[int, ...]]:
+    """The sets of prizes, by their places, that were bid for; the first is always the first of the
+    list."""
+    if not drawn:
+        yield tuple(range(played))
+    else:
+        yield from ((0, *later) for later in combinations(range(1, cards), played - 1))
+
+
+@lru_cache(1 << 14)
+def _without_last(order: Order) -> tuple[tuple[Order, int], ...]:
+    """What an order is without a card of each hand, and whether One wins the prize with these (0),
+    both share it (1) or Two wins it (2)."""
+    found: set[tuple[Order, int]] = set()
+    for mine, kind in enumerate(order):
+        for yours, reply in enumerate(order):
+            if kind & 1 and reply & 2:
+                rest = list(order)
+                rest[mine] -= 1
+                rest[yours] -= 2
+                found.add((tuple(filter(None, rest)), 1 - sign(mine - yours)))
+    return tuple(found)
 
 
 class _Goofspiel(Game[S_co]):
@@ -93,7 +149,7 @@ class _Goofspiel(Game[S_co]):
     pay: str
     settings = _GOOFSPIEL
 
-    def _fault(self) -> tuple[str, str] | None:
+    def _fault(self, limits: Limits) -> tuple[str, str] | None:
         hands = (("one", self.one), ("two", self.two))
         for side, cards in hands:
             for place, card in enumerate(cards):
@@ -267,7 +323,7 @@ class Goofspiel(_Goofspiel[GoofspielState]):
 
     def count_states(self) -> int:
         if self.has_rewards:
-            return min(self.most_states, MOST_ROWS + 1)
+            return min(self.most_states, MOST_WIDE_ROWS + 1)
         return _count(tuple(self.one), tuple(self.two), tuple(self.prizes), False)
 
     def starting_at(self, state: State) -> AnyGame:
@@ -350,7 +406,7 @@ class GoofspielDrawn(_Goofspiel[GoofspielDrawnState]):
 
     def count_states(self) -> int:
         if self.has_rewards:
-            return min(self.most_states, MOST_ROWS + 1)
+            return min(self.most_states, MOST_WIDE_ROWS + 1)
         return _count(tuple(self.one), tuple(self.two), tuple(self.prizes), True)
 
     def starting_at(self, state: State) -> AnyGame:

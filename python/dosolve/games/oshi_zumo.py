@@ -4,7 +4,7 @@ from __future__ import annotations
 from dataclasses import dataclass, field
 from functools import lru_cache
 
-from ..limits import MOST_COINS, MOST_SIZE
+from ..limits import MOST_SIZE, Limits, up_to
 from .game import AnyGame, Field, Game, Side, State, packed, sign, unpacked
 
 
@@ -19,7 +19,8 @@ class OshiZumoState(State):
 
     @property
     def key(self) -> int:
-        return packed((self.place + 16, 5), (self.one, 5), (self.two, 5))
+        bits = self.game.bits
+        return packed((self.place + 16, 5), (self.one, bits), (self.two, bits))
 
     @property
     def rank(self) -> int:
@@ -47,8 +48,9 @@ class OshiZumoState(State):
 
 @dataclass(frozen=True)
 class OshiZumo(Game[OshiZumoState]):
-    """Oshi-Zumo: places on each side of the middle (0 to 8), the coins of both (0 to 31), the
-    least bid (1 to 31), and where the wrestler stands."""
+    """Oshi-Zumo: places on each side of the middle (0 to 8), the coins of both (0 to 63), the
+    least bid (1 to 63), and where the wrestler stands. More than 31 coins, or a least bid above
+    that, need linear stages."""
 
     name = "oshi_zumo"
     settings = (Field("size"), Field("one"), Field("two"), Field("least"),
@@ -59,19 +61,24 @@ class OshiZumo(Game[OshiZumoState]):
     least: int = 1
     place: int = 0
 
-    def _fault(self) -> tuple[str, str] | None:
+    def _fault(self, limits: Limits) -> tuple[str, str] | None:
         if self.size > MOST_SIZE:
             return "31 size range", f"the size {self.size} has to be from 0 to {MOST_SIZE}"
-        if max(self.one, self.two) > MOST_COINS:
+        coins = up_to(limits, "coins")
+        if max(self.one, self.two) > limits.coins:
             return ("32 coin range",
-                    f"{max(self.one, self.two)} coins are too many: a side has 0 to {MOST_COINS}")
-        if not 1 <= self.least <= MOST_COINS:
-            return ("33 least range",
-                    f"the least bid {self.least} has to be from 1 to {MOST_COINS}")
+                    f"{max(self.one, self.two)} coins are too many: a side has 0 to {coins}")
+        if not 1 <= self.least <= limits.coins:
+            return "33 least range", f"the least bid {self.least} has to be from 1 to {coins}"
         if abs(self.place) > self.size:
             return ("34 place range",
                     f"the place {self.place} has to be from -{self.size} to {self.size}")
         return None
+
+    @property
+    def bits(self) -> int:
+        """The bits of the coins of a side in a key."""
+        return 6 if self.is_wide else 5
 
     @property
     def most_moves(self) -> int:
@@ -93,7 +100,7 @@ class OshiZumo(Game[OshiZumoState]):
         return OshiZumoState(self, self.place, self.one, self.two)
 
     def _unpacked(self, key: int) -> OshiZumoState | None:
-        place, one, two = unpacked(key, 5, 5, 5)
+        place, one, two = unpacked(key, 5, self.bits, self.bits)
         found = OshiZumoState(self, place - 16, one, two)
         known = abs(found.place) <= self.size + 1 and one <= self.one and two <= self.two
         return found if known else None

@@ -5,7 +5,7 @@ from collections.abc import Iterable, Sequence
 from dataclasses import dataclass, field
 from functools import cached_property, lru_cache
 
-from ..limits import MOST_NODES, MOST_ROUNDS
+from ..limits import Limits, up_to
 from ..values import as_field
 from .game import AnyGame, Field, Game, Side, State, packed, unpacked
 
@@ -22,7 +22,8 @@ class PursuitState(State):
 
     @property
     def key(self) -> int:
-        return packed((self.caught, 1), (self.rounds, 5), (self.one, 5), (self.two, 5))
+        bits = self.game.bits
+        return packed((self.caught, 1), (self.rounds, bits), (self.one, bits), (self.two, bits))
 
     @property
     def rank(self) -> int:
@@ -45,7 +46,8 @@ class PursuitState(State):
 
 @dataclass(frozen=True)
 class Pursuit(Game[PursuitState]):
-    """The nodes (1 to 32), the edges, the nodes of both players, and the rounds (0 to 31).
+    """The nodes (1 to 64), the edges, the nodes of both players, and the rounds (0 to 63); more
+    than 32 nodes, or than 31 rounds, need linear stages.
 
     Edges are pairs of nodes, or the nodes of all pairs one after the other, as positions have
     them: `[(0, 1), (1, 2)]` or `[0, 1, 1, 2]`.
@@ -72,14 +74,20 @@ class Pursuit(Game[PursuitState]):
         super().__post_init__()
 
     @property
+    def bits(self) -> int:
+        """The bits of each number in a key."""
+        return 6 if self.is_wide else 5
+
+    @property
     def _ends(self) -> tuple[int, ...]:
         """The nodes of all edges, one after the other."""
         return self.edges  # type: ignore[return-value]
 
-    def _fault(self) -> tuple[str, str] | None:
+    def _fault(self, limits: Limits) -> tuple[str, str] | None:
         ends = self._ends
-        if not 1 <= self.nodes <= MOST_NODES:
-            return "71 nodes range", f"{self.nodes} nodes have to be from 1 to {MOST_NODES}"
+        if not 1 <= self.nodes <= limits.nodes:
+            return ("71 nodes range",
+                    f"{self.nodes} nodes have to be from 1 to {up_to(limits, 'nodes')}")
         if len(ends) % 2:
             return "72 edge odd", f"{len(ends)} nodes of edges are no pairs"
         for place, node in enumerate(ends):
@@ -94,8 +102,9 @@ class Pursuit(Game[PursuitState]):
             side, node = ("one", self.one) if self.one >= self.nodes else ("two", self.two)
             return (f"75 place range {side}",
                     f"{side} stands on {node}, and nodes are from 0 to {self.nodes - 1}")
-        if self.rounds > MOST_ROUNDS:
-            return "76 rounds range", f"{self.rounds} rounds have to be from 0 to {MOST_ROUNDS}"
+        if self.rounds > limits.rank:
+            return ("76 rounds range",
+                    f"{self.rounds} rounds have to be from 0 to {up_to(limits, 'rank')}")
         return None
 
     @property
@@ -133,7 +142,7 @@ class Pursuit(Game[PursuitState]):
         return PursuitState(self, self.one == self.two, self.rounds, self.one, self.two)
 
     def _unpacked(self, key: int) -> PursuitState | None:
-        caught, rounds, one, two = unpacked(key, 1, 5, 5, 5)
+        caught, rounds, one, two = unpacked(key, 1, self.bits, self.bits, self.bits)
         known = rounds <= self.rounds and max(one, two) < self.nodes
         return PursuitState(self, bool(caught), rounds, one, two) if known else None
 

@@ -33,6 +33,7 @@ from fractions import Fraction
 from typing import Any, ClassVar, Generic, TypeVar
 
 from ..errors import InvalidError
+from ..limits import Limits
 from ..values import is_whole, shorten
 from .game import CHANCE, SIDES, Field, Game, Side, State, side_of
 
@@ -151,7 +152,7 @@ class PythonGame(Game[PythonState], Generic[Node]):
         """A node in words."""
         return str(node)
 
-    def _fault(self) -> tuple[str, str] | None:
+    def _fault(self, limits: Limits) -> tuple[str, str] | None:
         return None
 
     @property

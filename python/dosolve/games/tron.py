@@ -6,7 +6,7 @@ from collections.abc import Sequence
 from dataclasses import dataclass
 from functools import cached_property
 
-from ..limits import MOST_GRID
+from ..limits import MOST_GRID, Limits
 from .game import AnyGame, Field, Game, Side, State, members, packed, side_of, unpacked
 
 DIRECTIONS = ("north", "east", "south", "west")
@@ -77,7 +77,7 @@ class Tron(Game[TronState]):
     one: int
     two: int
 
-    def _fault(self) -> tuple[str, str] | None:
+    def _fault(self, limits: Limits) -> tuple[str, str] | None:
         if not (1 <= self.height <= MOST_GRID and 1 <= self.width <= MOST_GRID):
             return ("41 grid range", f"a grid of {self.height} rows and {self.width} columns has "
                     f"to have 1 to {MOST_GRID} of each")

@@ -17,7 +17,7 @@ from ..errors import (
 )
 from ..exact import BestResponse, expected_of, respond
 from ..games.game import SCALE, SIDES, AnyGame, Side, other, side_of
-from ..limits import MOST_GAMES, MOST_ROWS, MOST_SEED
+from ..limits import MOST_GAMES, MOST_SEED, WIDE
 from ..players.sheets import Sheet
 from ..positions import Position, require_position
 from ..reports import Report, explained
@@ -38,6 +38,9 @@ _FIRST_TURNS, _MORE_TURNS = 256, 8
 _SWEEPS = 3
 _MANY_TURNS = 10**9
 """So many turns are no limit."""
+
+_LIMITS = (15, 32, 33, 50, 71, 76, 84, 85, 89)
+"""The refusals by limits that were narrower before."""
 
 
 def find_program(program: FilePath | None = None) -> str:
@@ -157,8 +160,9 @@ class Solver:
         """The program's report on a position, whatever its outcome.
 
         With `seconds`, the search is run with growing turns, none at first, and the best report is
-        handed back when time is up, or at Ctrl-C; each report is complete. `math.inf` goes on
-        until the search ends by itself. `progress` is a function that is called with each step
+        handed back when time is up, or at Ctrl-C; each report is complete. Induction, whose bounds
+        stand at its end alone, is run with all turns then. `math.inf` goes on until the search
+        ends by itself. `progress` is a function that is called with each step
         (`Progress`) about once a second, and at last with the bounds of the report; or True for a
         line on the terminal or in a notebook.
         """
@@ -191,7 +195,7 @@ class Solver:
             try:
                 if left <= 0:
                     return _stopped(best, "time"), time.monotonic()
-                found, ended = self._solved(replace(position, turns=turns), listener,
+                found, ended = self._solved(_step_of(position, turns), listener,
                                             None if math.isinf(left) else left, since, best)
             except ProgramTimeoutError:
                 return _stopped(best, "time"), time.monotonic()
@@ -201,7 +205,8 @@ class Solver:
                 best = found
             if is_last(found, position):
                 return best, ended
-            turns = min(max(_FIRST_TURNS, _MORE_TURNS * turns), position.turns)
+            more = max(_FIRST_TURNS, _MORE_TURNS * turns)
+            turns = position.turns if position.search == "induction" else min(more, position.turns)
 
     def _solved(self, position: Position, listener: Listener | None, timeout: float | None,
                 since: float, best: Report | None = None) -> tuple[Report, float]:
@@ -329,7 +334,11 @@ class Solver:
             if text == "input 16 game name":
                 return InputRefusedError(text, "the program is older than this package, and does "
                                                "not know the game")
-            return InputRefusedError(text)
+            found = InputRefusedError(text)
+            if found.code in _LIMITS:
+                return InputRefusedError(text, "the program is older than this package, and has "
+                                               "narrower limits")
+            return found
         if status == 9 and text.startswith(("report ", "refused ")):
             return explained(ReportRefusedError(text), given)
         if status in (4, 5) and re.fullmatch(r"visits spent \w+|board full|states full", text):
@@ -356,6 +365,15 @@ class Solver:
                                   f"dosolve?", 0)
 
 
+def _step_of(position: Position, turns: int) -> Position:
+    """The position that a step of a search within seconds asks for. Without turns there are serial
+    searches alone, for which double oracle lists no states first, and which claim few rows."""
+    if turns or position.turns == 0:
+        return replace(position, turns=turns)
+    rows = min(position.rows, 1024 + 4 * position.visits)
+    return replace(position, turns=0, rows=rows, search="oracle")
+
+
 def is_last(report: Report, position: Position) -> bool:
     """Whether a search within seconds ends with this report of one of its steps."""
     more = report.turns == 0 or "turns" in report.used_up
@@ -365,7 +383,7 @@ def is_last(report: Report, position: Position) -> bool:
 def _step(position: Position, report: Report | None, seconds: float) -> Progress:
     """What is known of a search with this report, or with none yet."""
     count = position.game.count_states()
-    states = count if count is not None and count <= MOST_ROWS else None
+    states = count if count is not None and count <= WIDE.rows else None
     most = _most_turns(position, states)
     if report is None:
         return Progress(0, seconds, None, None, states, most)

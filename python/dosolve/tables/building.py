@@ -12,7 +12,6 @@ from __future__ import annotations
 
 import math
 from collections.abc import Callable, Hashable, Iterable, Iterator, Mapping, Sequence
-from contextlib import contextmanager
 from dataclasses import dataclass, field
 from decimal import Decimal
 from fractions import Fraction
@@ -22,7 +21,7 @@ from typing import Any, NamedTuple, TypeVar
 from ..errors import NoTableError
 from ..exact import steps
 from ..games.game import CHANCE, AnyGame, State
-from ..limits import MOST_DRAWS, MOST_MOVES, MOST_PAYOFF, MOST_RANK, SUM_ERROR
+from ..limits import MOST_DRAWS, MOST_PAYOFF, SUM_ERROR, WIDE
 from ..values import as_plain, can_take, is_whole, shorten
 from .lists import Cell, Listed
 from .making import Draw, Making, TableListener, Told, making
@@ -256,8 +255,8 @@ class _Walk:
                 on_way.add(node)
                 waiting.append((node, True))
                 behind = self.look(node)
-                if behind and len(on_way) > MOST_RANK and not isinstance(node, Deal):
-                    raise NoTableError(f"the game goes on for more than {MOST_RANK} turns, at "
+                if behind and len(on_way) > WIDE.rank and not isinstance(node, Deal):
+                    raise NoTableError(f"the game goes on for more than {WIDE.rank} turns, at "
                                        f"{shorten(node)}: {self.advice}")
                 waiting += [(after, False) for after in reversed(behind)
                             if after not in self.done]
@@ -271,9 +270,9 @@ class _Walk:
             self.told[node] = what.payoff
             return []
         widths = {len(row) for row in what.rows}
-        if not 1 <= len(what.rows) <= MOST_MOVES or not widths <= {*range(1, MOST_MOVES + 1)}:
+        if not 1 <= len(what.rows) <= WIDE.moves or not widths <= {*range(1, WIDE.moves + 1)}:
             raise NoTableError(f"{shorten(node)} has {len(what.rows)} by {max(widths, default=0)} "
-                               f"moves, and has to have 1 to {MOST_MOVES} for each player")
+                               f"moves, and has to have 1 to {WIDE.moves} for each player")
         if len(widths) > 1:
             raise NoTableError(f"the rows of {shorten(node)} are not equally long")
         rows = [[self.draws(node, what.names, one, two, cell) for two, cell in enumerate(row)]
@@ -341,7 +340,7 @@ class _Walk:
         rewards = {draw.reward for told in self.told.values() if not isinstance(told, Fraction)
                    for row in told for cell in row for draw in cell}
         greatest = max(max(abs(least), abs(most)) for least, most in self.totals().values())
-        return _scale([*payoffs, *rewards], greatest, self.rounded, MOST_PAYOFF - MOST_RANK)
+        return _scale([*payoffs, *rewards], greatest, self.rounded, MOST_PAYOFF - WIDE.rank)
 
 
 def _difference(given: Outcomes, found: list[Draw]) -> Fraction:
@@ -431,9 +430,9 @@ def _require_rank(rows: Sequence[Rows]) -> None:
         after = [number for cell in cells
                  for number in ((cell,) if isinstance(cell, int) else (draw[0] for draw in cell))]
         ranks[state] = 1 + max(ranks.get(number, 0) for number in after)
-    if ranks.get(0, 0) > MOST_RANK:
+    if ranks.get(0, 0) > WIDE.rank:
         raise NoTableError(f"the game takes up to {ranks[0]} turns, those included that only deal "
-                           f"out chances; {MOST_RANK} are possible")
+                           f"out chances; {WIDE.rank} are possible")
 
 
 Payoffs = list[tuple[Fraction, Fraction]]
@@ -512,9 +511,9 @@ def of_stages(stages: object, transitions: object, rounds: int, start: Hashable,
 
 
 def _require_rounds(rounds: object) -> None:
-    if not is_whole(rounds) or not 0 < rounds <= MOST_RANK:
+    if not is_whole(rounds) or not 0 < rounds <= WIDE.rank:
         raise NoTableError(f"rounds is {shorten(rounds)}, and has to be a whole number from 1 to "
-                           f"{MOST_RANK}")
+                           f"{WIDE.rank}")
 
 
 def _stage(payoffs: object, one: Sequence[object] | None, two: Sequence[object] | None,
@@ -593,9 +592,9 @@ def _matrix(payoffs: object) -> list[list[object]]:
         if len(row) != len(matrix[0]):
             raise NoTableError(f"row {number} of the matrix (from 0) has the length {len(row)}, "
                                f"and row 0 has {len(matrix[0])}")
-    if len(matrix) > MOST_MOVES or len(matrix[0]) > MOST_MOVES:
+    if len(matrix) > WIDE.moves or len(matrix[0]) > WIDE.moves:
         raise NoTableError(f"the matrix has {len(matrix)} by {len(matrix[0])} moves, and each "
-                           f"player can have at most {MOST_MOVES}")
+                           f"player can have at most {WIDE.moves}")
     return matrix
 
 
@@ -640,10 +639,10 @@ def of_functions(root: Node, moves: Callable[[Node], BothMoves],
     paid = None if reward is None else _Reward(reward, rounded)
 
     def expand(node: Node) -> End | Turn:
-        with _at(f"moves({shorten(node)})"):
+        with _At("moves", node):
             ones, twos = both_moves(node, moves(node))
         if not ones and not twos:
-            with _at(f"payoff({shorten(node)})"):
+            with _At("payoff", node):
                 return End(Fraction(0) if payoff is None else
                            _payoff(payoff(node), rounded, f"payoff({shorten(node)})"))
         ones, twos = ones or [ONLY], twos or [ONLY]
@@ -651,7 +650,7 @@ def of_functions(root: Node, moves: Callable[[Node], BothMoves],
         for one in ones:
             row = []
             for two in twos:
-                with _at(f"after({shorten(node)}, {one!r}, {two!r})"):
+                with _At("after", node, one, two):
                     found = outcomes_of(after(node, one, two))
                 row.append(found if paid is None else paid.told(node, one, two, found))
             rows.append(row)
@@ -680,21 +679,30 @@ class _Reward:
 
     def paid(self, *given: object) -> Fraction:
         """What one call of the function gives."""
-        call = f"reward({', '.join(map(shorten, given))})"
-        with _at(call):
-            return _payoff(self.function(*given), self.rounded, call)
+        with _At("reward", *given) as call:
+            try:
+                return exact(self.function(*given), rounded=self.rounded)
+            except NoTableError as fault:
+                raise NoTableError(f"{fault}: {call}") from None
 
 
-@contextmanager
-def _at(call: str) -> Iterator[None]:
+class _At:
     """Has an error that a function of the game raises say in which call that was."""
-    try:
-        yield
-    except NoTableError:
-        raise
-    except Exception as fault:
-        fault.add_note(f"in {call}")
-        raise
+
+    __slots__ = "name", "given"
+
+    def __init__(self, name: str, *given: object) -> None:
+        self.name, self.given = name, given
+
+    def __str__(self) -> str:
+        return f"{self.name}({', '.join(map(shorten, self.given))})"
+
+    def __enter__(self) -> _At:
+        return self
+
+    def __exit__(self, kind: object, fault: BaseException | None, trace: object) -> None:
+        if isinstance(fault, Exception) and not isinstance(fault, NoTableError):
+            fault.add_note(f"in {self}")
 
 
 def _payoff(found: object, rounded: bool, call: str) -> Fraction:

@@ -10,7 +10,8 @@ from itertools import accumulate
 
 from ..games.game import CHANCE, Field
 from ..limits import (
-    MOST_DRAWS, MOST_MOVES, MOST_PAYOFF, MOST_RANK, MOST_REWARD, MOST_STATES, MOST_WIDE_STATES,
+    MOST_DRAWS, MOST_PAYOFF, MOST_REWARD, MOST_STATES, MOST_WIDE_STATES, NARROW, WIDE, Limits,
+    up_to,
 )
 from ..values import shorten
 
@@ -18,18 +19,14 @@ MOST_WIDTH = 255
 """The rows, cells and draws that a text can have in one place."""
 
 MOST_END = 1_000_000
-MOST_NUMBER = 1_048_575
-"""The greatest size of an end and of any other number in a text."""
-
-MOST_WIDE_NUMBER = 16_777_215
-"""The greatest number of a state, and the greatest weight, in a report of the newest version."""
+"""The greatest size of an end in a text."""
 
 LINE = (
     Field("ranks", 0, MOST_STATES, most=MOST_STATES),
     Field("moves", 0, MOST_WIDTH, most=2 * MOST_STATES),
     Field("values", -MOST_END, MOST_END, most=MOST_STATES),
-    Field("cells", -MOST_NUMBER - 1, MOST_NUMBER, most=MOST_STATES),
-    Field("draws", 0, MOST_NUMBER, most=MOST_STATES),
+    Field("cells", -NARROW.number - 1, NARROW.number, most=MOST_STATES),
+    Field("draws", 0, NARROW.number, most=MOST_STATES),
 )
 """The fields of the line of a report below the newest version."""
 
@@ -37,8 +34,8 @@ WIDE_LINE = (
     Field("ranks", 0, MOST_WIDE_STATES, most=MOST_WIDE_STATES),
     Field("moves", 0, MOST_WIDTH, most=2 * MOST_WIDE_STATES),
     Field("values", -MOST_END, MOST_WIDE_STATES, most=MOST_WIDE_STATES),
-    Field("cells", -MOST_WIDE_NUMBER - 1, MOST_WIDE_NUMBER, most=MOST_WIDE_STATES),
-    Field("draws", 0, MOST_WIDE_NUMBER, most=2 * MOST_WIDE_STATES),
+    Field("cells", -WIDE.number - 1, WIDE.number, most=MOST_WIDE_STATES),
+    Field("draws", 0, WIDE.number, most=2 * MOST_WIDE_STATES),
     Field("rewards", -MOST_REWARD, MOST_REWARD, most=MOST_WIDE_STATES, optional=True),
 )
 """The fields of the line of a report of the newest version."""
@@ -137,15 +134,15 @@ def _draw_kinds(place: tuple[int, ...], cell: object) -> Iterator[str]:
                                                 "One gets")
 
 
-def range_fault(listing: Listing) -> str | None:
+def range_fault(listing: Listing, limits: Limits = WIDE) -> str | None:
     """What is out of range in a listing whose kinds are right, the first in order."""
     cells = sum(len(row) for state in listing if not isinstance(state, int) for row in state)
-    if len(listing) > MOST_STATES or cells > MOST_STATES:
-        return f"{len(listing)} states with {cells} cells are more than {MOST_STATES}"
-    return next(_range_faults(listing), None)
+    if len(listing) > MOST_WIDE_STATES or cells > MOST_WIDE_STATES:
+        return f"{len(listing)} states with {cells} cells are more than {MOST_WIDE_STATES}"
+    return next(_range_faults(listing, limits), None)
 
 
-def _range_faults(listing: Listing) -> Iterator[str]:
+def _range_faults(listing: Listing, limits: Limits) -> Iterator[str]:
     draws = 0
     for state, told in enumerate(listing):
         if isinstance(told, int):
@@ -157,22 +154,24 @@ def _range_faults(listing: Listing) -> Iterator[str]:
         for one, row in enumerate(told):
             for two, cell in enumerate(row):
                 if isinstance(cell, int):
-                    if not 0 <= cell <= MOST_NUMBER:
-                        yield _told((state, one, two), cell, f"from 0 to {MOST_NUMBER}")
+                    if not 0 <= cell <= limits.number:
+                        yield _told((state, one, two), cell, f"from 0 to {up_to(limits, 'number')}")
                     continue
                 draws += len(cell)
-                yield from _draw_ranges((state, one, two), cell)
-    if draws > MOST_STATES // 2:
-        yield f"{draws} draws are more than {MOST_STATES // 2}"
+                yield from _draw_ranges((state, one, two), cell, limits)
+    if draws >= MOST_WIDE_STATES:
+        yield f"{draws} draws are more than {MOST_WIDE_STATES - 1}"
 
 
-def _draw_ranges(place: tuple[int, ...], cell: Sequence[Sequence[int]]) -> Iterator[str]:
+def _draw_ranges(place: tuple[int, ...], cell: Sequence[Sequence[int]],
+                 limits: Limits) -> Iterator[str]:
     if len(cell) > MOST_WIDTH:
         yield f"{_at(place)} has to have at most {MOST_WIDTH} draws"
     for number, draw in enumerate(cell):
-        if len(draw) not in (2, 3) or not all(0 <= each <= MOST_NUMBER for each in draw[:2]):
-            yield _told((*place, number), draw, f"two numbers from 0 to {MOST_NUMBER}, and a third "
-                                                f"where the turn pays")
+        if len(draw) not in (2, 3) or not all(0 <= each <= limits.number for each in draw[:2]):
+            yield _told((*place, number), draw,
+                        f"two numbers from 0 to {up_to(limits, 'number')}, and a third where the "
+                        f"turn pays")
         elif abs(sum(draw[2:])) > MOST_REWARD:
             yield _told((*place, number, 2), draw[2], f"from -{MOST_REWARD} to {MOST_REWARD}")
 
@@ -267,13 +266,13 @@ def nested(lists: Lists) -> tuple[Listed, ...]:
     return tuple(listing)
 
 
-def fault_of(lists: Lists) -> Fault | None:
-    """The first rule that the lists break."""
+def fault_of(lists: Lists, limits: Limits = WIDE) -> Fault | None:
+    """The first rule that the lists break within these limits."""
     if not _fit(lists):
         return "81 lists", "the lists of the line do not fit each other"
     if not lists.ranks:
         return "82 no states", "a table has at least one state, its root"
-    return next(_faults(lists), None)
+    return next(_faults(lists, limits), None)
 
 
 def _fit(lists: Lists) -> bool:
@@ -296,7 +295,7 @@ def _fit(lists: Lists) -> bool:
         starts or not lists.draws)
 
 
-def _faults(lists: Lists) -> Iterator[Fault]:
+def _faults(lists: Lists, limits: Limits) -> Iterator[Fault]:
     """What breaks the rules from 83, each rule over all states before the next."""
     for state, rank in enumerate(lists.ranks):
         if not rank and abs(lists.values[state]) > MOST_PAYOFF:
@@ -305,9 +304,9 @@ def _faults(lists: Lists) -> Iterator[Fault]:
     for rule, side, about in (("84 rows", 0, "rows, one for each move of One"),
                               ("85 cells", 1, "cells in each row, equally many")):
         for state in lists.inner:
-            if not 1 <= lists.moves[2 * state + side] <= MOST_MOVES:
-                yield (f"{rule} range {state}",
-                       f"the state {state} has to have 1 to {MOST_MOVES} {about}")
+            if not 1 <= lists.moves[2 * state + side] <= limits.moves:
+                yield (f"{rule} range {state}", f"the state {state} has to have 1 to "
+                       f"{up_to(limits, 'moves')} {about}")
     draws = lists.draws_of()
     for judge in (_count_fault, _weight_fault):
         for at, drawn in draws.items():
@@ -321,7 +320,7 @@ def _faults(lists: Lists) -> Iterator[Fault]:
                     yield _of_cell(lists, at, (
                         "88 order", f"leads to the state {after}, and has to lead to one that "
                         f"stands behind {state}, of the {len(lists.ranks)} that there are"))
-    yield from _rank_faults(lists, draws)
+    yield from _rank_faults(lists, draws, limits)
     yield from _total_faults(lists)
 
 
@@ -350,14 +349,15 @@ def _weight_fault(draws: Draws) -> Fault | None:
                           f"to {CHANCE}")
 
 
-def _rank_faults(lists: Lists, draws: Mapping[int, Draws]) -> Iterator[Fault]:
+def _rank_faults(lists: Lists, draws: Mapping[int, Draws], limits: Limits) -> Iterator[Fault]:
     for state in lists.inner:
         rank = lists.ranks[state]
         after = max(lists.ranks[reached] for at in lists.cells_of(state)
                     for reached in _after(lists, draws, at))
-        if rank > MOST_RANK or rank != 1 + after:
+        if rank > limits.rank or rank != 1 + after:
             yield (f"89 turns {state}", f"the longest way from the state {state} takes "
-                   f"{1 + after} turns, its rank is {rank}, and at most {MOST_RANK} are possible")
+                   f"{1 + after} turns, its rank is {rank}, and at most {up_to(limits, 'rank')} "
+                   f"are possible")
 
 
 def _total_faults(lists: Lists) -> Iterator[Fault]:

@@ -10,7 +10,7 @@ from fractions import Fraction
 from typing import NamedTuple
 
 from ..errors import NoTableError
-from ..limits import MOST_POSITION_BYTES
+from ..limits import WIDE
 from ..solver.progress import Bar
 
 
@@ -38,7 +38,7 @@ class TableProgress:
 
     def __str__(self) -> str:
         return (f"{self.seconds:.0f} s, {self.states} states with moves, {self.pairs} pairs of "
-                f"moves, {100 * self.bytes // MOST_POSITION_BYTES}% of the text that is possible")
+                f"moves, {100 * self.bytes // WIDE.bytes}% of the text that is possible")
 
 
 TableListener = Callable[[TableProgress], object]
@@ -112,9 +112,9 @@ class Making:
 
     def _require(self) -> None:
         size = self.size()
-        if size > MOST_POSITION_BYTES:
+        if size > WIDE.bytes:
             raise NoTableError(
-                f"the text of the position would have more than {MOST_POSITION_BYTES} bytes: "
+                f"the text of the position would have more than {WIDE.bytes} bytes: "
                 f"{size} for the first {len(self.leads)} states, with {self.pairs} pairs of moves; "
                 f"give equal continuations equal nodes, or leave out turns or moves")
 

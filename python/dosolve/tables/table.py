@@ -18,7 +18,7 @@ from __future__ import annotations
 import hashlib
 import json
 from collections.abc import Callable, Hashable, Iterator, Mapping, Sequence
-from dataclasses import dataclass, field, fields, replace
+from dataclasses import dataclass, field, replace
 from fractions import Fraction
 from functools import cached_property
 from pathlib import Path
@@ -26,7 +26,7 @@ from typing import Any, Self, cast
 
 from ..errors import InputRefusedError, InvalidError, NoTableError
 from ..games.game import CHANCE, AnyGame, Field, Game, Side, State, side_of
-from ..limits import NEWEST_VERSION
+from ..limits import NARROW, NEWEST_VERSION, WIDE, Limits
 from ..values import FilePath, as_field, cut, shorten
 from .building import (
     BothMoves, Built, MoveLists, Node, Rewarding, of_functions, of_game, of_matrix, of_rounds,
@@ -52,10 +52,15 @@ MoveNames = tuple[Sequence[str], Sequence[str]]
 class _States(Field):
     """The field `states` of a position."""
 
+    limits: Limits = WIDE
+
+    def within(self, limits: Limits) -> Field:
+        return replace(self, limits=limits)
+
     def refuse(self, value: object) -> None:
         fault, told = "14 kind", kind_fault(value)
         if told is None:
-            fault, told = "15 range", range_fault(cast(Listing, value))
+            fault, told = "15 range", range_fault(cast(Listing, value), self.limits)
         if told is not None:
             raise InputRefusedError(f"input {fault} of states", told)
 
@@ -164,15 +169,20 @@ class Table(Game[TableState]):
     error: Fraction = Fraction(0)
 
     def __post_init__(self) -> None:
-        object.__setattr__(self, "listing", _frozen(self.listing))
-        self.settings[0].refuse(self.listing)
-        fault = self._fault()
-        if fault is not None:
-            raise InputRefusedError(f"input {fault[0]}", fault[1])
+        super().__post_init__()
         self._require_names()
 
-    def _fault(self) -> tuple[str, str] | None:
-        return fault_of(self.lists)
+    def _settle(self, limits: Limits) -> None:
+        object.__setattr__(self, "listing", _frozen(self.listing))
+        self.refuse_beyond(limits)
+
+    def _fault(self, limits: Limits) -> tuple[str, str] | None:
+        return fault_of(self.lists, limits)
+
+    @cached_property
+    def is_wide(self) -> bool:
+        return (self._width > NARROW.moves or max(self.lists.ranks) > NARROW.rank
+                or len(self.listing) - 1 > NARROW.number)
 
     def _require_names(self) -> None:
         count = len(self.listing)
@@ -233,16 +243,13 @@ class Table(Game[TableState]):
         return self.lists.told()
 
     @classmethod
-    def of_line(cls, *values: Any) -> Self:
-        """The table of the lists of a report's line."""
+    def of_line(cls, *values: Any, limits: Limits = WIDE) -> Self:
         lists = Lists(*values)
-        fault = fault_of(lists)
+        fault = fault_of(lists, limits)
         if fault is not None:
             raise InputRefusedError(f"input {fault[0]}", fault[1])
         # Not by the constructor, whose ranges are those of positions.
         made = object.__new__(cls)
-        for each in fields(cls):
-            object.__setattr__(made, each.name, each.default)
         object.__setattr__(made, "listing", nested(lists))
         return made
 
@@ -406,7 +413,7 @@ class Table(Game[TableState]):
     @classmethod
     def repeated(cls, payoffs: object, rounds: int, one: Sequence[object] | None = None,
                  two: Sequence[object] | None = None, rounded: bool = False) -> Table:
-        """A matrix that is played for some rounds (1 to 31), each of which pays; `rounded` as in
+        """A matrix that is played for some rounds (1 to 63), each of which pays; `rounded` as in
         `from_matrix`. A node is the number of rounds that are left."""
         return cls._of(of_rounds(payoffs, rounds, one, two, rounded), _left)
 
@@ -415,7 +422,7 @@ class Table(Game[TableState]):
                transitions: Mapping[Any, object] | Sequence[object], rounds: int,
                start: Hashable = None, one: MoveLists = None, two: MoveLists = None,
                rounded: bool = False, progress: TableListener | bool = False) -> Table:
-        """A Markov game of some rounds (1 to 31): in each round both play the matrix of the stage
+        """A Markov game of some rounds (1 to 63): in each round both play the matrix of the stage
         in which they are, which pays at once.
 
         - `stages`: a dict from stages, any hashable values, to matrices as `from_matrix` takes

@@ -7,7 +7,7 @@ use Rattle.restricted_game.proofs.ChildLemmas.{no_child_rows, child_rows_later}
 use Rattle.oracle_search.specs.declared.ends.Stop.TheVariants as stops
 use Rattle.oracle_search.specs.Finished.{IsClose}
 use Rattle.oracle_search.specs.Workers.{WorkerView, at_work}
-use Rattle.oracle_search.specs.Searches.{IsBoardFull, IsWorked, IsDone, AreDone, TakesAtMost, HasVisitsBelow, IsPureTight}
+use Rattle.oracle_search.specs.Searches.{IsBoardFull, IsWorked, IsDone, AreDone, growth_turns, TakesAtMost, HasVisitsBelow, IsPureTight}
 use Rattle.oracle_search.proofs.+search.Given as given
 use Rattle.oracle_search.proofs.+search.Goals as goal
 use Rattle.oracle_search.proofs.BetterLemmas.{within_met, gap_closed, serial_closed}
@@ -29,7 +29,7 @@ searched g t c = worked_after (worked_read (worked_none c.requires.here.kept) c.
 
 -- a child that was finished
 finished : (g : given.Over) (t : ℕ) (c : children::search_child-In-None-stop g t) → let m = g.G.Game.model c.args.setup.now.game in
-    IsClose m (g.B.Bounds.view c.search_row.new.board) c.args.s × TakesAtMost 1 (m.rank c.args.s) c.args.worker.now c.search_row.new.worker
+    IsClose m (g.B.Bounds.view c.search_row.new.board) c.args.s × TakesAtMost (growth_turns m) 1 (m.rank c.args.s) c.args.worker.now c.search_row.new.worker
 finished g t c = child_done (g.G.Game.model c.args.setup.now.game) c.args.s (at_work (g.B.Bounds.view c.gap_at.new.board) c.args.worker.now)
     (at_work (g.B.Bounds.view c.search_row.new.board) c.search_row.new.worker) c.in-Ok.end
     (rw c.in-Some.is at c.requires.here).has_row.goes_on (sym c.stop.ensures ∙ c.in-None-stop.is) c.in-Ok.ensures.ended.ends (c.in-Ok.ensures.ended.turns c.requires.regret)
@@ -229,7 +229,8 @@ growth::grow-returns-in-Err-clause-worked g t c = worked_none c.requires.here.ke
 
 pub growth::grow-growth-init : goal.growth::grow-growth-init
 growth::grow-growth-init g t c =
-    growing_none c.requires.here.has_row.goes_on c.requires.here.kept c.in-Ok.ensures.held (no_child_rows _ _ c.args.s c.in-Ok.growth.children c.in-Ok.ensures.children)
+    growing_none c.requires.here.has_row.goes_on (g.met.G.Game.lawful c.args.setup.now.game) c.requires.here.kept c.in-Ok.ensures.held
+    (no_child_rows _ _ c.args.s c.in-Ok.growth.children c.in-Ok.ensures.children)
 
 pub growth::grow-take_turn-requires-clause-here : goal.growth::grow-take_turn-requires-clause-here
 growth::grow-take_turn-requires-clause-here g t c = at_row_after c.requires.here (worked_after c.growth.invariant.worked c.search_children.ensures.worked)
@@ -301,7 +302,8 @@ growth::grow-returns-in-Done-clause-ended g t c =
 pub growth::grow-growth-preserved : goal.growth::grow-growth-preserved
 growth::grow-growth-preserved g t c = growing_more c.requires.here.has_row.goes_on (passed g t (goal.at.growth::grow-growth-preserved g t c).In-Ok-None) c.in-Ok-take_turn.end
     (worked_read c.take_turn.ensures.worked c.is_within_told.ensures.later c.is_within_told.ensures.entries) c.in-Ok-take_turn.ensures.turn
-    (ap (λ (w : WorkerView). w.settled) c.take_turn.ensures.same) c.in-Ok-take_turn.ensures.held (rw c.in-Grown.is at c.in-Ok-take_turn.ensures.grown)
+    (ap (λ (w : WorkerView). w.settled) c.take_turn.ensures.same) c.in-Ok-take_turn.ensures.held (g.met.G.Game.lawful c.args.setup.now.game) c.requires.here.reachable
+    (rw c.in-Grown.is at c.in-Ok-take_turn.ensures.grown)
     (child_rows_later _ _ _ c.args.s _ c.is_within_told.ensures.later c.take_turn.ensures.children)
 
 pub growth::grow-returns-in-Err-Spent-clause-worked : goal.growth::grow-returns-in-Err-Spent-clause-worked

@@ -1,5 +1,5 @@
 use Rattle.std.proofs.Common.{ℕ, ◌+◌, ◌-◌, ◌*◌, ◌/◌, ◌%◌, ◌<◌, length, slice_index}
-use Rattle.restricted_game.specs.Held.{count_held}
+use Rattle.restricted_game.specs.Held.{count_held, count_moves}
 use Rattle.oracle_search.specs.Workers.{at_work}
 use Rattle.oracle_search.specs.Searches.{IsDone, AreDone}
 use Rattle.oracle_search.proofs.GrowLemmas.{IsSearching, IsGrowing}
@@ -40,4 +40,4 @@ invariant-growth::grow-growth g l =
     IsGrowing (g.G.Game.model l.setup.game) l.s l.growth.children l.growth.held (at_work (g.B.Bounds.view l.initial.board) l.initial.worker) (at_work (g.B.Bounds.view l.board) l.worker)
 
 abbrev pub decreases-growth::grow-growth : goal.decreases-growth::grow-growth
-decreases-growth::grow-growth g l = 64 - count_held l.growth.held
+decreases-growth::grow-growth g l = count_moves l.growth.held - count_held l.growth.held

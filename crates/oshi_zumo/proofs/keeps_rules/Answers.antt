@@ -1,13 +1,15 @@
-use Rattle.std.proofs.Common.{◌≡◌, ℕ, ◌/◌, ◌<◌, ◌≤◌, ◌⊎◌, max, Bool, cond, ltb, ◌&&◌, get_or, length, refl, ap, inl, inr, arith}
+use Rattle.std.proofs.Common.{◌≡◌, ℕ, ◌+◌, ◌*◌, ◌/◌, ◌^◌, ◌<◌, ◌≤◌, ◌⊎◌, max, pos, ◌+ℤ◌, Bool, None, cond, ltb, ◌&&◌, get_or, length, refl, ap, inl, inr, arith}
 use Rattle.std.proofs.Math.Nat.{div-eq_of_lt}
+use Rattle.std.proofs.lemmas.Bool.Decides.{nat_tests}
 use Rattle.std.proofs.lemmas.Bool.{and_parts, cond_both, lt-ltb, ltb-true, or_cases}
 use Rattle.std.specs.Int.RustNames.{unsigned_abs}
+use Rattle.sim_game.specs.declared.Limits.TheVariants.{Narrow}
 use Rattle.sim_game.specs.declared.Side.{Side}
 use Rattle.oshi_zumo.specs.declared.Setting.{Setting}
 use Rattle.oshi_zumo.specs.declared.State.{State}
 use Rattle.oshi_zumo.specs.Laws.{bid_paid, moves_open, open_bids, over_at_end, oshi_zumo_is_game}
-use Rattle.oshi_zumo.specs.Position.{IsPosition}
-use Rattle.oshi_zumo.specs.Rules.{bids, bids_from, coins_of, is_off, is_bout_over, oshi_zumo_rank}
+use Rattle.oshi_zumo.specs.Position.{first_fault, IsPosition}
+use Rattle.oshi_zumo.specs.Rules.{bids, bids_from, coin_bits, coins_of, is_off, is_bout_over, oshi_zumo_rank}
 use Rattle.oshi_zumo.proofs.keeps_rules.Goals as goal
 
 paid : (g : Setting) (side : Side) (s : State) (i : ℕ) → i < length (bids g side s) → get_or (bids g side s) i 0 ≤ coins_of side s
@@ -28,6 +30,9 @@ end_rank : (g : Setting) (s : State) → Ended g s → oshi_zumo_rank g s ≡ 0
 end_rank g s (inl off) = ap (λ (b : Bool). cond b 0 (max (s.one / g.least) (s.two / g.least))) (lt-ltb g.size (unsigned_abs s.place) off)
 end_rank g s (inr poor) = cond_both (is_off g s) 0 (max (s.one / g.least) (s.two / g.least)) (λ (n : ℕ). n ≡ 0) (λ _. refl) (λ _. omega (arith, div-eq_of_lt poor.0, div-eq_of_lt poor.1))
 
+narrow_bits : (g : Setting) → first_fault Narrow g ≡ None → coin_bits g ≡ 5
+narrow_bits g h = grind (arith, nat_tests)
+
 pub returns : goal.returns
 returns c =
     let g = c.args._game.now.setting in
@@ -44,6 +49,7 @@ returns c =
       reward = λ s one two draw. refl;
       rank = λ s. refl;
       key = λ s. refl;
+      narrow_key = λ h s. ap (λ (bits : ℕ). (unsigned_abs (s.place +ℤ pos 16) * 2 ^ bits + s.one) * 2 ^ bits + s.two) (narrow_bits g h);
       low = refl;
       high = refl;
       width = refl;

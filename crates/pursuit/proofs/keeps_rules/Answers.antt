@@ -1,7 +1,10 @@
-use Rattle.std.proofs.Common.{◌≡◌, ◌⊎◌, ◌↔◌, ℕ, Bool, true, false, cond, length, get_or, refl, ap, inl, inr, ◌∙◌}
+use Rattle.std.proofs.Common.{◌≡◌, ◌⊎◌, ◌↔◌, ℕ, ◌≤◌, Bool, true, false, cond, length, get_or, refl, ap, inl, inr, ◌∙◌}
+use Rattle.std.proofs.lemmas.Bool.{le-ltb}
+use Rattle.sim_game.specs.declared.Limits.TheVariants.{Narrow}
 use Rattle.sim_game.specs.declared.Side.TheVariants.{One, Two}
 use Rattle.pursuit.specs.Laws.{pursuit_is_game}
-use Rattle.pursuit.specs.Rules.{Graph, after_round, first_of, width_of, ways}
+use Rattle.pursuit.specs.Position.{most_nodes, most_rounds}
+use Rattle.pursuit.specs.Rules.{Graph, after_round, first_of, key_bits, pursuit_key, width_of, ways}
 use Rattle.pursuit.proofs.PositionLemmas.{same_graph}
 use Rattle.pursuit.proofs.keeps_rules.Goals as goal
 
@@ -14,6 +17,9 @@ rank_ends false rounds = (
     | inr none ↦ none
   ],
 )
+
+narrow_bits : (nodes rounds : ℕ) → nodes ≤ most_nodes Narrow → rounds ≤ most_rounds Narrow → key_bits nodes rounds ≡ 5
+narrow_bits nodes rounds h k = rw (le-ltb 32 nodes h, le-ltb 31 rounds k) refl
 
 pub returns : goal.returns
 returns c =
@@ -33,6 +39,7 @@ returns c =
       reward = λ s one two draw. refl;
       rank = λ s. refl;
       key = λ s. refl;
+      narrow_key = λ nodes rounds s. ap (λ (bits : ℕ). pursuit_key bits s) (narrow_bits g.nodes g.rounds nodes rounds);
       low = refl;
       high = refl;
       chance_free = refl;

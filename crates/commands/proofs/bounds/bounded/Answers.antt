@@ -7,7 +7,7 @@ pub returns-in-Ok-accept : goal.returns-in-Ok-accept
 returns-in-Ok-accept c =
     let bytes = c.args.bytes.now in let task = c.in-Ok.task in let end = c.in-Ok-accept.end in
     answers (IsBounded bytes) (bounds_status end) (bounds_text end) c.told.result
-    (IsBounded.searched (record { text = task.text; ask = task.ask }) end c.in-Ok.ensures.exact (c.game.result, c.game.ensures, c.in-Ok-accept.ensures)) c.told.ensures
+    (IsBounded.searched (record { text = task.text; ask = task.ask }) end c.in-Ok.ensures.exact (c.game.result, c.game.ensures.is, c.in-Ok-accept.ensures)) c.told.ensures
 
 pub returns : goal.returns
 returns c =

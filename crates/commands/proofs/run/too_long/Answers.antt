@@ -1,3 +1,4 @@
+use Rattle.position.specs.declared.reading.TheConstants.{MOST_TABLE_BYTES}
 use Rattle.position.specs.declared.games.InputError.TheVariants as errors
 use Rattle.commands.specs.declared.reports.ReportFault.TheVariants as faults
 use Rattle.commands.specs.Texts.{input_text}
@@ -13,11 +14,11 @@ use Rattle.commands.proofs.run.too_long.Goals as goal
 
 pub returns-in-Solve : goal.returns-in-Solve
 returns-in-Solve c =
-    rw c.in-Solve.is (long_as IsSolved _ (λ _. 1048576) 2 (input_text errors.TooLong) c.refused.result (λ bytes long. IsSolved.refused errors.TooLong (too_long bytes long)) c.refused.ensures)
+    rw c.in-Solve.is (long_as IsSolved _ (λ _. MOST_TABLE_BYTES) 2 (input_text errors.TooLong) c.refused.result (λ bytes long. IsSolved.refused errors.TooLong (too_long bytes long)) c.refused.ensures)
 
 pub returns-in-Bounds : goal.returns-in-Bounds
 returns-in-Bounds c =
-    rw c.in-Bounds.is (long_as IsBounded _ (λ _. 1048576) 2 (input_text errors.TooLong) c.refused-in-Bounds.result
+    rw c.in-Bounds.is (long_as IsBounded _ (λ _. MOST_TABLE_BYTES) 2 (input_text errors.TooLong) c.refused-in-Bounds.result
     (λ bytes long. IsBounded.refused errors.TooLong (too_long bytes long)) c.refused-in-Bounds.ensures)
 
 pub returns-in-Check : goal.returns-in-Check

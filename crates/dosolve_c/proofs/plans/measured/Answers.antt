@@ -1,6 +1,6 @@
 use Rattle.std.proofs.Common.{Err, subst}
 use Rattle.position.specs.Games.{OfGame}
-use Rattle.commands.specs.Measured.{sheet_of, IsMeasured}
+use Rattle.commands.specs.Measured.{most_states, sheet_of, IsMeasured}
 use Rattle.dosolve_c.specs.Plans.{IsUnmeasured}
 use Rattle.dosolve_c.proofs.PlanLemmas.{worst_case, too_many}
 use Rattle.dosolve_c.proofs.plans.measured.Goals as goal
@@ -11,7 +11,7 @@ returns-in-Ok c = worst_case c.args.found.now.report c.args.side c.in-Ok.case c.
 pub returns-in-Err-TooMany : goal.returns-in-Err-TooMany
 returns-in-Err-TooMany c =
     let r = c.args.found.now.report in
-    too_many r c.args.side _ (subst (λ e. OfGame r.position (λ S m. IsMeasured m (sheet_of c.args.side r) (Err e))) c.in-Err-TooMany.field-0-is c.in-Err-TooMany.ensures)
+    too_many r c.args.side _ (subst (λ e. OfGame r.position (λ S m. IsMeasured m (sheet_of c.args.side r) (most_states r) (Err e))) c.in-Err-TooMany.field-0-is c.in-Err-TooMany.ensures)
 
 pub returns-in-Err-NoMemory : goal.returns-in-Err-NoMemory
 returns-in-Err-NoMemory c = IsUnmeasured.no_memory

@@ -7,5 +7,5 @@ use Rattle.induction.proofs.bounds.best_bound.Given as goal
 abbrev pub invariant-loop-reply : goal.invariant-loop-reply
 invariant-loop-reply g l = record {
   least : IsLeast l.side (worth (g.G.Game.model l.g) l.side l.s l.weights (turn_numbers (g.G.Game.model l.g) l.side l.rows l.s)) l.reply l.least;
-  small : unsigned_abs l.least ≤ 134217728000000000;
+  small : unsigned_abs l.least ≤ 268435456000000000;
 }

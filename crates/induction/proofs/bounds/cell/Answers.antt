@@ -1,5 +1,5 @@
-use Rattle.std.proofs.Common.{rules, nat_eq, ◌≡◌, ◌<◌, w64, SFits, arith}
-use Rattle.std.specs.HashMap.{get}
+use Rattle.std.proofs.Common.{rules, ◌≡◌, ◌<◌, w64, SFits, arith}
+use Rattle.induction.specs.Keys.{key_place}
 use Rattle.std.proofs.lemmas.Int.{ints, to_z-of_z}
 use Rattle.sim_game.specs.Sides.{draws_of, chance_of, child_of, turn_reward}
 use Rattle.sim_game.proofs.RewardLemmas.{reward_small}
@@ -38,7 +38,7 @@ with_reward-number-requires g c =
       reward = reward_small m game side c.args.s c.args.own c.args.reply c.loop-d.d c.requires.reachable
           (side_turn m side c.args.s c.args.own c.args.reply c.loop-d.d c.requires.own c.requires.reply u);
       bound = within_small m game (child_of m side c.args.s c.args.own c.args.reply c.loop-d.d) _ reach
-          (bound_within m game side c.args.rows.now (get nat_eq c.args.places.now) (child_of m side c.args.s c.args.own c.args.reply c.loop-d.d) c.requires.placed reach);
+          (bound_within m game side c.args.rows.now (key_place c.args.places.now) (child_of m side c.args.s c.args.own c.args.reply c.loop-d.d) c.requires.placed reach);
     })
 
 pub weighted-sum-requires-clause-small : goal.weighted-sum-requires-clause-small
@@ -55,7 +55,7 @@ weighted-sum-requires-clause-small g c =
     let number = rw (to_z-of_z w64 c.bound_by-bound.result fits, to_z-of_z w64 c.turn_reward.result fits_reward, c.bound_by-bound.ensures, child, reward) at c.with_reward-number.ensures in
     rw (to_z-of_z w64 c.with_reward-number.result fits_number, number)
     (within_small m game c.args.s _ c.requires.reachable
-    (number_within m game side c.args.s c.args.own c.args.reply c.requires.reachable c.requires.own c.requires.reply c.args.rows.now (get nat_eq c.args.places.now) c.requires.placed c.loop-d.d u))
+    (number_within m game side c.args.s c.args.own c.args.reply c.requires.reachable c.requires.own c.requires.reply c.args.rows.now (key_place c.args.places.now) c.requires.placed c.loop-d.d u))
 
 pub loop-d-preserved : goal.loop-d-preserved
 loop-d-preserved g c =
@@ -90,4 +90,4 @@ returns-clause-small g c =
     let game = g.met.G.Game.lawful c.args.g in
     rw (returns-clause-value g c)
     (within_small m game c.args.s _ c.requires.reachable
-    (cell_by_rows m game c.args.side c.args.s c.args.own c.args.reply c.requires.reachable c.requires.own c.requires.reply c.args.rows.now (get nat_eq c.args.places.now) c.requires.placed))
+    (cell_by_rows m game c.args.side c.args.s c.args.own c.args.reply c.requires.reachable c.requires.own c.requires.reply c.args.rows.now (key_place c.args.places.now) c.requires.placed))

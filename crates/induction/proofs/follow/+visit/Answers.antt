@@ -1,6 +1,6 @@
-use Rattle.std.proofs.Common.{rules, ◌≡◌, ◌<◌, ℕ, nat_eq, List, length, Err, sym, ap, subst, ◌∙◌, arith}
+use Rattle.std.proofs.Common.{rules, ◌≡◌, ◌<◌, ℕ, List, length, Err, sym, ap, subst, ◌∙◌, arith}
 use Rattle.std.proofs.lemmas.List.{length_push}
-use Rattle.std.specs.HashMap.{get}
+use Rattle.induction.specs.Keys.{key_place}
 use Rattle.std.specs.Option.{is_some}
 use Rattle.plan_book.specs.Children.{children_of}
 use Rattle.plan_book.proofs.SheetLemmas.{reached_reachable}
@@ -30,47 +30,47 @@ children-requires g t c = reached_reachable _ c.args.side (planned c.args.walk.n
 pub returns-then-is_decided-clause-visited : goal.returns-then-is_decided-clause-visited
 returns-then-is_decided-clause-visited g t c = not_visited (g.G.Game.model c.args.g) c.args.side c.args.walk.now.states.items c.args.s (λ mine. absurd (c.if-is_decided.ensures mine))
 
-pub returns-then-contains_key-clause-visited : goal.returns-then-contains_key-clause-visited
-returns-then-contains_key-clause-visited g t c =
+pub returns-then-contains-clause-visited : goal.returns-then-contains-clause-visited
+returns-then-contains-clause-visited g t c =
     not_visited (g.G.Game.model c.args.g) c.args.side c.args.walk.now.states.items c.args.s (λ mine.
     ap (λ (k : ℕ). is_some (planned c.args.walk.now.states.items k)) (sym c.key-key.ensures)
-    ∙ sym (c.requires.followed.keys c.key-key.result) ∙ sym c.contains_key.ensures ∙ c.if-contains_key.true)
+    ∙ sym (c.requires.followed.keys c.key-key.result) ∙ sym c.contains.ensures ∙ c.if-contains.true)
 
 pub returns-in_err-weights-clause-err : goal.returns-in_err-weights-clause-err
 returns-in_err-weights-clause-err g t c =
     let m = g.G.Game.model c.args.g in
     let stopped : c.from_residual.result ≡ Err c.in_err-weights.field-0.0 = search rules in
     rw stopped
-    (stopped_here m ⊥ (λ key. is_some (get nat_eq c.args.walk.now.seen key)) (length c.args.walk.now.states.items) c.requires.followed.known c.args.s
+    (stopped_here m ⊥ m.key (λ key. is_some (key_place c.args.walk.now.seen key)) (length c.args.walk.now.states.items) c.requires.followed.known c.args.s
     (reached_reachable m c.args.side (planned c.args.walk.now.states.items) c.args.s c.requires.reached) c.if-is_decided.ensures
-    (ap (λ (k : ℕ). is_some (get nat_eq c.args.walk.now.seen k)) (sym c.key-key.ensures) ∙ sym c.contains_key.ensures ∙ c.if-contains_key.false)
+    (ap (λ (k : ℕ). is_some (key_place c.args.walk.now.seen k)) (sym c.key-key.ensures) ∙ sym c.contains.ensures ∙ c.if-contains.false)
     _ _ _ c.propose.ensures.spent c.in_err-weights.ensures.err)
 
 pub returns-in_err-below-clause-err : goal.returns-in_err-below-clause-err
 returns-in_err-below-clause-err g t c =
     let m = g.G.Game.model c.args.g in
     err_is (λ e. e ≡ NoMemory) _ _ c.from_residual-in_err-below.ensures.1 (λ e is.
-    stopped_here m ⊥ (λ key. is_some (get nat_eq c.args.walk.now.seen key)) (length c.args.walk.now.states.items) c.requires.followed.known c.args.s
+    stopped_here m ⊥ m.key (λ key. is_some (key_place c.args.walk.now.seen key)) (length c.args.walk.now.states.items) c.requires.followed.known c.args.s
     (reached_reachable m c.args.side (planned c.args.walk.now.states.items) c.args.s c.requires.reached) c.if-is_decided.ensures
-    (ap (λ (k : ℕ). is_some (get nat_eq c.args.walk.now.seen k)) (sym c.key-key.ensures) ∙ sym c.contains_key.ensures ∙ c.if-contains_key.false)
+    (ap (λ (k : ℕ). is_some (key_place c.args.walk.now.seen k)) (sym c.key-key.ensures) ∙ sym c.contains.ensures ∙ c.if-contains.false)
     _ _ e c.propose.ensures.spent (no_memory ⊥ _ e is))
 
-pub returns-in_err-insert-clause-err : goal.returns-in_err-insert-clause-err
-returns-in_err-insert-clause-err g t c =
+pub returns-in_err-add-clause-err : goal.returns-in_err-add-clause-err
+returns-in_err-add-clause-err g t c =
     let m = g.G.Game.model c.args.g in
-    err_is (λ e. e ≡ NoMemory) _ _ c.from_residual-in_err-insert.ensures.1 (λ e is.
-    stopped_here m ⊥ (λ key. is_some (get nat_eq c.args.walk.now.seen key)) (length c.args.walk.now.states.items) c.requires.followed.known c.args.s
+    err_is (λ e. e ≡ NoMemory) _ _ c.from_residual-in_err-add.ensures.1 (λ e is.
+    stopped_here m ⊥ m.key (λ key. is_some (key_place c.args.walk.now.seen key)) (length c.args.walk.now.states.items) c.requires.followed.known c.args.s
     (reached_reachable m c.args.side (planned c.args.walk.now.states.items) c.args.s c.requires.reached) c.if-is_decided.ensures
-    (ap (λ (k : ℕ). is_some (get nat_eq c.args.walk.now.seen k)) (sym c.key-key.ensures) ∙ sym c.contains_key.ensures ∙ c.if-contains_key.false)
+    (ap (λ (k : ℕ). is_some (key_place c.args.walk.now.seen k)) (sym c.key-key.ensures) ∙ sym c.contains.ensures ∙ c.if-contains.false)
     _ _ e c.propose.ensures.spent (no_memory ⊥ _ e is))
 
 pub returns-in_err-push-clause-err : goal.returns-in_err-push-clause-err
 returns-in_err-push-clause-err g t c =
     let m = g.G.Game.model c.args.g in
     err_is (λ e. e ≡ NoMemory) _ _ c.from_residual-in_err-push.ensures.1 (λ e is.
-    stopped_here m ⊥ (λ key. is_some (get nat_eq c.args.walk.now.seen key)) (length c.args.walk.now.states.items) c.requires.followed.known c.args.s
+    stopped_here m ⊥ m.key (λ key. is_some (key_place c.args.walk.now.seen key)) (length c.args.walk.now.states.items) c.requires.followed.known c.args.s
     (reached_reachable m c.args.side (planned c.args.walk.now.states.items) c.args.s c.requires.reached) c.if-is_decided.ensures
-    (ap (λ (k : ℕ). is_some (get nat_eq c.args.walk.now.seen k)) (sym c.key-key.ensures) ∙ sym c.contains_key.ensures ∙ c.if-contains_key.false)
+    (ap (λ (k : ℕ). is_some (key_place c.args.walk.now.seen k)) (sym c.key-key.ensures) ∙ sym c.contains.ensures ∙ c.if-contains.false)
     _ _ e c.propose.ensures.spent (no_memory ⊥ _ e is))
 
 pub loop-child-init : goal.loop-child-init
@@ -82,9 +82,9 @@ loop-child-init g t c =
     c.deref-child-items.ensures.value ∙ c.in_ok-below.ensures ∙ ap (λ (w : List ℕ). children_of m c.args.side w c.args.s) (c.as_slice.ensures.value ∙ sym c.from_vec-weights.ensures) in
     record {
       among = rw c.in_ok-push.ensures.items
-          (among_first m c.args.side c.args.total c.len.result (get nat_eq c.args.walk.now.seen) (get nat_eq c.insert.new.self) states p c.deref-child-items.result.now
+          (among_first m c.args.side c.args.total (length c.args.walk.now.seen) (key_place c.args.walk.now.seen) (key_place c.add.new.self) states p c.deref-child-items.result.now
           c.requires.followed (sym c.key-key.ensures) (sym c.rank-rank.ensures) c.if-is_decided.ensures c.requires.reached (rw c.from_vec-weights.ensures c.in_ok-weights.ensures.weights)
-          (sym c.contains_key.ensures ∙ c.if-contains_key.false) (λ q. c.in_ok-insert.ensures.updates.0 q) items);
+          (sym c.contains.ensures ∙ c.if-contains.false) (λ q. c.in_ok-add.ensures.places q) items);
       spent = rw c.in_ok-push.ensures.items
           (subst (λ (n : ℕ). HasSpent (length states) n (g.P.Proposer.turns c.args.proposer.now) (g.P.Proposer.turns c.propose.new.self)) (sym (length_push states p))
           (spent_one (length states) _ _ c.propose.ensures.spent));
@@ -93,7 +93,7 @@ loop-child-init g t c =
 pub visit-requires : goal.visit-requires
 visit-requires g t c =
     let m = g.G.Game.model c.args.g in
-    let below = among_child m (g.met.G.Game.lawful c.args.g) c.args.side c.args.total c.args.walk.now.states.items (get nat_eq c.loop-child.walk.seen) c.loop-child.walk.states.items c.args.s
+    let below = among_child m (g.met.G.Game.lawful c.args.g) c.args.side c.args.total c.args.walk.now.states.items (key_place c.loop-child.walk.seen) c.loop-child.walk.states.items c.args.s
     c.deref-child-items.result.now c.loop-child.child-index c.loop-child.invariant.among c.child-item.result c.loop-child-test.true c.child-item.is in
     let lower : (g.G.Game.model c.args.g).rank c.child-item.result < t = omega (arith, below.lower, c.decreases) in
     let reached = below.reached in
@@ -108,13 +108,13 @@ returns-in_err-visit-clause-err g t c =
 
 pub loop-child-preserved : goal.loop-child-preserved
 loop-child-preserved g t c = record {
-  among = among_more (g.G.Game.model c.args.g) (g.met.G.Game.lawful c.args.g) c.args.side c.args.total c.args.walk.now.states.items (get nat_eq c.loop-child.walk.seen)
-      c.loop-child.walk.states.items c.args.s c.deref-child-items.result.now c.loop-child.child-index c.loop-child.invariant.among (get nat_eq c.visit.new.walk.seen) c.visit.new.walk.states.items
+  among = among_more (g.G.Game.model c.args.g) (g.met.G.Game.lawful c.args.g) c.args.side c.args.total c.args.walk.now.states.items (key_place c.loop-child.walk.seen)
+      c.loop-child.walk.states.items c.args.s c.deref-child-items.result.now c.loop-child.child-index c.loop-child.invariant.among (key_place c.visit.new.walk.seen) c.visit.new.walk.states.items
       c.child-item.result c.loop-child-test.true c.child-item.is c.in_ok-visit.ensures.followed c.in_ok-visit.ensures.visited;
   spent = spent_more _ _ _ _ _ _ c.loop-child.invariant.spent c.in_ok-visit.ensures.spent;
 }
 
 pub returns-clause-visited : goal.returns-clause-visited
 returns-clause-visited g t c =
-    among_done (g.G.Game.model c.args.g) (g.met.G.Game.lawful c.args.g) c.args.side c.args.total c.args.walk.now.states.items (get nat_eq c.loop-child.walk.seen)
+    among_done (g.G.Game.model c.args.g) (g.met.G.Game.lawful c.args.g) c.args.side c.args.total c.args.walk.now.states.items (key_place c.loop-child.walk.seen)
     c.loop-child.walk.states.items c.args.s c.deref-child-items.result.now c.loop-child.child-index c.loop-child.invariant.among (omega arith)

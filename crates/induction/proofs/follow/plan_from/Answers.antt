@@ -1,6 +1,5 @@
-use Rattle.std.proofs.Common.{nat_eq, List, ap, subst}
-use Rattle.std.specs.HashMap.{get}
-use Rattle.std.specs.Map.{lookup}
+use Rattle.std.proofs.Common.{ℕ, List, ap, subst}
+use Rattle.induction.specs.Keys.{key_place}
 use Rattle.plan_book.proofs.BestLemmas.{reached_root}
 use Rattle.induction.proofs.FollowLemmas.{none_followed, whole_plan}
 use Rattle.induction.specs.declared.PlannedState.{PlannedState}
@@ -12,13 +11,13 @@ visit-requires g c = record {
   some = c.requires.some;
   light = c.requires.light;
   reached = rw c.root.ensures (reached_root _ c.args.side _);
-  followed = rw c.new-states.ensures.items (none_followed (g.G.Game.model c.args.g) c.args.side c.args.total (get nat_eq c.new-seen.result)
-      (λ key. ap (lookup (nat_eq key)) c.new-seen.ensures.empty));
+  followed = rw c.new-states.ensures.items (none_followed (g.G.Game.model c.args.g) c.args.side c.args.total (key_place c.new-seen.result)
+      (λ key. ap (λ (keys : List ℕ). key_place keys key) c.new-seen.ensures));
 }
 
 pub returns-clause-whole : goal.returns-clause-whole
 returns-clause-whole g c =
     whole_plan (g.G.Game.model c.args.g) (g.met.G.Game.lawful c.args.g) c.args.side c.args.total
-    (get nat_eq c.visit.new.walk.seen) c.visit.new.walk.states.items c.root.result c.root.ensures c.in_ok-visit.ensures.followed
+    (key_place c.visit.new.walk.seen) c.visit.new.walk.states.items c.root.result c.root.ensures c.in_ok-visit.ensures.followed
     (subst (λ (l : List (PlannedState g.row.G-State.Denot)). IsVisited (g.G.Game.model c.args.g) c.args.side l c.visit.new.walk.states.items c.root.result) c.new-states.ensures.items
     c.in_ok-visit.ensures.visited)

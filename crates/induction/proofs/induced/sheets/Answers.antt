@@ -7,9 +7,7 @@ use Rattle.induction.proofs.induced.sheets.Goals as goal
 pub explore-requires : goal.explore-requires
 explore-requires g c = record {
   reachable = rw c.root.ensures (reachable_root (g.G.Game.model c.args.g));
-  some = c.requires.some;
-  light = c.requires.light;
-  known = none_known (g.G.Game.model c.args.g) _ _ c.requires.none;
+  known = none_known (g.G.Game.model c.args.g) _ _ _ c.requires.none;
   few = let none = c.requires.none in omega (arith, none);
 }
 

@@ -1,11 +1,11 @@
-use Rattle.std.proofs.Common.{rules, ◌≡◌, ◌∷◌, ℕ, nat_eq, eqb, cond, Some, length, refl, sym, ap, ◌∙◌, arith}
-use Rattle.std.specs.HashMap.{get}
-use Rattle.std.specs.Map.{lookup}
+use Rattle.std.proofs.Common.{rules, ◌≡◌, ◌∷◌, ℕ, List, ◌+◌, eqb, cond, Some, length, refl, sym, ap, ◌∙◌, arith}
+use Rattle.induction.specs.Keys.{key_place}
+use Rattle.std.proofs.lemmas.List.{length_push}
 use Rattle.std.specs.Vec.Iter.{into_iter_items}
 use Rattle.std.proofs.lemmas.List.Sorted.{IsNonDecreasingBy-from_sort_by_key}
 use Rattle.plan_book.proofs.SheetLemmas.{reached_reachable}
 use Rattle.induction.specs.Planned.{planned}
-use Rattle.induction.proofs.CertifyLemmas.{ordered, planned_next, ordered_next, certified_next, none_certified, none_left, lawful_sheet, best_sheet, same_weights, as_many}
+use Rattle.induction.proofs.CertifyLemmas.{ordered, planned_next, ordered_next, certified_next, new_place, none_certified, none_left, lawful_sheet, best_sheet, same_weights, as_many}
 use Rattle.induction.proofs.sheets.certify.Goals as goal
 
 pub loop-state-init : goal.loop-state-init
@@ -13,8 +13,9 @@ loop-state-init g c = record {
   order = rw c.into_iter-state-iterator.ensures.into_iter_gives.0
       (ordered (g.G.Game.model c.args.g) c.args.side c.args.total c.args.states.items _ c.requires.planned c.sort_unstable_by_key.ensures.permutation
       (IsNonDecreasingBy-from_sort_by_key (λ p. p.rank) _ c.sort_unstable_by_key.ensures.sorted (λ a r q k. search rules)));
-  certified = rw c.new-rows.ensures.items (none_certified (g.G.Game.model c.args.g) c.args.side c.args.total (planned c.args.states.items) _ (get nat_eq c.new-places.result)
-      (λ key. ap (lookup (nat_eq key)) c.new-places.ensures.empty));
+  certified = rw c.new-rows.ensures.items (none_certified (g.G.Game.model c.args.g) c.args.side c.args.total (planned c.args.states.items) _ (key_place c.new-places.result)
+      (λ key. ap (λ (keys : List ℕ). key_place keys key) c.new-places.ensures));
+  size = ap length c.new-places.ensures ∙ sym (ap length c.new-rows.ensures.items);
   left = search rules;
 }
 
@@ -41,6 +42,16 @@ row_of-row-requires-clause-whole g c =
     (into_iter_items c.next.new.self) c.in-Some.state c.in-Some.ensures.steps.0
     c.loop-state.invariant.order).whole
 
+pub add-requires : goal.add-requires
+add-requires g c =
+    let m = g.G.Game.model c.args.g in
+    let at = c.loop-state in
+    record {
+      new = new_place m c.args.side c.args.total c.args.states.items at.yielded (into_iter_items at.state-iterator) (into_iter_items c.next.new.self)
+          c.in-Some.state c.in-Some.ensures.steps.0 at.invariant.order
+          at.rows.items (key_place at.places) c.row_of-row.result.key at.invariant.certified c.row_of-row.ensures.key;
+    }
+
 pub loop-state-preserved : goal.loop-state-preserved
 loop-state-preserved g c =
     let m = g.G.Game.model c.args.g in
@@ -48,15 +59,15 @@ loop-state-preserved g c =
     let x = c.in-Some.state in
     let steps : into_iter_items at.state-iterator ≡ x ∷ into_iter_items c.next.new.self = c.in-Some.ensures.steps.0 in
     let rows = at.rows.items in
-    let long : c.len.result ≡ length rows = search rules in
     let read : c.deref.result.now ≡ rows = c.deref.ensures.value in
     record {
       order = ordered_next m c.args.side c.args.total c.args.states.items at.yielded (into_iter_items at.state-iterator) (into_iter_items c.next.new.self) x steps at.invariant.order;
       certified = rw c.in_ok-push.ensures.items
           (certified_next m c.args.side c.args.total c.args.states.items at.yielded (into_iter_items at.state-iterator) (into_iter_items c.next.new.self) x steps at.invariant.order
-          (g.met.G.Game.lawful c.args.g) rows c.row_of-row.result (get nat_eq at.places) (get nat_eq c.insert.new.self) at.invariant.certified c.row_of-row.ensures.key c.row_of-row.ensures.weights
+          (g.met.G.Game.lawful c.args.g) rows c.row_of-row.result (key_place at.places) (key_place c.add.new.self) at.invariant.certified c.row_of-row.ensures.key c.row_of-row.ensures.weights
           (rw (← read) c.row_of-row.ensures.best)
-          (λ q. c.in_ok-insert.ensures.updates.0 q ∙ ap (λ (n : ℕ). cond (eqb c.row_of-row.result.key q) (Some n) (get nat_eq at.places q)) long));
+          (λ q. c.in_ok-add.ensures.places q ∙ ap (λ (n : ℕ). cond (eqb c.row_of-row.result.key q) (Some n) (key_place at.places q)) at.invariant.size));
+      size = ap length c.in_ok-add.ensures.keys ∙ length_push at.places _ ∙ ap (λ (n : ℕ). n + 1) at.invariant.size ∙ sym (length_push rows _) ∙ sym (ap length c.in_ok-push.ensures.items);
       left =
           let was = at.invariant.left in
           let gone = c.in-Some.ensures.steps.1 in
@@ -69,7 +80,7 @@ returns-clause-as_many g c =
     let at = c.loop-state in
     ap length c.from_vec.ensures
     ∙ as_many (g.G.Game.model c.args.g) (g.met.G.Game.lawful c.args.g) c.args.side c.args.total c.args.states.items _ at.invariant.order (length at.yielded) at.rows.items
-    c.sort_unstable_by_key-2.new.self.items (get nat_eq at.places) at.invariant.certified
+    c.sort_unstable_by_key-2.new.self.items (key_place at.places) at.invariant.certified
     (none_left at.yielded _ _ at.invariant.left c.in-None.ensures.steps.0) c.sort_unstable_by_key-2.ensures.permutation
     (IsNonDecreasingBy-from_sort_by_key (λ r. r.key) _ c.sort_unstable_by_key-2.ensures.sorted (λ a r q k. search rules))
 
@@ -78,7 +89,7 @@ returns-clause-weights g c =
     let at = c.loop-state in
     λ key. rw c.from_vec.ensures (sym (same_weights (g.G.Game.model c.args.g) (g.met.G.Game.lawful c.args.g) c.args.side c.args.total c.args.states.items _ at.invariant.order
     (length at.yielded) at.rows.items
-    c.sort_unstable_by_key-2.new.self.items (get nat_eq at.places) at.invariant.certified
+    c.sort_unstable_by_key-2.new.self.items (key_place at.places) at.invariant.certified
     (none_left at.yielded _ _ at.invariant.left c.in-None.ensures.steps.0) c.sort_unstable_by_key-2.ensures.permutation
     (IsNonDecreasingBy-from_sort_by_key (λ r. r.key) _ c.sort_unstable_by_key-2.ensures.sorted (λ a r q k. search rules)) key))
 
@@ -86,7 +97,7 @@ pub returns-clause-lawful : goal.returns-clause-lawful
 returns-clause-lawful g c =
     let at = c.loop-state in
     lawful_sheet (g.G.Game.model c.args.g) (g.met.G.Game.lawful c.args.g) c.args.side c.args.total c.args.states.items _ at.invariant.order (length at.yielded) at.rows.items
-    c.sort_unstable_by_key-2.new.self.items (get nat_eq at.places) at.invariant.certified
+    c.sort_unstable_by_key-2.new.self.items (key_place at.places) at.invariant.certified
     (none_left at.yielded _ _ at.invariant.left c.in-None.ensures.steps.0) c.sort_unstable_by_key-2.ensures.permutation
     (IsNonDecreasingBy-from_sort_by_key (λ r. r.key) _ c.sort_unstable_by_key-2.ensures.sorted (λ a r q k. search rules)) _ refl refl c.from_vec.ensures
 
@@ -94,6 +105,6 @@ pub returns-clause-best : goal.returns-clause-best
 returns-clause-best g c =
     let at = c.loop-state in
     best_sheet (g.G.Game.model c.args.g) (g.met.G.Game.lawful c.args.g) c.args.side c.args.total c.args.states.items _ at.invariant.order (length at.yielded) at.rows.items
-    c.sort_unstable_by_key-2.new.self.items (get nat_eq at.places) at.invariant.certified
+    c.sort_unstable_by_key-2.new.self.items (key_place at.places) at.invariant.certified
     (none_left at.yielded _ _ at.invariant.left c.in-None.ensures.steps.0) c.sort_unstable_by_key-2.ensures.permutation
     (IsNonDecreasingBy-from_sort_by_key (λ r. r.key) _ c.sort_unstable_by_key-2.ensures.sorted (λ a r q k. search rules)) _ refl refl c.from_vec.ensures

@@ -6,7 +6,7 @@ use Rattle.shared_board.proofs.SeenLemmas.{has_key_of}
 use Rattle.shared_board.specs.Values.{IsPassOf, desk_view}
 use Rattle.shared_board.specs.Bare.{pass_of}
 use Rattle.matrix_game.specs.Solvers.{solver_of}
-use Rattle.fields.specs.declared.ask.StageMethod.TheVariants.{Regret}
+use Rattle.fields.specs.declared.ask.StageMethod.TheVariants.{Regret, Linear}
 use Rattle.oracle_search.specs.Workers.{at_start, at_work, is_linear}
 use Rattle.oracle_search.specs.Searches.{IsWorked}
 use Rattle.oracle_search.proofs.WorkLemmas.{kept_none}
@@ -46,8 +46,8 @@ returns g c =
     let few = rw c.root.ensures at c.in_ok-end.ensures.turns in
     let owed = rw c.root.ensures at c.in_ok-end.ensures.owed in
     let takes : AreTaken m ask c.in_ok-end.end start last = ⊎_elim
-    (λ (a : is_linear (solver_of c.limits_for.result.stages) ≡ false). inl (few (linear ∙ a)))
-    (λ (b : (ask.stages ≡ Regret → ⊥) × (is_linear (solver_of c.limits_for.result.stages) ≡ true)). inr (b.0, owed (linear ∙ b.1)))
+    (λ (a : (ask.stages ≡ Regret) × (is_linear (solver_of c.limits_for.result.stages) ≡ false)). inl (a.0, few (linear ∙ a.1)))
+    (λ (b : (ask.stages ≡ Linear) × (is_linear (solver_of c.limits_for.result.stages) ≡ true)). inr (b.0, owed (linear ∙ b.1)))
     (of_limits ask.workers ask.stages c.limits_for.result c.limits_for.ensures.few c.limits_for.ensures.many) in
     let of_worker = found m (g.met.G.Game.lawful c.args.g) ask c.args.most start last c.in_ok-end.end rows total weight c.requires.board.goes_on none limit begun inside worked ends takes
     (ap (λ w. w.visits) c.new-state.ensures ∙ c.new-visits.ensures) (λ visits quiet. pure.tight visits quiet c.requires.board.goes_on) (rowed c.requires.board.goes_on) pure.at_once in

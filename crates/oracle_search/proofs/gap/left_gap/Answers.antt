@@ -4,6 +4,7 @@ use Rattle.std.proofs.lemmas.Int.{ints, to_z-of_z, to_z_pos}
 use Rattle.std.proofs.lemmas.Grind.{div_ceil_times}
 use Rattle.std.proofs.lemmas.Nat.{mul-le}
 use Rattle.std.proofs.Math.Nat.{div-le_self}
+use Rattle.sim_game.specs.declared.TheConstants.{MOST_TURNS}
 use Rattle.oracle_search.specs.Finished.{left_gap}
 use Rattle.oracle_search.proofs.WorkLemmas.{rank_below_root, rank_part}
 use Rattle.oracle_search.proofs.gap.left_gap.Given.{Over}
@@ -31,7 +32,7 @@ fits g c =
     let part_is = part g c in
     let small : c.div_ceil.result ≤ 100000000000 = omega arith in
     let high = (g.met.G.Game.lawful c.args.g).rank_high c.args.s c.requires.reachable in let rank = c.rank-2.ensures in
-    let product = mul-le c.rank-2.result c.div_ceil.result 31 100000000000 (omega arith) small in
+    let product = mul-le c.rank-2.result c.div_ceil.result MOST_TURNS 100000000000 (omega arith) small in
     omega arith
 
 pub overflow_cast-result-2 : goal.overflow_cast-result-2

@@ -2,6 +2,7 @@ use Rattle.std.proofs.Common.{rules, ◌≡◌, ℕ, ◌+◌, ◌*◌, ◌/◌, 
 use Rattle.std.proofs.Math.Nat.{div-le_self}
 use Rattle.std.proofs.lemmas.Int.{ints, to_z-of_z, to_z_pos}
 use Rattle.std.proofs.lemmas.Nat.{mul-le}
+use Rattle.sim_game.specs.declared.TheConstants.{MOST_TURNS}
 use Rattle.sim_game.specs.Resolution.{payoff_range}
 use Rattle.oracle_search.specs.Finished.{IsLeftBelow}
 use Rattle.oracle_search.proofs.LeftLemmas.{left_each, left_narrow}
@@ -22,7 +23,7 @@ left g c =
     ap (λ (n : ℕ). n * 1000000 / (16 * c.args.total) + 2 * c.min.result) range ∙ ap (λ (n : ℕ). payoff_range m * 1000000 / (16 * c.args.total) + 2 * n) least in
     let few : left_each (payoff_range m) c.args.total ≤ 9000000000 = omega (arith, div-le_self (payoff_range m * 1000000) (16 * c.args.total), wide) in
     let rank = game.rank_high c.args.s c.requires.reachable in
-    let small = mul-le (m.rank c.args.s) (left_each (payoff_range m) c.args.total) 31 9000000000 rank few in
+    let small = mul-le (m.rank c.args.s) (left_each (payoff_range m) c.args.total) MOST_TURNS 9000000000 rank few in
     ap (λ (n : ℕ). to_z w64 (c.rank.result * n)) each ∙ ap (λ (n : ℕ). to_z w64 (n * left_each (payoff_range m) c.args.total)) c.rank.ensures
     ∙ to_z_pos w64 (m.rank c.args.s * left_each (payoff_range m) c.args.total) (omega (arith, small))
 

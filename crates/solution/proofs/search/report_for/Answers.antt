@@ -11,5 +11,6 @@ pub returns : goal.returns
 returns g c =
     let m = g.G.Game.model c.args.g.now in
     IfOk-weaker c.report_of.result _ (IsSolvedGame m c.args.position c.args.ask.now)
-    (λ s is. solved_game m c.args.ask.now c.args.found c.requires.found c.args.position s is (g.met.G.Game.lawful c.args.g.now) c.requires.ask c.requires.position)
+    (λ s is. solved_game m c.args.ask.now c.args.found c.requires.found c.args.position s is (g.met.G.Game.lawful c.args.g.now) c.requires.ask c.requires.position
+    c.requires.width)
     c.report_of.ensures

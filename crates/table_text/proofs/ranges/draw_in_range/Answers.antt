@@ -19,7 +19,7 @@ returns-then-has_draw_length c =
       c.whole_at-then-has_draw_length-2.ensures,
     ) at c.are_draw_numbers.ensures in
     sym (ap (λ (b : Bool). b && c.are_draw_numbers.result) c.if-has_draw_length.true)
-    ∙ draw_is (draw_form_of (view c.args.draw.now)) c.has_draw_length.result c.are_draw_numbers.result c.has_draw_length.ensures numbers
+    ∙ draw_is c.args.limits (draw_form_of (view c.args.draw.now)) c.has_draw_length.result c.are_draw_numbers.result c.has_draw_length.ensures numbers
 
 pub returns-else-has_draw_length : goal.returns-else-has_draw_length
-returns-else-has_draw_length c = draw_not (draw_form_of (view c.args.draw.now)) c.has_draw_length.result c.has_draw_length.ensures c.if-has_draw_length.false
+returns-else-has_draw_length c = draw_not c.args.limits (draw_form_of (view c.args.draw.now)) c.has_draw_length.result c.has_draw_length.ensures c.if-has_draw_length.false

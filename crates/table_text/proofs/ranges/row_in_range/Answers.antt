@@ -7,4 +7,4 @@ use Rattle.table_text.proofs.ranges.row_in_range.Goals as goal
 
 pub returns : goal.returns
 returns c =
-    c.are_cells.ensures ∙ few_forms (λ n. leb n 255) cell_in_range cell_form_of c.elements.result.now (view c.args.row.now) c.elements.ensures
+    c.are_cells.ensures ∙ few_forms (λ n. leb n 255) (cell_in_range c.args.limits) cell_form_of c.elements.result.now (view c.args.row.now) c.elements.ensures

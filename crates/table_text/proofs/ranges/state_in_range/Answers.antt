@@ -10,10 +10,10 @@ pub returns-then-is_whole : goal.returns-then-is_whole
 returns-then-is_whole c =
     let fits : SFits w64 c.whole.result = search rules in
     let small = rw (to_z-of_z w64 c.whole.result fits, c.whole.ensures) at c.is_payoff.ensures in
-    small ∙ sym (ap state_in_range (state_whole (view c.args.state.now) (sym c.is_whole.ensures ∙ c.if-is_whole.true)))
+    small ∙ sym (ap (state_in_range c.args.limits) (state_whole (view c.args.state.now) (sym c.is_whole.ensures ∙ c.if-is_whole.true)))
 
 pub returns-else-is_whole : goal.returns-else-is_whole
 returns-else-is_whole c =
     c.are_rows.ensures
-    ∙ few_forms (λ n. leb n 255) row_in_range row_form_of c.elements.result.now (view c.args.state.now) c.elements.ensures
-    ∙ sym (ap state_in_range (state_list (view c.args.state.now) (sym c.is_whole.ensures ∙ c.if-is_whole.false)))
+    ∙ few_forms (λ n. leb n 255) (row_in_range c.args.limits) row_form_of c.elements.result.now (view c.args.state.now) c.elements.ensures
+    ∙ sym (ap (state_in_range c.args.limits) (state_list (view c.args.state.now) (sym c.is_whole.ensures ∙ c.if-is_whole.false)))

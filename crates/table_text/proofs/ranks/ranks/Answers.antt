@@ -1,5 +1,6 @@
 use Rattle.std.proofs.Common.{ℤ, ◌-◌, ◌≤◌, List, ◌∙◌, ap, sym, subst, set, arith, w32}
 use Rattle.serde_json.specs.View.{view}
+use Rattle.table.specs.declared.nested.TheConstants.{MOST_STATES}
 use Rattle.table_text.specs.States.{state_form_of, rank_in, rank_among}
 use Rattle.std.proofs.lemmas.Int.{to_z_pos}
 use Rattle.table_text.proofs.StateRanks.{AreRanksFrom, ranks_none, ranks_more, all_low}
@@ -10,7 +11,7 @@ loop-left-init c = ranks_none c.args.states.now c.in_ok-ranks.ranks.items c.in_o
 
 pub rank-rank-requires : goal.rank-rank-requires
 rank-rank-requires c =
-    subst (λ (zs : List ℤ). (z : ℤ) → rank_in zs z ≤ 524288) (sym c.as_slice.ensures.value) (all_low c.loop-left.left c.args.states.now c.loop-left.ranks.items c.loop-left.invariant c.requires)
+    subst (λ (zs : List ℤ). (z : ℤ) → rank_in zs z ≤ MOST_STATES) (sym c.as_slice.ensures.value) (all_low c.loop-left.left c.args.states.now c.loop-left.ranks.items c.loop-left.invariant c.requires)
 
 pub loop-left-preserved : goal.loop-left-preserved
 loop-left-preserved c =

@@ -16,7 +16,7 @@ overflow_cast-paid c =
     (8 * c.args.heights.now.blocks) c.args.weight c.args.heights.now.rows c.self.inside.cols c.place_of_least-col.result
     c.args.heights.now.cells.items c.args.p.now c.sum_rows.new.sums matrix c.requires.cells c.requires.small c.requires.rows
     (ap (λ (m : Grid). m.cols) c.self.view_is)
-    (record { each = c.requires.weights; all = c.requires.weight }) c.requires.light_weight c.sum_rows.ensures c.place_of_least-col.ensures.place in
+    c.requires.weights c.requires.light_weight c.sum_rows.ensures c.place_of_least-col.ensures.place in
     omega (arith, ints, f.small_sum)
 
 pub overflow_add-paid : goal.overflow_add-paid
@@ -26,7 +26,7 @@ overflow_add-paid c =
     (8 * c.args.heights.now.blocks) c.args.weight c.args.heights.now.rows c.self.inside.cols c.place_of_least-col.result
     c.args.heights.now.cells.items c.args.p.now c.sum_rows.new.sums matrix c.requires.cells c.requires.small c.requires.rows
     (ap (λ (m : Grid). m.cols) c.self.view_is)
-    (record { each = c.requires.weights; all = c.requires.weight }) c.requires.light_weight c.sum_rows.ensures c.place_of_least-col.ensures.place in
+    c.requires.weights c.requires.light_weight c.sum_rows.ensures c.place_of_least-col.ensures.place in
     omega (arith, ints, f.small_sum, c.weighted.ensures.small)
 
 pub returns-clause-col : goal.returns-clause-col
@@ -36,7 +36,7 @@ returns-clause-col c =
     (8 * c.args.heights.now.blocks) c.args.weight c.args.heights.now.rows c.self.inside.cols c.place_of_least-col.result
     c.args.heights.now.cells.items c.args.p.now c.sum_rows.new.sums matrix c.requires.cells c.requires.small c.requires.rows
     (ap (λ (m : Grid). m.cols) c.self.view_is)
-    (record { each = c.requires.weights; all = c.requires.weight }) c.requires.light_weight c.sum_rows.ensures c.place_of_least-col.ensures.place in
+    c.requires.weights c.requires.light_weight c.sum_rows.ensures c.place_of_least-col.ensures.place in
     f.is_reply
 
 pub returns-clause-paid : goal.returns-clause-paid
@@ -46,7 +46,7 @@ returns-clause-paid c =
     (8 * c.args.heights.now.blocks) c.args.weight c.args.heights.now.rows c.self.inside.cols c.place_of_least-col.result
     c.args.heights.now.cells.items c.args.p.now c.sum_rows.new.sums matrix c.requires.cells c.requires.small c.requires.rows
     (ap (λ (m : Grid). m.cols) c.self.view_is)
-    (record { each = c.requires.weights; all = c.requires.weight }) c.requires.light_weight c.sum_rows.ensures c.place_of_least-col.ensures.place in
+    c.requires.weights c.requires.light_weight c.sum_rows.ensures c.place_of_least-col.ensures.place in
     let fits : FitsSigned w64 c.args.heights.now.least = omega (arith, ints) in
     let added : c.weighted.result ≡ pos c.args.weight *ℤ c.args.heights.now.least = c.weighted.ensures.value ∙ ap (λ z. pos c.args.weight *ℤ z) (to_z-of_z w64 c.args.heights.now.least fits) in
     omega (arith, ints, f.small_sum, f.floor, added, c.weighted.ensures.small)
@@ -58,5 +58,5 @@ returns-clause-bounded c =
     (8 * c.args.heights.now.blocks) c.args.weight c.args.heights.now.rows c.self.inside.cols c.place_of_least-col.result
     c.args.heights.now.cells.items c.args.p.now c.sum_rows.new.sums matrix c.requires.cells c.requires.small c.requires.rows
     (ap (λ (m : Grid). m.cols) c.self.view_is)
-    (record { each = c.requires.weights; all = c.requires.weight }) c.requires.light_weight c.sum_rows.ensures c.place_of_least-col.ensures.place in
+    c.requires.weights c.requires.light_weight c.sum_rows.ensures c.place_of_least-col.ensures.place in
     omega (arith, ints, f.small_sum, c.weighted.ensures.small)

@@ -15,7 +15,7 @@ loop-block-preserved c =
     let width = 8 * c.args.self.now.blocks in
     let eight = c.block_sums-lanes.ensures.eight in
     record {
-      as_many = length-put_chunk first sums lanes ∙ c.loop-block.invariant.as_many;
+      as_many = omega (arith, length-put_chunk first sums lanes, c.loop-block.invariant.as_many);
       each = λ k h. elim (cases_lt k first) [
         | inl below ↦ get_or-put_chunk_below first sums lanes k 0 below ∙ c.loop-block.invariant.each k below
         | inr here ↦

@@ -2,6 +2,7 @@ use Rattle.std.proofs.Common.{rules, ◌⊎◌, inl, inr, w64, SFits, sym, ap, s
 use Rattle.std.proofs.lemmas.Int.{to_z-of_z}
 use Rattle.std.specs.Prelude.{IsSome}
 use Rattle.matrix_game.specs.Budget.{Budget}
+use Rattle.sim_game.specs.Resolution.{IsFineWeight}
 use Rattle.restricted_game.specs.Held.{HeldMoves, IsHolding}
 use Rattle.restricted_game.specs.Runs.{grows, stays}
 use Rattle.restricted_game.specs.Tables.{ArePlans}
@@ -38,7 +39,8 @@ returns-then-is_none-2-clause-gap g c u are =
     (over_gap (g.G.Game.model c.args.g) (g.met.G.Game.lawful c.args.g) c.args.node.state c.requires.reachable c.requires.goes_on (g.B.Bounds.view c.args.board.now) c.total-total.result
     c.total-total.ensures.total c.total-total.ensures.low c.args.self.now c.args.numbers.now c.in-Ok.plans c.in-Ok.ensures.plans
     (g.B.Bounds.view c.post_both.new.board) c.args.node.row c.post_both.ensures.later c.requires.row c.in-Ok-post_both.ensures.posted u are
-    (subst IsHolding c.self.view_is c.self.invariant.0) c.requires.rows c.requires.cols (none_from c.in-Ok.plans.two.fresh c.if-is_none.ensures)
+    (subst IsHolding c.self.view_is c.self.invariant.0) c.requires.rows c.requires.cols
+    (subst (λ x. IsFineWeight (g.G.Game.model x) c.total-total.result) c.requires.game c.total-total.ensures.fine) (none_from c.in-Ok.plans.two.fresh c.if-is_none.ensures)
     (none_from c.in-Ok.plans.one.fresh c.if-is_none-2.ensures))
 
 pub hold-requires : goal.hold-requires

@@ -13,7 +13,7 @@ invariant_of-result c =
     let l = lists_of c.args.setting in
     let some = eqb-false _ 0 (sym c.if-is_empty.ensures) in
     record {
-      valid = table_from l c.in_ok-check-4.ensures c.in_ok-check-5.ensures c.in_ok-check-6.ensures c.in_ok-check-7.ensures
+      valid = table_from c.args.limits l c.in_ok-check-4.ensures c.in_ok-check-5.ensures c.in_ok-check-6.ensures c.in_ok-check-7.ensures
           (fits_from l (sym c.do_fit.ensures ∙ c.if-not-do_fit.false)) (omega arith) c.args.setting.few_states c.args.setting.few_draws
           c.in_ok-check.ensures c.in_ok-check-2.ensures c.in_ok-check-3.ensures;
     }

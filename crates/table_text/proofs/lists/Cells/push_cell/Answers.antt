@@ -1,5 +1,6 @@
 use Rattle.std.proofs.Common.{[], ◌∷◌, ◌∙◌, ap, sym, subst, leb}
 use Rattle.serde_json.specs.View.{view}
+use Rattle.sim_game.specs.declared.Limits.TheVariants.{Wide}
 use Rattle.table.specs.Nested.{CellForm, Draws, draw_in_range, cell_in_range}
 use Rattle.table_text.specs.States.{draw_form_of, AddsCells}
 use Rattle.table_text.proofs.StateKinds.{cell_list}
@@ -8,8 +9,8 @@ use Rattle.table_text.proofs.lists.Cells.push_cell.Goals as goal
 
 pub push_draws-requires-clause-range : goal.push_draws-requires-clause-range
 push_draws-requires-clause-range c =
-    values_pass (λ n. leb n 255) draw_in_range draw_form_of c.elements.result.now (view c.args.cell.now) c.elements.ensures
-    (sym (ap cell_in_range (cell_list (view c.args.cell.now) (sym c.is_whole.ensures ∙ c.if-is_whole.false))) ∙ c.requires.range)
+    values_pass (λ n. leb n 255) (draw_in_range Wide) draw_form_of c.elements.result.now (view c.args.cell.now) c.elements.ensures
+    (sym (ap (cell_in_range Wide) (cell_list (view c.args.cell.now) (sym c.is_whole.ensures ∙ c.if-is_whole.false))) ∙ c.requires.range)
 
 pub returns-in_ok-push_draws : goal.returns-in_ok-push_draws
 returns-in_ok-push_draws c =

@@ -1,4 +1,5 @@
 use Rattle.serde_json.specs.View.{view}
+use Rattle.sim_game.specs.declared.Limits.TheVariants.{Wide}
 use Rattle.table.specs.Nested.{state_in_range}
 use Rattle.table_text.specs.States.{state_form_of}
 use Rattle.table_text.proofs.StateLists.{all_read, are_states_in_range, few_so_far, room_so_far, lists_at}
@@ -6,7 +7,7 @@ use Rattle.table_text.proofs.lists.Lists.of_states.Goals as goal
 
 pub push_state-requires-clause-range : goal.push_state-requires-clause-range
 push_state-requires-clause-range c =
-    all_read (λ v. state_in_range (state_form_of (view v))) c.args.states.now c.loop-state.state-index c.state-item.result c.loop-state-test.true c.state-item.is
+    all_read (λ v. state_in_range Wide (state_form_of (view v))) c.args.states.now c.loop-state.state-index c.state-item.result c.loop-state-test.true c.state-item.is
     (are_states_in_range c.args.states.now c.requires).range
 
 pub push_state-requires-clause-few : goal.push_state-requires-clause-few

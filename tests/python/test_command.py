@@ -22,10 +22,22 @@ POSITION, REPORT = "examples/goofspiel_mixed.json", "examples/goofspiel_mixed.re
 GOOD = json.loads((TOP / POSITION).read_text())
 
 
-def run(*words, **more):
-    """The ended command with its output and errors."""
+def run(*words):
+    """The ended command with its output and errors; run in this process, at the top of the repository."""
+    given, told, shown = [str(word) for word in words], io.StringIO(), io.StringIO()
+    with (contextlib.chdir(TOP), contextlib.redirect_stderr(told), contextlib.redirect_stdout(shown),
+          mock.patch("sys.path", list(sys.path))):
+        try:
+            status = main(given)
+        except SystemExit as ended:
+            status = ended.code or 0
+    return subprocess.CompletedProcess(given, status, shown.getvalue(), told.getvalue())
+
+
+def started(*words):
+    """The ended command, as a process of its own."""
     return subprocess.run([sys.executable, "-m", "dosolve", *map(str, words)], cwd=TOP, text=True,
-                          capture_output=True, check=False, env=ENVIRONMENT, timeout=120, **more)
+                          capture_output=True, check=False, env=ENVIRONMENT, timeout=120)
 
 
 class Commands(unittest.TestCase):
@@ -36,7 +48,7 @@ class Commands(unittest.TestCase):
 
     def test_solve_prints_a_summary_a_report_or_json(self):
         kept = self.folder / "kept.report"
-        found = run("solve", POSITION, "-o", kept)
+        found = started("solve", POSITION, "-o", kept)
         self.assertEqual((found.returncode, found.stderr), (0, ""))
         self.assertRegex(found.stdout, r"(?m)^gap    0\.000000 \(0% of the range\), closed$")
         self.assertEqual(kept.read_text(), (TOP / REPORT).read_text())
@@ -132,7 +144,10 @@ class Commands(unittest.TestCase):
 
     def test_help_and_version(self):
         self.assertIn("examples:", run("--help").stdout)
-        self.assertRegex(run("--version").stdout, rf"^dosolve-py {dosolve.__version__}, program /")
+        for call in (run, started):
+            found = call("--version")
+            self.assertEqual((found.returncode, found.stderr), (0, ""))
+            self.assertRegex(found.stdout, rf"^dosolve-py {dosolve.__version__}, program /")
         for command in ("solve", "check", "exploit", "measure", "match", "tournament", "show",
                         "sweep", "table"):
             self.assertEqual(run(command, "--help").returncode, 0)
@@ -155,12 +170,9 @@ class Messages(unittest.TestCase):
 
     def fails(self, words, pattern, *command):
         """That a command, run in this process, ends with 1 and one line."""
-        told = io.StringIO()
-        with (contextlib.chdir(TOP), contextlib.redirect_stderr(told),
-              contextlib.redirect_stdout(io.StringIO()), mock.patch("sys.path", list(sys.path))):
-            status = main([str(word) for word in command])
-        self.assertEqual((status, told.getvalue().count("\n")), (1, 1), told.getvalue())
-        self.assertRegex(told.getvalue(), pattern, words)
+        found = run(*command)
+        self.assertEqual((found.returncode, found.stderr.count("\n")), (1, 1), found.stderr)
+        self.assertRegex(found.stderr, pattern, words)
 
     def test_positions(self):
         file = self.folder / "position.json"

@@ -5,6 +5,7 @@ import json
 import random
 import subprocess
 import unittest
+from unittest import mock
 
 import dosolve
 from dosolve import limits
@@ -201,8 +202,9 @@ class Reports(unittest.TestCase):
                 dosolve.Report.read(report.text().replace(f"report {version}", "report 3", 1))
 
     def test_a_sheet_of_many_rows_has_version_3(self):
+        self.enterContext(mock.patch("dosolve.reports.NARROW", dataclasses.replace(NARROW, rows=1000)))
         game = dosolve.Table(square(2))
-        rows = tuple(dosolve.Row(key, 0, (8192, 0)) for key in range(NARROW.rows + 1))
+        rows = tuple(dosolve.Row(key, 0, (8192, 0)) for key in range(1001))
         one, two = dosolve.Sheet(game, "one", 8192, rows), dosolve.Sheet(game, "two", 8192)
         report = dataclasses.replace(dosolve.Report.of(dosolve.Sheet(game, "one", 8192), two), one=one)
         self.assertEqual(report.version, 3)

@@ -286,7 +286,7 @@ class PythonGames(unittest.TestCase):
         self.assertEqual(len(Table.from_game(ours).listing), len(Table.from_game(theirs).listing))
 
     def test_more_moves_than_a_report_can_have_are_measured(self):
-        game = Bids(70)
+        game = Bids(65)
         plans = [dosolve.plan(game, side, lambda state, side=side: {state.moves(side)[-1]: 1}, 8192)
                  for side in dosolve.SIDES]
         self.assertEqual(dosolve.respond(plans[0]).value, -1)
@@ -294,11 +294,32 @@ class PythonGames(unittest.TestCase):
         self.assertEqual(dosolve.live_match(game, *plans, games=5).mean, 0)
         for call, words in ((lambda: dosolve.Report.of(*plans), "no report is on a game that is written"),
                             (lambda: dosolve.Position(game), "Table.from_game makes a table of it"),
-                            (lambda: Table.from_game(game), "70 by 70 moves")):
+                            (lambda: Table.from_game(game), "65 by 65 moves")):
             with self.assertRaisesRegex(dosolve.InvalidError, words):
                 call()
 
+    def test_it_is_asked_once_for_what_a_pair_of_moves_leads_to(self):
+        class Counted(Bids):
+            def after(self, node, one, two):
+                calls.append((node, one, two))
+                return super().after(node, one, two)
+
+        calls, game = [], Counted(6)
+        list(game.states())
+        self.assertGreater(len(calls), 300)
+        self.assertEqual(len(set(calls)), len(calls))
+        root = game.root()
+        self.assertEqual(root.play(one=3, two=5).node, (-1, 3, 1))
+        self.assertEqual([after.node for _, after in root.outcomes(2, 4)], [(-1, 3, 1)])
+
     def test_what_is_wrong_with_it_is_told(self):
+        class Half(Bids):
+            def after(self, node, one, two):
+                return [(super(Half, self).after(node, one, two), 0.5)]
+
+        with self.assertRaisesRegex(dosolve.InvalidError, "chances sum to 0.5"):
+            Half(3).root().outcomes(0, 0)
+
         class Wrong(Bids):
             def turns_left(self, node):
                 return 5

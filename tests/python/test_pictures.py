@@ -41,7 +41,7 @@ class Pictures(unittest.TestCase):
     def look(self, picture, *words):
         """That no text is cut off or overlaps another, at the picture's own size, and that these
         words stand there."""
-        picture.canvas.draw()
+        picture.draw_without_rendering()
         hidden = set()
         for axis in (axis for axes in picture.axes for axis in (axes.xaxis, axes.yaxis)):
             low, high = sorted(axis.get_view_interval())

@@ -1,11 +1,9 @@
 """Tables through the program: positions, reports and refusals alike, the values of made tables,
 and the tables of built-in games beside these games. The program has to know tables."""
 import json
-import os
 import random
 import re
 import subprocess
-import sys
 import tempfile
 import unittest
 from fractions import Fraction
@@ -13,11 +11,10 @@ from pathlib import Path
 
 import dosolve
 from dosolve import Table
-from support import TOP, random_game, random_listing
+from support import random_game, random_listing
 from table_support import STAGES, Bids, Nim
+from test_command import run
 from test_texts import changed, read_back
-
-ENVIRONMENT = os.environ | {"PYTHONPATH": str(TOP / "python")}
 
 
 def position(table, **asked):
@@ -223,10 +220,6 @@ class Names(unittest.TestCase):
                                  {"a", "b"})
 
     def test_the_command_line(self):
-        def run(*words):
-            return subprocess.run([sys.executable, "-m", "dosolve", *map(str, words)], cwd=TOP,
-                                  text=True, capture_output=True, check=False, env=ENVIRONMENT)
-
         with tempfile.TemporaryDirectory() as path:
             folder = Path(path)
             (folder / "m.csv").write_text(",rock,paper\nrock,0,-1/2\npaper,1/2,0\n")

@@ -27,15 +27,15 @@ up to 4096 moves a side; nothing of it is proved. `Table.from_game` makes a tabl
 from __future__ import annotations
 
 from abc import abstractmethod
-from collections.abc import Hashable, Sequence
+from collections.abc import Hashable, Mapping, Sequence
 from dataclasses import dataclass, field
 from fractions import Fraction
-from typing import Any, ClassVar, Generic, TypeVar
+from typing import Any, ClassVar, Generic, Self, TypeVar, cast
 
 from ..errors import InvalidError
 from ..limits import Limits
 from ..values import is_whole, shorten
-from .game import CHANCE, SIDES, Field, Game, Side, State, side_of
+from .game import CHANCE, Field, Game, Side, State, side_of
 
 Node = TypeVar("Node", bound=Hashable)
 """What tells the states of a game apart."""
@@ -86,15 +86,17 @@ class PythonState(State):
         return found
 
     def _moves(self, side: Side) -> tuple[int, ...]:
-        given = self.choices(side)
-        return given if all(map(is_whole, given)) else tuple(range(len(given)))
+        return self.game.labels_of(self.number)[side == "two"]
+
+    def outcomes_of_labels(self, one: int, two: int) -> list[tuple[int, Self]]:
+        # The game is asked once for all draws.
+        return [(weight, cast(Self, self.game.state(after)))
+                for weight, after, _ in self._outcomes(one, two)]
 
     def _outcomes(self, one: int, two: int) -> tuple[tuple[int, int, int], ...]:
         """The states that follow moves with these labels: their weights and numbers, and what the
         turn pays."""
-        mine, yours = (self.choices(side)[self.moves(side).index(label)]
-                       for side, label in zip(SIDES, (one, two)))
-        return self.game.outcomes_of(self.number, mine, yours)
+        return self.game.outcomes_of(self.number, *self.game.choices_of(self.number, one, two))
 
     def _chances(self, one: int, two: int) -> tuple[int, ...]:
         return tuple(weight for weight, _, _ in self._outcomes(one, two))
@@ -205,30 +207,51 @@ class PythonGame(Game[PythonState], Generic[Node]):
             known.moves[number] = both if one or two else None
         return known.moves[number]
 
+    def labels_of(self, number: int) -> tuple[tuple[int, ...], tuple[int, ...]]:
+        """The labels of both players' moves in the state of this number: the moves themselves
+        where all of a player's are whole numbers, else numbers from 0; none at an end."""
+        labels = self._known.labels
+        if number not in labels:
+            one, two = self.moves_of(number) or ((), ())
+            labels[number] = _labels(one), _labels(two)
+        return labels[number]
+
+    def choices_of(self, number: int, one: int, two: int) -> tuple[Any, Any]:
+        """The moves with these labels, which have to be there."""
+        mine, yours = self.moves_of(number) or ((), ())
+        labels = self.labels_of(number)
+        return (one if labels[0] is mine else mine[one],
+                two if labels[1] is yours else yours[two])
+
     def rank_of(self, number: int) -> int:
         """The turns left in the state of this number, at least 1."""
-        node = self._known.nodes[number]
-        turns = self.turns_left(node)
-        if not is_whole(turns) or turns < 1:
-            raise InvalidError(f"turns_left({shorten(node)}) is {shorten(turns)}, and has to be a "
-                               f"whole number from 1 where the game is not over")
-        return turns
+        known = self._known
+        if number not in known.ranks:
+            node = known.nodes[number]
+            turns = self.turns_left(node)
+            if not is_whole(turns) or turns < 1:
+                raise InvalidError(f"turns_left({shorten(node)}) is {shorten(turns)}, and has to "
+                                   f"be a whole number from 1 where the game is not over")
+            known.ranks[number] = turns
+        return known.ranks[number]
 
     def outcomes_of(self, number: int, one: Any, two: Any) -> tuple[tuple[int, int, int], ...]:
         """The weights and numbers of the states that follow both players' moves, and what the turn
         pays."""
         from ..tables.building import merged, outcomes_of
 
-        node = self._known.nodes[number]
+        node, rank = self._known.nodes[number], self.rank_of(number)
         given = self.after(node, one, two)
-        found = []
-        for after, chance, _ in merged(outcomes_of(given)):
+        outcomes, found = outcomes_of(given), []
+        if isinstance(given, (Mapping, list)):
+            outcomes = merged(outcomes)  # a node alone has the chance 1
+        for after, chance, _ in outcomes:
             weight = Fraction(chance) * CHANCE
             if weight.denominator != 1:
                 raise InvalidError(f"after({shorten(node)}, {one!r}, {two!r}) has the chance "
                                    f"{chance}, which is no multiple of 1/{CHANCE}")
             state = self.state_of(after)
-            if state.rank >= self.rank_of(number):
+            if state.rank >= rank:
                 raise InvalidError(f"turns_left of {shorten(after)} is not less than that of "
                                    f"{shorten(node)}, which it follows")
             reward = self.reward(node, one, two, state.node)
@@ -241,8 +264,16 @@ class PythonGame(Game[PythonState], Generic[Node]):
 
 @dataclass
 class _Known:
-    """The nodes of a game in the order in which they were met, and their moves."""
+    """The nodes of a game in the order in which they were met, their moves with their labels, and
+    the turns left."""
 
     nodes: list[Any] = field(default_factory=list)
     numbers: dict[Any, int] = field(default_factory=dict)
     moves: dict[int, tuple[tuple[Any, ...], tuple[Any, ...]] | None] = field(default_factory=dict)
+    labels: dict[int, tuple[tuple[int, ...], tuple[int, ...]]] = field(default_factory=dict)
+    ranks: dict[int, int] = field(default_factory=dict)
+
+
+def _labels(moves: tuple[Any, ...]) -> tuple[int, ...]:
+    """The moves themselves where all are whole numbers, else numbers from 0."""
+    return moves if all(map(is_whole, moves)) else tuple(range(len(moves)))

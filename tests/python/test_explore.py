@@ -126,6 +126,19 @@ class Data(unittest.TestCase):
                     self.assertFalse(page.is_whole)
                     self.assertEqual((page.states, len(data["states"]) > 0), (most, True))
 
+    def test_a_page_of_many_moves_has_fewer_states(self):
+        report = dosolve.Report.load(FIVE)
+        with mock.patch("dosolve.explore.states.PAIRS_EACH", 4):
+            pairs = 0
+            for most in (1, 60, 200):
+                page = explore.page(report, most_states=most)
+                data = self.check(report, page, most)
+                pairs = sum(len(record[7]) for record in data["states"] if len(record) > 4)
+                self.assertTrue(pairs <= 4 * most or page.states == 1, (most, pairs))
+            self.assertGreater(pairs, 4 * most - 25)
+            self.assertTrue(1 < page.states < most)
+        self.assertEqual(explore.page(report, most_states=200).states, 200)
+
     def test_a_bound_without_a_row_is_told_from_one_with(self):
         game = dosolve.Goofspiel([1, 2, 3], [1, 2, 3], [1, 2, 3], pay="prizes")
         mine = dosolve.plan(game, "one", lambda state: [1] * len(state.moves("one")), 8192, ask_again=0)

@@ -510,6 +510,25 @@ class Pages(unittest.TestCase):
         self.assertEqual(self.browser.run("document.querySelector('figure').ariaLabel"),
                          "One 2 3 4 5; Two 1 2 4 5; prize 2, then 3 4 5; score −1")
 
+    def test_a_list_of_many_moves_scrolls_to_what_is_played(self):
+        game = dosolve.OshiZumo(1, 40, 30)
+        row = dosolve.Row(game.root().key, -10**6, [0] * 24 + [4096] + [0] * 13 + [4096, 0])
+        report = dosolve.Report.of(dosolve.Sheet(game, "one", 8192, [row]), dosolve.Sheet(game, "two", 8192))
+        self.show(report, most_states=1)
+        browser, list_of = self.browser, "document.querySelector('.many')"
+        seen = "(([list, move]) => [move.top - list.top, list.bottom - move.bottom])([{list}, {move}]" \
+               ".map(each => each.getBoundingClientRect()))"
+        self.assertEqual(browser.run("document.querySelectorAll('.moves').length"), 2)
+        self.assertEqual(browser.run("document.querySelectorAll('.many').length"), 1)
+        self.assertEqual(browser.texts(".count"), ["Plays 2 of 40 moves."])
+        self.assertLess(browser.run(f"{list_of}.clientHeight"), 500)
+        above, below = browser.run(seen.format(list=list_of, move="document.querySelector('[data-move=\"24\"]')"))
+        self.assertTrue(-1 <= above <= 5 and below > 0, (above, below))
+        browser.run(f"{list_of}.scrollTop = 100")
+        browser.click('[data-side="0"][data-move="3"]')
+        self.assertEqual(browser.run(f"{list_of}.scrollTop"), 100)
+        self.assertEqual(browser.run("document.activeElement.dataset.move"), "3")
+
     def test_a_large_page_opens_at_once(self):
         game = dosolve.Goofspiel(*[range(1, 7)] * 3)
         sheets = [dosolve.plan(game, side, lambda state, side=side: [1, 1, 1, 0, 0, 0][:len(state.moves(side))],

@@ -557,14 +557,27 @@ function playerNote(found, side) {
     ? "Striped: the player’s plan, whose own moves do not lead here."
     : `Striped: the player’s plan, which guarantees ${exact(mine.guarantee)} from here.`);
 }
+// A list of so many moves scrolls by itself: to the first that is played where the state is new.
+const MANY = 32;
+let listed = null, scrolled = [0, 0];
+const lists = () => [...document.querySelectorAll(".many")];
+function scrollLists(place) {
+  for (const [at, list] of lists().entries()) {
+    const first = list.querySelector(".move:not(.never)");
+    list.scrollTop = listed === place ? scrolled[at] : first ? first.offsetTop : 0;
+  }
+  listed = place;
+}
 function movesPanel(found, side) {
   const names = found.names[side], long = names.some(name => name.length > 4);
   const widest = Math.max(...names.map(name => name.length));
   return el("section", {class: SIDES[side] + (long ? " long" : ""),
     "aria-labelledby": "side" + side},
   el("h3", {id: "side" + side}, who(side), " plays"),
-  el("ol", {class: "moves", style: `--name:${widest + 1}ch`},
+  el("ol", {class: "moves" + (names.length > MANY ? " many" : ""), style: `--name:${widest + 1}ch`},
     names.map((_, move) => el("li", {}, moveButton(found, side, move)))),
+  names.length > MANY && read(found.rows[side]) ? el("p", {class: "small dim count"},
+    `Plays ${played(found, side).filter(Boolean).length} of ${names.length} moves.`) : null,
   read(found.rows[side]) ? null : el("p", {class: "told"}, "No row: this strategy’s own moves do " +
     "not lead here, or the search ended before it had one."),
   playerNote(found, side));
@@ -809,6 +822,7 @@ function spoken(found, title) {
 function render() {
   const found = here(), focus = held();
   for (const box of document.querySelectorAll("details")) opened[box.id] = box.open;
+  scrolled = lists().map(list => list.scrollTop);
   const title = turns.length ? found.end ? `After ${count(turns.length, "turn")}: the end`
     : `Turn ${turns.length + 1}` : first ? "Opened by a link" : "Start";
   const left = [wherePanel(found, title), found.end ? null : boundsPanel(found)];
@@ -823,6 +837,7 @@ function render() {
   $("home").disabled = !turns.length && !first;
   $("random").disabled = $("game").disabled = found.end;
   fade();
+  scrollLists(found.place);
   const target = focus && (document.querySelector(focus) || document.querySelector("[data-side]"));
   if (focus) (target || $("where")).focus({preventScroll: true});
   $("live").textContent = spoken(found, title);

@@ -13,6 +13,9 @@ from .losses import PlayerPlan
 LEAST_FOLLOWED: Final = 10_000
 """How many states with equally many turns left are followed on a page of fewer states too."""
 
+PAIRS_EACH: Final = 200
+"""How many pairs of moves a page has for each state that it may have, all states together."""
+
 
 @dataclass(frozen=True)
 class _Draw:
@@ -61,7 +64,8 @@ def _steps(report: Report, state: State) -> Iterator[tuple[float, State]]:
 class Shown:
     """The states of a page, at most `most` of them with moves, and their data.
 
-    First come the root, the ways to the losses, and the likeliest states, in at most three
+    All their pairs of moves together are at most `PAIRS_EACH` for each of `most` states, so that
+    a page of a game with many moves has fewer states, and opens as soon. First come the root, the ways to the losses, and the likeliest states, in at most three
     quarters of the page; then states that follow any moves, the likeliest before. Ends that follow
     are there without a limit. A state that is not on the page has a place in `stubs`, with both
     plans' bounds.
@@ -74,6 +78,7 @@ class Shown:
         self.chances = {state.key: chance for state, chance in reached}
         self.reached = sum(not state.is_end for state, _ in reached)
         self.states: dict[int, State] = {}
+        self.pairs = 0
         root: State = report.game.root()
         losses = [loss for player in players for loss in player.listed()]
         self._add([root], most)
@@ -90,8 +95,17 @@ class Shown:
     def _add(self, states: Iterable[State], most: int) -> None:
         """Adds states up to a number of them."""
         for state in states:
-            if state.key not in self.states and len(self.states) < most:
+            if state.key not in self.states and self._has_room(state, len(self.states), most):
                 self.states[state.key] = state
+
+    def _has_room(self, state: State, count: int, most: int) -> bool:
+        """Whether a state with moves fits beside so many others, and if so, counts its pairs of
+        moves; the root always fits."""
+        pairs = self.pairs + len(state.moves("one")) * len(state.moves("two"))
+        fits = count < most and (count == 0 or pairs <= PAIRS_EACH * most)
+        if fits:
+            self.pairs = pairs
+        return fits
 
     def _on_way(self, way: Iterable[tuple[int, int, int]]) -> Iterator[State]:
         """The states on a way from the root."""
@@ -117,7 +131,7 @@ class Shown:
                         continue
                     if after.is_end:
                         ends[draw.key] = after
-                    elif self.inner < most:
+                    elif self._has_room(after, self.inner, most):
                         self.inner += 1
                         self.states[draw.key] = after
                         waiting.append(after)

@@ -41,6 +41,10 @@ enum {
     DOSOLVE_REPORT = 9     /* the report is refused; the text says why */
 };
 
+/* The version of the library, as `dosolve-py --version` and a release have theirs: a text that is never freed. It is plain C
+ * (tools/build_library.sh), and nothing is proved of it. */
+const char *dosolve_version(void);
+
 /* The sides, for dosolve_exploit. */
 enum { DOSOLVE_ONE = 0, DOSOLVE_TWO = 1 };
 

@@ -4,9 +4,11 @@ from __future__ import annotations
 
 import argparse
 import csv
+import hashlib
 import importlib.util
 import json
 import math
+import os
 import sys
 from abc import ABC, abstractmethod
 from argparse import ArgumentParser, Namespace
@@ -30,6 +32,7 @@ from .players.measuring import Measured, measure, plan_of, solved_text
 from .players.tournaments import tournament
 from .positions import ASKED, Asked, Position
 from .reports import UNIT, Report, table_notes
+from .solver.library import find_library
 from .solver.program import Solver, WorstCase, find_program, require_match
 from .solver.progress import Bar, Progress, read_progress
 from .sweeps import SWEPT_COLUMNS, Summary, Swept, read_positions, sweep
@@ -345,13 +348,13 @@ class Show(Command):
     """Pictures of reports."""
 
     name = "show"
-    about = "draw a report"
+    about = "draw a report, or tell what it plays in a state"
 
     def add_arguments(self, parser: ArgumentParser) -> None:
         super().add_arguments(parser)
         parser.add_argument("report", type=Path, metavar="REPORT")
-        parser.add_argument("-o", "--output", type=Path, required=True, metavar="FILE.svg",
-                            help="or .png, .pdf")
+        parser.add_argument("-o", "--output", type=Path, metavar="FILE.svg",
+                            help="or .png, .pdf; without it, what both play is told in words")
         where = parser.add_mutually_exclusive_group()
         where.add_argument("--key", type=int, metavar="KEY", help="a state other than the root")
         where.add_argument("--history", nargs="+", metavar="ONE,TWO[,DRAW]",
@@ -371,6 +374,9 @@ class Show(Command):
 
     def run(self, words: Namespace) -> None:
         require_output(words.output, words.report)
+        if words.output is None:
+            self._tell(words)
+            return
         picture = self._picture(words)
         if isinstance(picture, Drawing):
             picture.save(words.output)
@@ -378,6 +384,27 @@ class Show(Command):
             pictures.save(picture, words.output)
         if words.json:
             _print_record({"output": str(words.output)})
+
+    def _tell(self, words: Namespace) -> None:
+        """What both plans play and guarantee in a state."""
+        if words.progress or words.matrix or words.zoom or words.players or words.tree is not None:
+            raise InvalidError("a picture needs a file: -o FILE.svg")
+        report = read_report(words.report)
+        state = report.game.root()
+        if words.key is not None:
+            state = report.game.state(words.key)
+        elif words.history:
+            state = report.game.state_after([turn.split(",") for turn in words.history])
+        if not words.json:
+            print(report.told(state), end="")
+            return
+        plays = {side: {name: float(share) for name, share in sheet.named(state).items()}
+                 if sheet.row(state) else None
+                 for side, sheet in (("one", report.one), ("two", report.two))}
+        lower, upper = (report.game.unscaled(sheet.bound(state))
+                        for sheet in (report.one, report.two))
+        _print_record({"key": state.key, "state": pictures.state_words(state), "unit": UNIT,
+                       "lower": float(lower), "upper": float(upper)} | plays)
 
     def _picture(self, words: Namespace) -> Figure | Drawing:
         """The picture that the options ask for. Bounds over time need no library."""
@@ -527,15 +554,34 @@ COMMANDS: tuple[Command, ...] = (Solve(), Check(), Exploit(), Measure(), Match()
 
 
 class _Version(argparse.Action):
-    """Prints the version of the package and where the program is."""
+    """Prints the version of the package, where the program is and its checksum, and the version of
+    the library where one is named."""
 
     def __call__(self, parser: ArgumentParser, *_: object, **__: object) -> None:
+        print(f"dosolve-py {__version__}, {self._program()}")
+        print(self._library())
+        parser.exit()
+
+    def _program(self) -> str:
+        """The program's place and checksum: it tells no version of its own, and the checksum is
+        the one that a release's list has."""
         try:
             where = find_program()
+            with open(where, "rb") as program:
+                checksum = hashlib.file_digest(program, "sha256").hexdigest()
+        except (ProgramMissingError, OSError) as fault:
+            return f"program {fault}"
+        return f"program {where}\nprogram sha256 {checksum}"
+
+    def _library(self) -> str:
+        """The library's place and version."""
+        try:
+            library = find_library()
         except ProgramMissingError as fault:
-            where = str(fault)
-        print(f"dosolve-py {__version__}, program {where}")
-        parser.exit()
+            return f"library {fault}"
+        if library is None:
+            return "library none (DOSOLVE_LIBRARY names one)"
+        return f"library {library.version or 'without a version'}, {os.environ['DOSOLVE_LIBRARY']}"
 
 
 def make_parser() -> ArgumentParser:
@@ -544,7 +590,7 @@ def make_parser() -> ArgumentParser:
         prog="dosolve-py", epilog=_EXAMPLES, formatter_class=argparse.RawDescriptionHelpFormatter,
         description="Solves games with simultaneous moves, measures players, draws reports.")
     parser.add_argument("--version", action=_Version, nargs=0,
-                        help="the package's version, and where the program is")
+                        help="the versions of package and library, and which program is used")
     parsers = parser.add_subparsers(required=True, metavar="COMMAND")
     for command in COMMANDS:
         own = parsers.add_parser(command.name, help=command.about, description=command.about)

@@ -18,7 +18,7 @@ from .errors import DosolveError, InvalidError
 from .exact import steps
 from .games.game import CHANCE, SCALE, SIDES, Move, Side, State
 from .games.goofspiel import GoofspielDrawnState, GoofspielState
-from .games.pursuit import PursuitState
+from .games.pursuit import Pursuit, PursuitState
 from .games.tron import TronState
 from .players.sheets import Sheet
 from .reports import Report
@@ -451,7 +451,7 @@ def _grid(axes: Axes, report: Report, root: TronState) -> None:
 def _graph(axes: Axes, report: Report, root: PursuitState) -> None:
     """The graph with both players and the weights of their next moves."""
     game = root.game
-    places = layout(game.near)
+    places = node_places(game)
     _plain(axes, f"The graph: One chases Two, {root.rounds} rounds left, probabilities of moves")
     for low, high in sorted(game.pairs):
         axes.plot(*zip(places[low], places[high]), color="#999999", linewidth=1.2, zorder=1)
@@ -472,9 +472,38 @@ def _graph(axes: Axes, report: Report, root: PursuitState) -> None:
                               textcoords="offset points", color=_COLOURS[side], ha="center",
                               va="center", fontsize=8, zorder=5,
                               bbox=_PAPER)
-    axes.margins(0.15)
+    # Round the nodes, of a grid of one row too, there is room for chances.
+    for numbers, widen in zip(zip(*places), (axes.set_xlim, axes.set_ylim)):
+        low, high = min(numbers), max(numbers)
+        room = max(0.6, 0.15 * (high - low))
+        widen(low - room, high + room)
     axes.text(0.5, -0.02, "One: blue ring, Two: orange ring", ha="center", va="top", fontsize=8,
               transform=axes.transAxes)
+
+
+def node_places(game: Pursuit) -> list[tuple[float, float]]:
+    """Places of the nodes of a graph in the plane, y upwards: as they are numbered where the graph
+    is a grid, else by their distances."""
+    width = _grid_width(game.nodes, game.pairs)
+    if width is None:
+        return layout(game.near)
+    return [(float(node % width), float(-(node // width))) for node in range(game.nodes)]
+
+
+def _grid_width(nodes: int, pairs: frozenset[tuple[int, int]]) -> int | None:
+    """The columns of a grid whose nodes are numbered row by row and joined to their neighbours,
+    with or without diagonals; None where the graph is no grid. Of two the squarer, or wider."""
+    found = []
+    for width in range(1, nodes + 1):
+        steps = {(node, node + 1) for node in range(nodes) if (node + 1) % width}
+        steps |= {(node, node + width) for node in range(nodes - width)}
+        close = all(abs(low // width - high // width) <= 1 and abs(low % width - high % width) <= 1
+                    for low, high in pairs)
+        if nodes % width == 0 and close and steps <= pairs:
+            found.append(width)
+    if not found:
+        return None
+    return min(found, key=lambda each: (abs(each - nodes // each), -each))
 
 
 def layout(near: tuple[tuple[int, ...], ...]) -> list[tuple[float, float]]:

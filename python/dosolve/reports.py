@@ -12,7 +12,7 @@ from typing import TYPE_CHECKING
 
 from .errors import InputRefusedError, InvalidError, ReportRefusedError
 from .exact import steps
-from .games.game import CHANCE, SCALE, SIDES, AnyGame, Side, State, other, side_of
+from .games.game import CHANCE, SCALE, SIDES, AnyGame, Move, Side, State, other, side_of
 from .games.python_game import PythonGame
 from .limits import (
     LEAST_WEIGHT, MOST_BOUND, MOST_GAP, MOST_KEY, MOST_REPORT_BYTES, MOST_RESOLUTION, MOST_TURNS,
@@ -22,7 +22,7 @@ from .players.sheets import Row, Sheet
 from .positions import GAMES, looks_like_path
 from .tables.names import require_names, save_names, with_names
 from .tables.table import Table
-from .values import FilePath, Record, as_points, cut, require_range, shorten
+from .values import FilePath, Record, as_number, as_points, cut, require_range, shorten
 
 if TYPE_CHECKING:
     from .drawings import Drawing
@@ -55,11 +55,18 @@ def outcome_of(gap: int, asked: int, resolution: int) -> str:
 
 
 def table_notes(game: AnyGame) -> tuple[str, ...]:
-    """What a reader of payoffs has to know of a table that was rounded."""
-    if not isinstance(game, Table) or not game.error:
+    """What a reader of payoffs has to know of a table that was rounded, or made of a game whose
+    payoffs sum to another number than 0."""
+    if not isinstance(game, Table):
         return ()
-    return (f"the table was rounded: the value of the game is within "
-            f"{as_points(math.ceil(game.error * SCALE))} of that of the table",)
+    found = []
+    if game.error:
+        found.append(f"the table was rounded: the value of the game is within "
+                     f"{as_points(math.ceil(game.error * SCALE))} of that of the table")
+    if game.total:
+        found.append(f"both players' payoffs sum to {as_number(game.total):g}: Two gets that less "
+                     f"what One gets")
+    return tuple(found)
 
 
 @dataclass(frozen=True, repr=False)
@@ -271,12 +278,43 @@ class Report:
                  f"turns  {sum(self.spent)} spent by {len(self.spent)} "
                  f"worker{'s' if len(self.spent) > 1 else ''}"]
         if not self.game.root().is_end and not self.is_vacuous:
-            lines += [self._root_line(side) for side in SIDES]
+            lines += self._root_lines()
         return "\n".join([*lines, *(f"note   {note}" for note in self.notes())]) + "\n"
 
+    def _root_lines(self) -> list[str]:
+        """What both sides play at the root; of one where chance alone moves, the draws."""
+        root = self.game.root()
+        draws = root.draw_names(Move(0), Move(0))
+        if not draws or any(len(root.moves(side)) > 1 for side in SIDES):
+            return [self._root_line(side) for side in SIDES]
+        shown = [f"{name} {100 * chance / CHANCE:.1f}%"
+                 for name, chance in zip(draws, root.chances(Move(0), Move(0)))]
+        return [f"chance {', '.join(shown[:8])}{', ..' if len(shown) > 8 else ''}"]
+
+    def told(self, state: State | None = None) -> str:
+        """A few lines that tell what both plans play and guarantee in a state, that of the
+        beginning where none is given."""
+        from .pictures import state_words
+
+        state = self.game.root() if state is None else state
+        shown, lower, upper = self.game.shown, self.one.bound(state), self.two.bound(state)
+        lines = [f"state  {state_words(state)}", f"key    {state.key}"]
+        if state.is_end:
+            return "\n".join([*lines, f"end    pays One {shown(state.payoff * SCALE)}", ""])
+        still = " from here on" if self.game.has_rewards else ""
+        lines.append(f"value  from {shown(lower)} to {shown(upper, True)}, payoff of One{still}")
+        for side in SIDES:
+            lines.append(self._line(side, state) if self.sheet(side).row(state) else
+                         f"{side}    no row: plays the first move, {state.names(side)[0]}")
+        return "\n".join([*lines, ""])
+
     def _root_line(self, side: Side) -> str:
-        """What a side plays at the root: the moves of most weight."""
-        sheet, root = self.sheet(side), self.game.root()
+        """What a side plays at the root."""
+        return self._line(side, self.game.root())
+
+    def _line(self, side: Side, root: State) -> str:
+        """What a side plays in a state: the moves of most weight."""
+        sheet = self.sheet(side)
         moves = sorted(zip(sheet.weights(root), root.names(side)), key=lambda move: -move[0])
         shown = [f"{name} {100 * weight / sheet.total:.1f}%" for weight, name in moves if weight]
         return f"{side}    {', '.join(shown[:8])}{', ..' if len(shown) > 8 else ''}"

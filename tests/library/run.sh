@@ -59,9 +59,14 @@ if command -v rustc > /dev/null; then
 else
     echo "caller.rs: left out, no rustc"
 fi
+# The version is that of the package.
+printf '#include <stdio.h>\n#include "dosolve.h"\nint main(void) { puts(dosolve_version()); }\n' > "$work/version.c"
+# shellcheck disable=SC2086
+try "version, build" "${CC:-cc}" -std=c11 -O1 $warnings -I"$top/include" -o "$work/version" "$work/version.c" "$folder/libdosolve.a"
+try "version" grep -qxF "__version__ = \"$("$work/version")\"" "$top/python/dosolve/__init__.py"
 # No other name than those of the header leaves the library.
 exported=$(nm -D --defined-only "$folder/libdosolve.so" | awk '{ print $3 }' | sort)
-wanted=$(printf '%s\n' dosolve_{bounds,check,exploit,games,plan,play,replies,root,row,sample,solve,worst})
+wanted=$(printf '%s\n' dosolve_{bounds,check,exploit,games,plan,play,replies,root,row,sample,solve,version,worst})
 try "names" [ "$exported" = "$wanted" ]
 echo "$passed passed, $failed failed"
 [ "$failed" -eq 0 ]

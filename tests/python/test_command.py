@@ -1,5 +1,6 @@
 """The command line: each command, its JSON, its messages, and what ends it."""
 import contextlib
+import hashlib
 import io
 import json
 import os
@@ -148,6 +149,11 @@ class Commands(unittest.TestCase):
             found = call("--version")
             self.assertEqual((found.returncode, found.stderr), (0, ""))
             self.assertRegex(found.stdout, rf"^dosolve-py {dosolve.__version__}, program /")
+            checksum = hashlib.sha256(Path(dosolve.find_program()).read_bytes()).hexdigest()
+            self.assertIn(f"\nprogram sha256 {checksum}\nlibrary ", found.stdout)
+        with mock.patch.dict(os.environ, {"DOSOLVE": "/no/such", "DOSOLVE_LIBRARY": "/no/such.so"}):
+            missing = run("--version").stdout
+        self.assertRegex(missing, r"^dosolve-py \S+, program .*no/such.*\nlibrary /no/such.so is no")
         for command in ("solve", "check", "exploit", "measure", "match", "tournament", "show",
                         "sweep", "table"):
             self.assertEqual(run(command, "--help").returncode, 0)

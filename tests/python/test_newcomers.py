@@ -234,6 +234,77 @@ class Names(unittest.TestCase):
                     Table.from_gambit(file)
 
 
+    def test_a_root_at_which_chance_alone_moves_is_told_by_its_draws(self):
+        text = ('EFG 2 R "" { "One" "Two" }\nc "" 1 "" { "heads" 1/4 "tails" 3/4 } 0\n'
+                'p "" 1 1 "" { "a" "b" } 0\nt "" 1 "" { 1 -1 }\nt "" 2 "" { 0 0 }\n'
+                'p "" 1 2 "" { "a" "b" } 0\nt "" 3 "" { 2 -2 }\nt "" 2\n')
+        with tempfile.TemporaryDirectory() as folder:
+            file = Path(folder, "x.efg")
+            file.write_text(text)
+            report = dosolve.solve(dosolve.Position(Table.from_gambit(file), workers=1))
+        lines = report.summary().splitlines()
+        self.assertEqual(lines[-1], "chance heads 25.0%, tails 75.0%")
+        turns = {dosolve.play(report, 1, seed * 2**40).told(report.game)[0] for seed in range(12)}
+        self.assertEqual(turns, {"chance: heads", "chance: tails"})
+        alone = dosolve.Report.load(MIXED).summary()
+        self.assertIn("\none    1 50.0%, 3 50.0%\n", alone)
+
+    def test_a_constant_sum_is_told(self):
+        with tempfile.TemporaryDirectory() as folder:
+            file, position = Path(folder, "x.efg"), Path(folder, "x.json")
+            text = ('EFG 2 R "" { "One" "Two" }\np "" 1 1 "" { "a" "b" } 0\n'
+                    't "" 1 "" { 3 3/2 }\nt "" 2 "" { 1 7/2 }\n')
+            note = "both players' payoffs sum to 4.5: Two gets that less what One gets"
+            file.write_text(text)
+            (Path(folder, "x.nfg")).write_text('NFG 1 R "" { "One" "Two" } { 1 2 }\n3 3/2 1 7/2\n')
+            for given in (file, Path(folder, "x.nfg")):
+                table = Table.from_gambit(given)
+                self.assertEqual(table.total, Fraction(9, 2))
+                self.assertIn(f"note   {note}\n", run("solve", given).stdout)
+            self.assertIn(f"note {note}\n", run("table", file, "-o", position).stdout)
+            read = dosolve.Position.load(position)
+            self.assertEqual((read.game.total, read.game), (Fraction(9, 2), Table.from_gambit(file)))
+            self.assertIn(note, dosolve.solve(read).notes())
+            self.assertEqual(dosolve.Position.at(read.game, read.game.root()).game.total, Fraction(9, 2))
+            file.write_text(text.replace("3/2", "-3").replace("7/2", "-1"))
+            self.assertNotIn("sum to", run("solve", file).stdout)
+            position.unlink()
+            run("table", file, "-o", position)
+            self.assertNotIn("total", position.with_suffix(".names").read_text())
+
+
+class Words(unittest.TestCase):
+    def test_a_state_of_a_report_is_told_in_words(self):
+        found = run("show", REPORT)
+        self.assertEqual((found.returncode, found.stderr), (0, ""))
+        self.assertEqual(found.stdout, "state  one 1 3, two 2 3, score 0, prize 1\nkey    335595772\n"
+                         "value  from -0.500000 to -0.500000, payoff of One\n"
+                         "one    1 50.0%, 3 50.0%\ntwo    2 50.0%, 3 50.0%\n")
+        self.assertEqual(run("show", REPORT, "--key", 335595772).stdout, found.stdout)
+        off = run("show", REPORT, "--history", "1,3").stdout
+        self.assertEqual(off, run("show", REPORT, "--key", off.split("key")[1].split()[0]).stdout)
+        report = dosolve.Report.load(MIXED)
+        first = dosolve.Report.of(dosolve.Sheet(report.game, "one", report.weight), report.two)
+        self.assertIn("one    no row: plays the first move, 1\ntwo    2 50.0%", first.told())
+        self.assertIn("value  from -2.000000 to -0.500000", first.told())
+        end = report.game.root().play(one=3, two=2).play(one=1, two=3)
+        self.assertRegex(report.told(end), "\nend    pays One 0.000000\n$")
+        told = json.loads(run("show", REPORT, "--json").stdout)
+        self.assertEqual((told["lower"], told["two"], told["unit"]),
+                         (-0.5, {"2": 0.5, "3": 0.5}, "payoff of One"))
+
+    def test_a_table_is_told_in_payoffs_of_its_rules(self):
+        table = Table.from_matrix([[Fraction(1, 4), 0], [0, Fraction(1, 4)]], ["a", "b"], "cd")
+        report = dosolve.solve(dosolve.Position(table, workers=1))
+        self.assertRegex(report.told(), "state  root\nkey    0\nvalue  from 0.12.* to 0.12")
+
+    def test_a_picture_needs_a_file(self):
+        for words in (("--matrix",), ("--tree", 2), ("--zoom",), ("--players", "a", "b"), ("--progress",)):
+            found = run("show", REPORT, *words)
+            self.assertEqual((found.returncode, found.stderr),
+                             (1, "dosolve: a picture needs a file: -o FILE.svg\n"))
+
+
 class Calls(unittest.TestCase):
     def test_measure_takes_a_solver_and_a_timeout(self):
         position = dosolve.Position.load(TOP / POSITION)

@@ -99,6 +99,20 @@ class Pictures(unittest.TestCase):
                     names = [name for side in dosolve.SIDES for name in state.names(side)]
                     self.look(pictures.figure(report, row.key), *names)
 
+    def test_a_grid_is_drawn_as_it_is_numbered(self):
+        edges = [node for at in range(6) for step in (1, 3) for node in (at, at + step)
+                 if at + step < 6 and (step == 3 or (at + 1) % 3)]
+        grid = dosolve.Pursuit(6, edges, 0, 5, 3)
+        self.assertEqual(pictures.node_places(grid),
+                         [(float(node % 3), float(-(node // 3))) for node in range(6)])
+        self.look_at(made(grid, random.Random(2)))
+        ring = dosolve.Pursuit(5, [0, 1, 1, 2, 2, 3, 3, 4, 4, 0], 0, 2, 3)
+        self.assertNotIn((0.0, 0.0), pictures.node_places(ring))
+        for nodes in (1, 2, 5):
+            row = dosolve.Pursuit(nodes, [end for node in range(nodes - 1) for end in (node, node + 1)],
+                                  0, nodes - 1, 3)
+            self.look_at(made(row, random.Random(nodes)))
+
     def test_trees(self):
         for file in EXAMPLES:
             report = dosolve.Report.load(file)

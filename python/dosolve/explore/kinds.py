@@ -87,33 +87,8 @@ def settings(report: Report) -> dict[str, object]:
         return {}
     if isinstance(game, Pursuit):
         return {"rounds": game.rounds, "pairs": sorted(game.pairs),
-                "places": [[round(x, 3), round(y, 3)] for x, y in _node_places(game)]}
+                "places": [[round(x, 3), round(y, 3)] for x, y in pictures.node_places(game)]}
     return dict(game.record())
-
-
-def _node_places(game: Pursuit) -> list[tuple[float, float]]:
-    """Places of the nodes of a graph in the plane, y upwards: as they are numbered where the graph
-    is a grid, else by their distances."""
-    width = _grid_width(game.nodes, game.pairs)
-    if width is None:
-        return pictures.layout(game.near)
-    return [(float(node % width), float(-(node // width))) for node in range(game.nodes)]
-
-
-def _grid_width(nodes: int, pairs: frozenset[tuple[int, int]]) -> int | None:
-    """The columns of a grid whose nodes are numbered row by row and joined to their neighbours,
-    with or without diagonals; None where the graph is no grid. Of two the squarer, or wider."""
-    found = []
-    for width in range(1, nodes + 1):
-        steps = {(node, node + 1) for node in range(nodes) if (node + 1) % width}
-        steps |= {(node, node + width) for node in range(nodes - width)}
-        close = all(abs(low // width - high // width) <= 1 and abs(low % width - high % width) <= 1
-                    for low, high in pairs)
-        if nodes % width == 0 and close and steps <= pairs:
-            found.append(width)
-    if not found:
-        return None
-    return min(found, key=lambda each: (abs(each - nodes // each), -each))
 
 
 def picture(state: State, pool: Pool) -> list[object]:

@@ -65,7 +65,9 @@ class Shown:
     """The states of a page, at most `most` of them with moves, and their data.
 
     All their pairs of moves together are at most `PAIRS_EACH` for each of `most` states, so that
-    a page of a game with many moves has fewer states, and opens as soon. First come the root, the ways to the losses, and the likeliest states, in at most three
+    a page of a game with many moves has fewer states, and opens as soon.
+
+    First come the root, the ways to the losses, and the likeliest states, in at most three
     quarters of the page; then states that follow any moves, the likeliest before. Ends that follow
     are there without a limit. A state that is not on the page has a place in `stubs`, with both
     plans' bounds.

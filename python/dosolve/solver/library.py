@@ -81,6 +81,16 @@ class Library:
         for name, call in self._calls.items():
             call.argtypes = _ARGUMENTS[name]
             call.restype = ctypes.c_uint32
+        self._version = getattr(loaded, "dosolve_version", None)
+
+    @property
+    def version(self) -> str:
+        """The version of the library; empty where it is older than this call."""
+        if self._version is None:
+            return ""
+        self._version.restype = ctypes.c_char_p
+        told: bytes = self._version()
+        return told.decode()
 
     def answer(self, words: Sequence[str], data: bytes) -> tuple[int, bytes]:
         """The status and the text of a command: `solve`, `check`, `bounds`, `exploit SIDE` or

@@ -17,6 +17,7 @@ from ..errors import (
 )
 from ..exact import BestResponse, expected_of, respond
 from ..games.game import SCALE, SIDES, AnyGame, Side, other, side_of
+from ..games.python_game import ALONE
 from ..limits import MOST_GAMES, MOST_SEED, WIDE
 from ..players.sheets import Sheet
 from ..positions import Position, require_position
@@ -136,11 +137,13 @@ class Match:
         for turn in self.turns:
             one, two = state.move_labelled("one", turn.one), state.move_labelled("two", turn.two)
             draws = state.draw_names(one, two)
-            drawn = f", {draws[turn.draw]}" if draws else ""
             names = state.names("one")[one], state.names("two")[two]
+            # Where both have nothing to choose, the turn is chance's alone.
+            played = "" if draws and set(names) == {ALONE} else f"{names[0]} - {names[1]}"
+            played += (", " if played and draws else "") + (draws[turn.draw] if draws else "")
             reward = game.of_rules(state.rewards(one, two)[turn.draw])
             paid = f", pays {as_number(reward):g}" if reward else ""
-            lines.append(f"{state}: {names[0]} - {names[1]}{drawn}{paid}")
+            lines.append(f"{state}: {played}{paid}")
             state = state.after(one, two, turn.draw)
         return lines
 

@@ -78,7 +78,8 @@ BothMoves = Sequence[Iterable[object]] | None
 class Built:
     """A table: its states as a position has them, the node of each (None where a state only deals
     out chances), the names of moves (none at an end), what payoffs were multiplied by, which states
-    only deal out chances, and how far its value can be from the game's, in payoffs of the rules."""
+    only deal out chances, how far its value can be from the game's, and what both players' payoffs
+    sum to, both in payoffs of the rules."""
 
     listing: tuple[Listed, ...]
     nodes: tuple[Hashable, ...]
@@ -86,6 +87,7 @@ class Built:
     scale: Fraction
     deals: frozenset[int]
     error: Fraction = Fraction(0)
+    total: Fraction = Fraction(0)
 
 
 def exact(number: object, what: str = "payoff", rounded: bool = False) -> Fraction:

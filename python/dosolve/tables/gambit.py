@@ -5,7 +5,7 @@ from __future__ import annotations
 import re
 from bisect import bisect
 from collections.abc import Callable
-from dataclasses import dataclass, field
+from dataclasses import dataclass, field, replace
 from fractions import Fraction
 from pathlib import Path
 from typing import Any
@@ -139,10 +139,10 @@ def _strategic(words: _Words) -> Made:
         pairs = [_pair([words.take("a payoff"), words.take("a payoff")]) for _ in range(count)]
     if words.peek():
         raise NoTableError(f"{shorten(words.peek())} stands behind the end of the game")
-    _require_sum(words, pairs, [words.line] * len(pairs))
+    total = _sum(words, pairs, [words.line] * len(pairs))
     matrix = [[pairs[row + len(one) * column][0] for column in range(len(two))]
               for row in range(len(one))]
-    return of_matrix(matrix, one, two), lambda node: "root"
+    return replace(of_matrix(matrix, one, two), total=total), lambda node: "root"
 
 
 def _pair(words: Group) -> tuple[Fraction, Fraction]:
@@ -153,14 +153,16 @@ def _pair(words: Group) -> tuple[Fraction, Fraction]:
     return one, two
 
 
-def _require_sum(words: _Words, pairs: list[tuple[Fraction, Fraction]], lines: list[int]) -> None:
-    """Refuses payoffs of different sums; the lines are those where they stand."""
+def _sum(words: _Words, pairs: list[tuple[Fraction, Fraction]], lines: list[int]) -> Fraction:
+    """What both payoffs sum to everywhere; refused where that differs. The lines are those where
+    they stand."""
     sums = [one + two for one, two in pairs]
     for line, each in zip(lines, sums):
         if each != sums[0]:
             words.fault = line
             raise NoTableError(f"the game is not zero-sum: payoffs sum to {each} here, and to "
                                f"{sums[0]} before")
+    return sums[0] if sums else Fraction(0)
 
 
 @dataclass
@@ -313,10 +315,11 @@ def _extensive(words: _Words) -> Made:
         words.take("a comment")
     tree = _Tree(words)
     ends = [node for node in tree.nodes if not node.actions]
-    _require_sum(words, [node.paid for node in ends], [node.line for node in ends])
+    total = _sum(words, [node.paid for node in ends], [node.line for node in ends])
     first = [Outcome(0)] if tree.nodes[0].player else tree.behind(0)
     plain = len(first) == 1 and not first[0].reward
-    return build(first[0].node if plain else Deal(tuple(merged(first))), tree.expand), tree.name
+    built = build(first[0].node if plain else Deal(tuple(merged(first))), tree.expand)
+    return replace(built, total=total), tree.name
 
 
 def save_gambit(game: AnyGame, path: FilePath) -> None:

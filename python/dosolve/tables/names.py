@@ -42,7 +42,7 @@ def _are_names(text: bytes) -> bool:
         found = json.loads(text or b"{}")
     except ValueError:
         return False
-    known = {"table", "scale", "error", "states", "moves"}
+    known = {"table", "scale", "error", "total", "states", "moves"}
     return isinstance(found, dict) and found.keys() <= known
 
 

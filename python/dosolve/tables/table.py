@@ -156,6 +156,8 @@ class Table(Game[TableState]):
     - `scale`: what the payoffs of the rules were multiplied by.
     - `error`: how far the value of the table can be from that of the game that it was made of, in
       payoffs of the rules; more than 0 only where something was rounded.
+    - `total`: what both players' payoffs sum to in the file of Gambit that it was read from. Two
+      gets this less what One gets; 0 everywhere else.
     """
 
     name = "table"
@@ -167,6 +169,7 @@ class Table(Game[TableState]):
     nodes: Sequence[Any] = field(default=(), repr=False)
     scale: Fraction = Fraction(1)
     error: Fraction = Fraction(0)
+    total: Fraction = Fraction(0)
 
     def __post_init__(self) -> None:
         super().__post_init__()
@@ -341,7 +344,7 @@ class Table(Game[TableState]):
                    for told in (self.listing[number] for number in kept)]
         names, moves, nodes = ([given[number] for number in kept] if given else ()
                                for given in (self.state_names, self.move_names, self.nodes))
-        return Table(listing, names, moves, nodes, self.scale, self.error)
+        return Table(listing, names, moves, nodes, self.scale, self.error, self.total)
 
     def _behind(self, first: int) -> set[int]:
         """A state and all that can follow it."""
@@ -363,13 +366,15 @@ class Table(Game[TableState]):
     @property
     def has_names(self) -> bool:
         """Whether there is anything to be kept beside the numbers."""
-        return bool(self.state_names or self.move_names) or self.scale != 1 or self.error > 0
+        return bool(self.state_names or self.move_names or self.error or self.total
+                    ) or self.scale != 1
 
     def names_text(self) -> str:
         """The names as a line of JSON, with what tells which table they are of."""
         moves = [[list(one), list(two)] for one, two in self.move_names]
         found = {"table": self._digest, "scale": str(self.scale)}
-        found |= {"error": str(self.error)} if self.error else {}
+        found |= {name: str(number) for name, number in (("error", self.error),
+                                                         ("total", self.total)) if number}
         return json.dumps(found | {"states": list(self.state_names), "moves": moves}) + "\n"
 
     def named(self, text: str) -> Table:
@@ -377,7 +382,7 @@ class Table(Game[TableState]):
         try:
             found = json.loads(text)
             digest, scale = found["table"], Fraction(found["scale"])
-            error = Fraction(found.get("error", 0))
+            error, total = (Fraction(found.get(name, 0)) for name in ("error", "total"))
             states, moves = map(str, found["states"]), found["moves"]
             pairs = [(tuple(map(str, one)), tuple(map(str, two))) for one, two in moves]
         except (ValueError, KeyError, TypeError, AttributeError, ZeroDivisionError) as fault:
@@ -385,7 +390,7 @@ class Table(Game[TableState]):
         if digest != self._digest:
             raise InvalidError("these are names of another table")
         return replace(self, state_names=tuple(states), move_names=tuple(pairs), scale=scale,
-                       error=error)
+                       error=error, total=total)
 
     @property
     def _digest(self) -> str:
@@ -399,7 +404,8 @@ class Table(Game[TableState]):
         names = [f"payoff {state / built.scale}" if isinstance(state, int) else
                  _DEALT if number in built.deals else name(node)
                  for number, (state, node) in enumerate(zip(built.listing, kept))]
-        return cls(built.listing, tuple(names), built.names, tuple(kept), built.scale, built.error)
+        return cls(built.listing, tuple(names), built.names, tuple(kept), built.scale, built.error,
+                   built.total)
 
     @classmethod
     def from_matrix(cls, payoffs: object, one: Sequence[object] | None = None,

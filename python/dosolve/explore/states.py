@@ -13,8 +13,9 @@ from .losses import PlayerPlan
 LEAST_FOLLOWED: Final = 10_000
 """How many states with equally many turns left are followed on a page of fewer states too."""
 
-PAIRS_EACH: Final = 200
-"""How many pairs of moves a page has for each state that it may have, all states together."""
+PAIRS_EACH: Final = 100
+"""How many pairs of moves a page has for each state that it may have, all states together; a pair
+that leads to a draw counts for each."""
 
 
 @dataclass(frozen=True)
@@ -61,6 +62,15 @@ def _steps(report: Report, state: State) -> Iterator[tuple[float, State]]:
             yield mine[one] * yours[two] * chance / whole, after
 
 
+def _pairs_of(state: State) -> int:
+    """The pairs of moves of a state, each as often as it has draws; of a state with draws about so
+    many, as those of One's first move have."""
+    ones, twos = (len(state.moves(side)) for side in SIDES)
+    if state.game.chance_free or not ones:
+        return ones * twos
+    return ones * sum(len(state.chances(Move(0), Move(two))) for two in range(twos))
+
+
 class Shown:
     """The states of a page, at most `most` of them with moves, and their data.
 
@@ -103,7 +113,7 @@ class Shown:
     def _has_room(self, state: State, count: int, most: int) -> bool:
         """Whether a state with moves fits beside so many others, and if so, counts its pairs of
         moves; the root always fits."""
-        pairs = self.pairs + len(state.moves("one")) * len(state.moves("two"))
+        pairs = self.pairs + _pairs_of(state)
         fits = count < most and (count == 0 or pairs <= PAIRS_EACH * most)
         if fits:
             self.pairs = pairs

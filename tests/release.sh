@@ -99,6 +99,10 @@ if "$python" -c 'import ensurepip' 2> "$work/none"; then
     try "dosolve" gives "$top/examples/goofspiel_mixed.report" sh -c "$bin/dosolve solve < examples/goofspiel_mixed.json"
     try "dosolve is the program itself" cmp "$program" "$bin/dosolve"
     try "dosolve-py" says '^value  from -0.000003 to 0.000004, payoff of One$' "$bin/dosolve-py" solve examples/goofspiel_five.json
+    try "measure" says '^player one rows 120 guarantees -5.000000 ' "$bin/dosolve-py" measure examples/goofspiel_five.json \
+        python/examples/match_the_prize.py
+    try "explore" says '^five.html: 1413 states with moves, all that play can reach' "$bin/dosolve-py" explore \
+        examples/goofspiel_five.report -o five.html
     try "its own program" says "unproved, program $work/venv/lib/.*/dosolve/bin/dosolve\$" "$bin/dosolve-py" --version
     try "import" says '^Fraction\(-1, 2\)$' env PATH="$work/empty" "$bin/python" -c "import dosolve
 report = dosolve.solve(dosolve.Position(dosolve.Goofspiel([1, 3], [2, 3], [1, 1]), gap=0))

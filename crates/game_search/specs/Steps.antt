@@ -1,9 +1,12 @@
 -- What an induction comes to.
-use Rattle.std.specs.Prelude.{◌≡◌, ℕ, ◌*◌, ◌≤◌, ℤ, false, List, []}
+use Rattle.std.specs.Prelude.{◌≡◌, ℕ, ◌*◌, ◌≤◌, ℤ, false, List, [], Option, Result}
 use Rattle.sim_game.specs.declared.Side.TheVariants.{One, Two}
+use Rattle.sim_game.specs.declared.NoMemory.{NoMemory}
 use Rattle.sim_game.specs.Model.{GameModel}
 use Rattle.fields.specs.declared.ask.Ask.{Ask}
 use Rattle.matrix_game.specs.Budget.{Budget}
+use Rattle.induction.specs.declared.induced.Induced.{Induced}
+use Rattle.induction.specs.Induced.{IsInductionResult}
 use Rattle.induction.specs.Undecided.{HasUndecided}
 use Rattle.lazy_workers.specs.declared.summary.Found.{Found}
 use Rattle.lazy_workers.specs.Findings.{IsFoundPlan, IsFoundGame, IsFoundFor}
@@ -49,6 +52,19 @@ module _ {S : Type 0} (m : GameModel S) (ask : Ask) where
     pub count : ℕ
     pub undecided : HasUndecided m count
     pub few : most ≤ 3 * count
+
+  -- all the turns asked, none of them spent
+  abbrev pub IsWhole : Budget → Type 0
+  IsWhole turns = turns ≡ record { limit = ask.turns; spent = 0 }
+
+  -- an induction's result, and its turns, none of which was spent before
+  abbrev pub IsSolvedFor : Result (Option Induced) NoMemory × Budget → Type 0
+  IsSolvedFor (found, turns) = IsInductionResult m ask.weight ask.rows (record { limit = ask.turns; spent = 0 }) turns found
+
+  -- what makes an induction with the turns asked
+  pub record IsSolver (pre : Budget → Type 0) (post : Budget → Result (Option Induced) NoMemory × Budget → Type 0) : Type 0 where
+    pub may_solve : pre (record { limit = ask.turns; spent = 0 })
+    pub solves : (result : Result (Option Induced) NoMemory × Budget) → post (record { limit = ask.turns; spent = 0 }) result → IsSolvedFor result
 
   -- what is found, or plans to be bettered with the turns that are left
   abbrev pub IsStepOf : Step → Type 0

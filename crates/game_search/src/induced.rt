@@ -1,19 +1,18 @@
 //! Induction: serial searches of the root first, then plans that floats propose and exact sums certify.
 
-ghost use Rattle.std.specs.Prelude.{◌≡◌, ◌≤◌, ◌⊎◌, ◌-ℤ◌, ◌<ℤ◌, ◌≤ℤ◌, true, unsigned_abs, MatchBool, IfOk};
+ghost use Rattle.std.specs.Prelude.{◌≡◌, ◌≤◌, ◌⊎◌, ◌-ℤ◌, ◌<ℤ◌, ◌≤ℤ◌, true, unsigned_abs, MatchBool, IfOk, IfSome};
 ghost use Rattle.sim_game.specs.Resolution.{IsFineWeight};
 ghost use Rattle.fields.specs.Ranges.{IsAskInRange};
 ghost use Rattle.fields.specs.declared.ask.SearchMethod.TheVariants.{Induction};
 ghost use Rattle.plan_book.specs.Sheets.{root_bound};
-ghost use Rattle.induction.specs.Induced.{IsSheetOf};
-ghost use Rattle.induction.specs.Spent.{HasSpentEach};
+ghost use Rattle.induction.specs.Induced.{IsInduced, IsSheetOf};
 ghost use Rattle.lazy_workers.specs.Findings.{found_gap, IsFoundPlan, IsFoundGame};
-ghost use Rattle.game_search.specs.Steps.{found_with, IsPureFound, AreFoundPlans, IsStepOf};
+ghost use Rattle.game_search.specs.Steps.{found_with, IsPureFound, AreFoundPlans, IsSolvedFor, IsSolver, IsStepOf};
 
 use crate::plan::{BothPlans, Plan};
 use crate::step::{Left, Step};
 use fields::Ask;
-use induction::solve;
+use induction::Induced;
 use lazy_workers::{Budgets, Found, find_alone};
 use matrix_game::Turns;
 use oracle_search::Gate;
@@ -22,23 +21,25 @@ use seq::Seq;
 use sim_game::{Game, NoMemory, Side};
 use std::alloc::Global;
 
-/// Searches the game by pure plans of the root, and where these are not close enough by induction.
-pub(crate) fn induce<G: Game, T: Gate>(
-    alloc: Global,
-    g: G,
-    ask: &Ask,
-    gate: &T,
-) -> Result<Step, NoMemory>
+/// Searches the game by pure plans of the root, and where these are not close enough by an induction, which the function
+/// makes with the turns that it is given.
+pub(crate) fn induce<
+    G: Game,
+    T: Gate,
+    F: FnOnce(Turns) -> (Result<Option<Induced>, NoMemory>, Turns),
+>(alloc: Global, g: G, ask: &Ask, gate: &T, solve: F) -> Result<Step, NoMemory>
     requires ask { IsAskInRange ask.now }
     requires fine { IsFineWeight (G.model g) ask.now.weight }
     requires search { ask.now.search ≡ Induction }
+    requires solve { IsSolver (G.model g) ask.now (F.pre solve) (F.post solve) }
     ensures { IfOk result (IsStepOf (G.model g) ask.now) }
 {
     let pure = pure_plans(alloc, g, ask, gate)?;
     if is_near(pure.lower, pure.upper, ask.gap) {
         Ok(Step::Found(unspent(alloc, g, ask, pure)?))
     } else {
-        proposed(alloc, g, ask, pure)
+        let (found, turns) = solve(Turns::new(ask.turns));
+        proposed(alloc, g, ask, pure, found, turns)
     }
 }
 
@@ -68,12 +69,21 @@ fn unspent<G: Game>(alloc: Global, g: G, ask: &Ask, pure: Found) -> Result<Found
     Ok(found)
 }
 
-/// The plans of an induction, or the pure ones where these are better; and what is left to do if they are too far apart.
-fn proposed<G: Game>(alloc: Global, g: G, ask: &Ask, pure: Found) -> Result<Step, NoMemory>
+/// The plans of an induction that took turns, or the pure ones where these are better; and what is left to do if they are
+/// too far apart.
+fn proposed<G: Game>(
+    alloc: Global,
+    g: G,
+    ask: &Ask,
+    pure: Found,
+    found: Result<Option<Induced>, NoMemory>,
+    turns: Turns,
+) -> Result<Step, NoMemory>
     requires ask { IsAskInRange ask.now }
     requires search { ask.now.search ≡ Induction }
     requires pure { IsPureFound (G.model g) ask.now pure }
     requires far { ask.now.gap <ℤ found_gap pure }
+    requires solved { IsSolvedFor (G.model g) ask.now (found, turns) }
     ensures { IfOk result (IsStepOf (G.model g) ask.now) }
 {
     let Found {
@@ -94,8 +104,7 @@ fn proposed<G: Game>(alloc: Global, g: G, ask: &Ask, pure: Found) -> Result<Step
             bound: upper,
         },
     };
-    let mut turns = Turns::new(ask.turns);
-    let plans = better_plans(alloc, g, ask, pure, &mut turns);
+    let plans = better_plans(g, ask, pure, found, turns.spent());
     let budgets = Budgets::begun(alloc, ask, turns)?;
     if is_enough(plans.one.bound, plans.two.bound, ask.gap, resolution) {
         Ok(Step::Found(found_of(alloc, plans, resolution, budgets)))
@@ -104,22 +113,19 @@ fn proposed<G: Game>(alloc: Global, g: G, ask: &Ask, pure: Found) -> Result<Step
     }
 }
 
-/// The plans that an induction finds with the turns of one worker, or those given where these are better.
+/// The plans that an induction found after so many turns, or those given where these are better.
 fn better_plans<G: Game>(
-    alloc: Global,
     g: G,
     ask: &Ask,
     pure: BothPlans,
-    turns: &mut Turns,
+    found: Result<Option<Induced>, NoMemory>,
+    spent: u64,
 ) -> BothPlans
     requires ask { IsAskInRange ask.now }
     requires pure { AreFoundPlans (G.model g) ask.now (Unit {0}) pure }
-    ensures plans { AreFoundPlans (G.model g) ask.now (turns.new.spent ≡ 0) result }
-    ensures spent { HasSpentEach (G.model g) 3 turns.old turns.new }
-    ensures within { turns.new.spent ≤ turns.new.limit }
+    requires sheets { IfOk found (λ some. IfSome some (IsInduced (G.model g) ask.now.weight)) }
+    ensures { AreFoundPlans (G.model g) ask.now (spent ≡ 0) result }
 {
-    let found = solve(alloc, g, ask.weight, u64::from(ask.rows), turns);
-    let spent = turns.spent();
     match found {
         Ok(Some(found)) => BothPlans {
             one: chosen(g, Side::One, ask, spent, pure.one, found.one, found.lower),

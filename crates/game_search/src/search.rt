@@ -5,12 +5,13 @@ ghost use Rattle.sim_game.specs.Resolution.{IsFineWeight};
 ghost use Rattle.fields.specs.Ranges.{IsAskInRange};
 ghost use Rattle.fields.specs.declared.ask.SearchMethod.TheVariants.{Induction};
 ghost use Rattle.lazy_workers.specs.Findings.{IsFoundFor, IsFoundGame};
-ghost use Rattle.game_search.specs.Steps.{IsUnfinished};
+ghost use Rattle.game_search.specs.Steps.{IsSolvedFor, IsUnfinished, IsWhole};
 
 use crate::induced::induce;
 use crate::plan::{BothPlans, Plan};
 use crate::step::{Left, Step};
 use fields::{Ask, SearchMethod};
+use induction::{Induced, solve, solve_alone};
 use lazy_workers::{Budgets, Found};
 use matrix_game::Turns;
 use oracle_search::Gate;
@@ -39,14 +40,26 @@ where
             let found = lazy_workers::find(rt, alloc, g, ask, budgets, gate)?;
             Ok(whole(g, ask, found))
         }
-        SearchMethod::Induction => match induce(alloc, g, ask, gate)? {
-            Step::Found(found) => Ok(found),
-            Step::Left(Left { plans, budgets }) => {
-                let most = budgets.most;
-                let found = lazy_workers::find(rt, alloc, g, ask, budgets, gate)?;
-                Ok(bettered(g, ask, plans, found, most))
+        SearchMethod::Induction => {
+            let by_workers = |turns: Turns| -> (Result<Option<Induced>, NoMemory>, Turns)
+                requires whole { IsWhole (G.model g) ask.now turns }
+                requires ask { IsAskInRange ask.now }
+                ensures { IsSolvedFor (G.model g) ask.entry.now result }
+            {
+                let mut turns = turns;
+                let rows = u64::from(ask.rows);
+                let found = solve(rt, alloc, g, ask.weight, rows, ask.workers, &mut turns);
+                (found, turns)
+            };
+            match induce(alloc, g, ask, gate, by_workers)? {
+                Step::Found(found) => Ok(found),
+                Step::Left(Left { plans, budgets }) => {
+                    let most = budgets.most;
+                    let found = lazy_workers::find(rt, alloc, g, ask, budgets, gate)?;
+                    Ok(bettered(g, ask, plans, found, most))
+                }
             }
-        },
+        }
     }
 }
 
@@ -67,14 +80,25 @@ pub fn find_alone<G: Game, T: Gate>(
             let found = lazy_workers::find_alone(alloc, g, ask, budgets, gate)?;
             Ok(whole(g, ask, found))
         }
-        SearchMethod::Induction => match induce(alloc, g, ask, gate)? {
-            Step::Found(found) => Ok(found),
-            Step::Left(Left { plans, budgets }) => {
-                let most = budgets.most;
-                let found = lazy_workers::find_alone(alloc, g, ask, budgets, gate)?;
-                Ok(bettered(g, ask, plans, found, most))
+        SearchMethod::Induction => {
+            let alone = |turns: Turns| -> (Result<Option<Induced>, NoMemory>, Turns)
+                requires whole { IsWhole (G.model g) ask.now turns }
+                requires ask { IsAskInRange ask.now }
+                ensures { IsSolvedFor (G.model g) ask.entry.now result }
+            {
+                let mut turns = turns;
+                let found = solve_alone(alloc, g, ask.weight, u64::from(ask.rows), &mut turns);
+                (found, turns)
+            };
+            match induce(alloc, g, ask, gate, alone)? {
+                Step::Found(found) => Ok(found),
+                Step::Left(Left { plans, budgets }) => {
+                    let most = budgets.most;
+                    let found = lazy_workers::find_alone(alloc, g, ask, budgets, gate)?;
+                    Ok(bettered(g, ask, plans, found, most))
+                }
             }
-        },
+        }
     }
 }
 

@@ -19,9 +19,11 @@ use crate::counts::{choose, deals, spread};
 use crate::hands::{hands_key, play, won_by};
 use crate::places::{deal_number, part_number};
 use crate::sets::{number_at, size, take_out};
+use crate::transitions::{NextDeals, NextDraws, Part, add_deals, parts_without};
 use crate::{Goofspiel, GoofspielError, Pay, Setting, State};
-use sim_game::{CHANCE, Game, Side};
+use sim_game::{CHANCE, Game, Side, Transition};
 use state_key::put;
+use std::alloc::AllocError;
 
 /// The hands and the score, the places of the prizes that are not drawn yet, packed, and the place of the prize that
 /// is bid for, 0 at an end. In the packed places the lowest bit stands for place 0, and that of each place that is
@@ -150,6 +152,24 @@ impl GoofspielDrawn {
             sum += self.place_count() * (self.sets(left) * deals(choose(count, left), far));
         }
         sum
+    }
+}
+
+impl GoofspielDrawn {
+    /// The draws after a state's turns: the place of each as a bit, and the number of the set of places without it. The
+    /// last turn has one draw, of place 0.
+    fn draw_parts(&self, s: DrawnState) -> [Part; 13]
+        requires { s.undrawn < 2 ^ 13 }
+    {
+        let all = self.root().undrawn;
+        let mut parts = parts_without(all, s.undrawn);
+        if s.undrawn == 0 {
+            parts[0] = Part {
+                bit: 1,
+                number: part_number(all, 0),
+            };
+        }
+        parts
     }
 }
 
@@ -295,6 +315,29 @@ impl Game for GoofspielDrawn {
             undrawn,
             place,
         }
+    }
+
+    fn add_transitions(
+        &self,
+        s: DrawnState,
+        transitions: &mut Vec<Transition>,
+    ) -> Result<(), AllocError> {
+        if self.rank(s) == 0 {
+            return Ok(());
+        }
+        let left = self.rank(s) - 1;
+        let prize = self.setting.prizes[s.place as usize];
+        let deals = NextDeals::new(&self.setting, left, self.spread(), s.hands.score, prize);
+        let draws = NextDraws {
+            first: self.deals_below(left),
+            sets: self.sets(left),
+            places: self.place_count(),
+            chance: CHANCE / 1.max(size(s.undrawn)),
+            parts: self.draw_parts(s),
+        };
+        let ones = parts_without(self.setting.one, s.hands.one);
+        let twos = parts_without(self.setting.two, s.hands.two);
+        add_deals(&ones, &twos, &deals, &draws, transitions)
     }
 
     ghost lawful = { λ game. drawn_is_game game.setting game.valid };

@@ -21,6 +21,7 @@ mod places;
 mod position;
 mod refusals;
 mod sets;
+mod transitions;
 
 use counts::{choose, deals, pairs_below, spread};
 pub use drawn::{
@@ -34,8 +35,10 @@ use position::{
     check_cards, check_lengths, check_prizes, check_score, hand_of, prize_array, prize_sum,
 };
 use sets::{number_at, size};
-use sim_game::{CHANCE, Game, Side};
+use sim_game::{CHANCE, Game, Side, Transition};
+use std::alloc::AllocError;
 use thiserror::Error;
+use transitions::{NextDeals, NextDraws, add_deals, parts_without};
 
 /// What One gets; Two gets its negative.
 #[derive(Clone, Copy, PartialEq, Eq, Debug)]
@@ -345,6 +348,23 @@ impl Game for Goofspiel {
     #[inline]
     fn drawn(&self, s: State, a: u32, b: u32, _d: u32) -> State {
         self.next(s, a, b)
+    }
+
+    fn add_transitions(
+        &self,
+        s: State,
+        transitions: &mut Vec<Transition>,
+    ) -> Result<(), AllocError> {
+        if self.rank(s) == 0 {
+            return Ok(());
+        }
+        let left = self.rank(s) - 1;
+        let first = self.deals_below(left);
+        let far = self.spread(left);
+        let deals = NextDeals::new(&self.setting, left, far, s.score, self.prize(s));
+        let ones = parts_without(self.setting.one, s.one);
+        let twos = parts_without(self.setting.two, s.two);
+        add_deals(&ones, &twos, &deals, &NextDraws::known(first), transitions)
     }
 
     ghost lawful = { λ game. goofspiel_is_game game.setting game.valid };

@@ -3,7 +3,9 @@ pub mod RowLemmas
 pub mod CertifyLemmas
 pub mod UndecidedLemmas
 pub mod FollowLemmas
-pub mod ValueLemmas
 pub mod SpentLemmas
+mod BothLemmas
 mod KeyLemmas
+mod ListedLemmas
 mod PlaceLemmas
+mod SolvedLemmas

@@ -56,7 +56,7 @@ no_memory Many b e is = subst (IsReason Many b) (sym is) tt
 
 -- ---- three times
 module _ {S : Type 0} (m : GameModel S) where
-  nothing : HasUndecided m 0
+  pub nothing : HasUndecided m 0
   nothing = (none_known m m.key (λ key. false) 0 refl).undecided
 
   pub each_one : (i : ℕ) (a b : Budget) → HasUndecided m i → HasSpent 0 i a b → HasSpentEach m 3 a b

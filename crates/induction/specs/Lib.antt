@@ -1,4 +1,5 @@
 pub mod Undecided
+pub mod Listed
 pub mod Planned
 pub mod Certified
 pub mod Spent

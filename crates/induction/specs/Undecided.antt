@@ -18,9 +18,3 @@ pub record HasUndecided {S : Type 0} (m : GameModel S) (count : ℕ) : Type 0 wh
 pub record KnowsUndecided {S : Type 0} (m : GameModel S) (number : S → ℕ) (known : ℕ → Bool) (count : ℕ) : Type 0 where
   pub undecided : HasUndecided m count
   pub each : (i : ℕ) → i < count → known (number (undecided.states i)) ≡ true
-
--- so many undecided states are known, no more than there may be, and of states of higher rank those that were
-pub record IsExplored {S : Type 0} (m : GameModel S) (number : S → ℕ) (s : S) (rows : ℕ) (old new : ℕ → Bool) (count : ℕ) : Type 0 where
-  pub known : KnowsUndecided m number new count
-  pub few : count ≤ rows
-  pub others : (t : S) → Reachable m t → m.rank s < m.rank t → new (number t) ≡ old (number t)

@@ -8,13 +8,14 @@ mod follow;
 mod gave_up;
 mod induced;
 mod keys;
+mod listed;
 mod places;
 mod sheets;
 mod values;
 
 pub use follow::{Proposer, plan_from};
 pub use gave_up::GaveUp;
-pub use induced::{Induced, solve};
+pub use induced::{Induced, solve, solve_alone};
 use seq::Seq;
 pub use sheets::certify;
 

@@ -117,4 +117,26 @@ impl PlaceTable {
             }
         }
     }
+
+    /// Puts another word at a place that has one.
+    pub(crate) fn replace(&mut self, place: u64, word: u64)
+        requires { 1 ≤ word }
+    {
+        if place < self.listed.len() as u64 {
+            self.listed[place as usize] = word;
+        } else {
+            self.replace_other(place, word);
+        }
+    }
+
+    // The same behind the list.
+    fn replace_other(&mut self, place: u64, word: u64)
+        requires { 1 ≤ word }
+    {
+        if let Some(number) = self.keys.place(place) {
+            if number < self.words.len() {
+                self.words[number] = word;
+            }
+        }
+    }
 }

@@ -1,36 +1,36 @@
-//! Values of states by linear programs, children first, and the weights that they propose. Nothing is promised of how near
-//! the values are.
+//! Values of states by linear programs, those of lower rank first, and the weights that they propose. Nothing is promised of
+//! how near the values are.
 
-ghost use Rattle.std.specs.Prelude.{◌≡◌, ℕ, ◌<◌, ◌≤◌, ◌+◌, ◌*◌, length, cond, true, false, nat_eq, IfOk, IfErr, OnOk};
+ghost use Rattle.std.specs.Prelude.{◌≡◌, ℕ, ◌+◌, ◌<◌, ◌≤◌, ◌*◌, length, All, IfErr, IfOk, OnOk};
 ghost use Rattle.sim_game.specs.Model.{Reachable};
-ghost use Rattle.sim_game.specs.Sides.{other_side};
 ghost use Rattle.plan_book.specs.Plans.{AreWeights};
-ghost use Rattle.matrix_game.specs.Budget.{left_of, after_one_turn};
-ghost use Rattle.induction.specs.Places.{is_put, place_word};
+ghost use Rattle.matrix_game.specs.Budget.{left_of};
+ghost use Rattle.induction.specs.Listed.{GoesOn, HasValues};
 ghost use Rattle.induction.specs.Spent.{HasSpent, IsReason, IsStopped};
-ghost use Rattle.induction.specs.Undecided.{IsUndecided, HasUndecided, KnowsUndecided, IsExplored};
+ghost use Rattle.induction.specs.Undecided.{HasUndecided};
 
-use crate::decided::is_decided;
+use crate::listed::list_states;
 use crate::places::PlaceTable;
 use crate::{GaveUp, Proposer};
 use matrix_game::{FloatSolver, Turns};
-use plan_book::children;
-use sim_game::{CHANCE, Game, Side};
+use sim_game::{CHANCE, Game, NoMemory, Side, Transition};
 use std::alloc::{AllocError, Global};
 use std::num::{f64_from_bits_with_nan, f64_to_bits_with_nan};
 
-// One for each move that a side may have.
-const ONES: [u32; 64] = [1; 64];
-
-/// The values that are known, and the turns that programs take.
+/// Values that are being made, and the turns that programs take.
 #[derive(Drop)]
 pub(crate) struct Values {
     // The bits of each value, by the place of its state.
     known: PlaceTable,
-    // How many there are.
-    count: u64,
     // How many states may be given values.
     rows: u64,
+    turns: Turns,
+}
+
+/// What proposes weights by values that are made.
+#[derive(Drop)]
+pub(crate) struct Guide<'a> {
+    known: &'a PlaceTable,
     turns: Turns,
     stage: Stage,
 }
@@ -38,33 +38,15 @@ pub(crate) struct Values {
 /// What states are solved in, kept from one to the next.
 #[derive(Drop)]
 pub(crate) struct Stage {
+    transitions: Vec<Transition>,
+    // The mean payoff of each pair of moves to One, those of One's first move first.
     cells: Vec<f64>,
+    // The same to Two, those of Two's first move first.
+    turned: Vec<f64>,
     solver: FloatSolver,
 }
 
-impl Stage {
-    /// That of no state yet.
-    pub(crate) fn new(alloc: Global) -> Result<Stage, AllocError> {
-        Ok(Stage {
-            cells: Vec::new(alloc),
-            solver: FloatSolver::new(alloc)?,
-        })
-    }
-}
-
-/// The value that a state was given, else the payoff of an end, else the least that One can still get, which is the
-/// value of a decided state.
-#[inline]
-fn value<G: Game>(known: &PlaceTable, g: G, s: G::State) -> f64
-    requires { Reachable (G.model g) s }
-{
-    match known.word(g.place(s)) {
-        0 => decided_value(g, s),
-        bits => f64_from_bits_with_nan(bits),
-    }
-}
-
-/// The payoff of an end, else the least that One can still get.
+/// The payoff of an end, else the least that One can still get, which is the value of a decided state.
 fn decided_value<G: Game>(g: G, s: G::State) -> f64
     requires { Reachable (G.model g) s }
 {
@@ -75,83 +57,214 @@ fn decided_value<G: Game>(g: G, s: G::State) -> f64
     }
 }
 
-/// A number as a side sees it.
-fn seen_by(side: Side, number: f64) -> f64 {
-    match side {
-        Side::One => number,
-        Side::Two => -number,
-    }
-}
-
-/// The mean, over the draws of an own move and a reply, of the turn's reward with the value of the state that follows, as the
-/// side sees it.
-fn cell<G: Game>(known: &PlaceTable, g: G, side: Side, s: G::State, own: u32, reply: u32) -> f64
+/// The mean, over the draws of a pair of moves, of the turn's reward with the value of the state that follows. The next
+/// transitions are those of the pair.
+#[inline]
+fn cell<G: Game>(
+    known: &PlaceTable,
+    g: G,
+    s: G::State,
+    moves: (u32, u32),
+    transitions: &[Transition],
+    next: &mut usize,
+) -> f64
     requires reachable { Reachable (G.model g) s }
-    requires own { own < (G.model g).moves side s }
-    requires reply { reply < (G.model g).moves (other_side side) s }
+    requires one { moves.0 < (G.model g).moves Side.One s }
+    requires two { moves.1 < (G.model g).moves Side.Two s }
 {
-    let a = side.move_of_one(own, reply);
-    let b = side.move_of_two(own, reply);
     let mut mean = 0.0;
-    for d in 0..g.draws(s, a, b) {
-        let next = value(known, g, g.drawn(s, a, b, d));
-        let number = next + f64::from(g.reward(s, a, b, d));
-        mean += number * (f64::from(g.chance(s, a, b, d)) / f64::from(CHANCE));
+    for d in 0..g.draws(s, moves.0, moves.1) {
+        if let Some(transition) = transitions.get(*next) {
+            let value = match known.word(transition.place) {
+                0 => decided_value(g, g.drawn(s, moves.0, moves.1, d)),
+                bits => f64_from_bits_with_nan(bits),
+            };
+            let number = value + f64::from(transition.reward);
+            mean += number * (f64::from(transition.chance) / f64::from(CHANCE));
+        }
+        *next = next.wrapping_add(1);
     }
-    seen_by(side, mean)
+    mean
 }
 
-/// Adds the cells of a side's move, as the side sees them.
-fn add_row<G: Game>(
-    known: &PlaceTable,
-    g: G,
-    side: Side,
-    s: G::State,
-    own: u32,
-    cells: &mut Vec<f64>,
-) -> Result<(), AllocError>
-    requires reachable { Reachable (G.model g) s }
-    requires own { own < (G.model g).moves side s }
-    ensures more { OnOk result
-        (length cells.new.items ≡ length cells.old.items + (G.model g).moves (other_side side) s) }
-{
-    for reply in 0..g.moves(side.other(), s) {
-        cells.push(cell(known, g, side, s, own, reply))?;
+impl Stage {
+    /// That of no state yet.
+    pub(crate) fn new(alloc: Global) -> Result<Stage, AllocError> {
+        Ok(Stage {
+            transitions: Vec::new(alloc),
+            cells: Vec::new(alloc),
+            turned: Vec::new(alloc),
+            solver: FloatSolver::new(alloc)?,
+        })
     }
-    Ok(())
+
+    /// Takes on the cells of a state.
+    fn read<G: Game>(&mut self, known: &PlaceTable, g: G, s: G::State) -> Result<(), AllocError>
+        requires { Reachable (G.model g) s }
+        ensures { OnOk result
+            (length self.new.cells.items ≡ (G.model g).moves Side.One s * (G.model g).moves Side.Two s) }
+    {
+        self.transitions.clear();
+        g.add_transitions(s, &mut self.transitions)?;
+        self.cells.clear();
+        let mut next: usize = 0;
+        for a in 0..g.moves(Side::One, s) {
+            for b in 0..g.moves(Side::Two, s) {
+                let mean = cell(known, g, s, (a, b), &self.transitions, &mut next);
+                self.cells.push(mean)?;
+            }
+        }
+        Ok(())
+    }
+
+    /// Takes on the cells as Two sees them.
+    fn turn(&mut self, rows: u32, cols: u32) -> Result<(), AllocError>
+        ensures { OnOk result (length self.new.turned.items ≡ cols * rows) }
+    {
+        self.turned.clear();
+        for b in 0..cols {
+            for a in 0..rows {
+                let place = a as usize * cols as usize + b as usize;
+                let number = self.cells.get(place).copied().unwrap_or(0.0);
+                self.turned.push(-number)?;
+            }
+        }
+        Ok(())
+    }
+
+    /// The value of a state, by those that are known. The turn that it takes is the caller's to spend.
+    fn value<G: Game>(&mut self, known: &PlaceTable, g: G, s: G::State) -> Result<f64, AllocError>
+        requires { GoesOn (G.model g) s }
+    {
+        self.read(known, g, s)?;
+        let rows = g.moves(Side::One, s) as usize;
+        let cols = g.moves(Side::Two, s) as usize;
+        let turns = &mut Turns::new(1);
+        Ok(self.solver.value(rows, cols, &self.cells, turns))
+    }
 }
 
-/// Takes on the cells of a state, as the side sees them, whose moves are the rows.
-fn read<G: Game>(
-    known: &PlaceTable,
+/// The values of states, one for each, by those that are known.
+pub(crate) fn values_of<G: Game>(
+    alloc: Global,
     g: G,
-    side: Side,
-    s: G::State,
-    cells: &mut Vec<f64>,
-) -> Result<(), AllocError>
-    requires { Reachable (G.model g) s }
-    ensures { OnOk result
-        (length cells.new.items ≡ (G.model g).moves side s * (G.model g).moves (other_side side) s) }
+    known: &PlaceTable,
+    states: &[G::State],
+) -> Result<Vec<f64>, NoMemory>
+    requires { All (GoesOn (G.model g)) states.now }
 {
-    cells.clear();
-    for own in 0..g.moves(side, s) {
-        add_row(known, g, side, s, own, cells)?;
+    let mut stage = Stage::new(alloc)?;
+    let mut values = Vec::with_capacity(alloc, states.len())?;
+    for s in states {
+        values.push(stage.value(known, g, *s)?)?;
+    }
+    Ok(values)
+}
+
+/// The states of a rank, no more than so many.
+fn take_rank<G: Game>(
+    g: G,
+    states: &[G::State],
+    rank: u32,
+    most: usize,
+    chosen: &mut Vec<G::State>,
+) -> Result<(), AllocError>
+    requires { All (GoesOn (G.model g)) states.now }
+    ensures each { OnOk result (All (GoesOn (G.model g)) chosen.new.items) }
+    ensures few { OnOk result (length chosen.new.items ≤ most) }
+{
+    chosen.clear();
+    for s in states {
+        if g.rank(*s) == rank && chosen.len() < most {
+            chosen.push(*s)?;
+        }
     }
     Ok(())
 }
 
 impl Values {
-    /// No values yet, for no more states than `rows`. Each value and each proposal takes a turn.
-    pub(crate) fn new(known: PlaceTable, rows: u64, turns: Turns, stage: Stage) -> Values
-        ensures known { result.known ≡ known }
-        ensures none { result.count ≡ 0 }
+    /// No values yet, for no more states than `rows`. Each takes a turn.
+    pub(crate) fn new(known: PlaceTable, rows: u64, turns: Turns) -> Values
         ensures rows { result.rows ≡ rows }
         ensures turns { result.turns ≡ turns }
     {
-        Values {
+        Values { known, rows, turns }
+    }
+
+    /// The values, and the turns with those that are spent.
+    pub(crate) fn into_parts(self) -> (PlaceTable, Turns)
+        ensures { result.1 ≡ self.turns }
+    {
+        let Values { known, turns, .. } = self;
+        (known, turns)
+    }
+
+    /// Gives values to states, for a turn each, as far as there are turns.
+    fn give<G: Game, F: Fn(&PlaceTable, &[G::State]) -> Result<Vec<f64>, NoMemory>>(
+        &mut self,
+        g: G,
+        states: &[G::State],
+        values_of: &F,
+    ) -> Result<(), GaveUp>
+        requires states { All (GoesOn (G.model g)) states.now }
+        requires may_call { (known : _) (some : _) → All (GoesOn (G.model g)) some.now
+            → F.pre values_of.now known some }
+        ensures rows { self.new.rows ≡ self.old.rows }
+        ensures spent { HasSpent 0 (length states.now) self.old.turns self.new.turns }
+        ensures err { IfErr result (IsReason ⊥ self.new.turns) }
+    {
+        let left = self.turns.left();
+        let count = if left < states.len() as u64 {
+            left as usize
+        } else {
+            states.len()
+        };
+        let found = values_of(&self.known, &states[..count])?;
+        self.turns.split(count as u64);
+        for place in 0..count {
+            let value = found.get(place).copied().unwrap_or(0.0);
+            let bits = f64_to_bits_with_nan(value).max(1);
+            self.known.replace(g.place(states[place]), bits);
+        }
+        if count < states.len() {
+            return Err(GaveUp::Spent);
+        }
+        Ok(())
+    }
+}
+
+/// Gives values to the undecided states of the game, those of lower rank first.
+pub(crate) fn value_states<G: Game, F: Fn(&PlaceTable, &[G::State]) -> Result<Vec<f64>, NoMemory>>(
+    alloc: Global,
+    g: G,
+    values: &mut Values,
+    values_of: &F,
+) -> Result<(), GaveUp>
+    requires may_call { (known : _) (some : _) → All (GoesOn (G.model g)) some.now
+        → F.pre values_of.now known some }
+    ensures rows { values.new.rows ≡ values.old.rows }
+    ensures valued { OnOk result (HasValues (G.model g) values.old.rows values.old.turns values.new.turns) }
+    ensures err { IfErr result (IsStopped (G.model g) (HasUndecided (G.model g) (values.old.rows + 1))
+        0 values.old.turns values.new.turns) }
+{
+    let states = list_states(alloc, g, values.rows, &mut values.known)?;
+    let mut missing = states.len();
+    let mut chosen = Vec::new(alloc);
+    for below in 0..g.rank(g.root()) {
+        take_rank(g, &states, below + 1, missing, &mut chosen)?;
+        values.give(g, &chosen, values_of)?;
+        missing -= chosen.len();
+    }
+    Ok(())
+}
+
+impl<'a> Guide<'a> {
+    /// Proposals by these values. Each takes a turn.
+    pub(crate) fn new(known: &'a PlaceTable, turns: Turns, stage: Stage) -> Guide<'a>
+        ensures { result.turns ≡ turns }
+    {
+        Guide {
             known,
-            count: 0,
-            rows,
             turns,
             stage,
         }
@@ -159,74 +272,15 @@ impl Values {
 
     /// The turns, with those that are spent.
     pub(crate) fn into_turns(self) -> Turns
-        ensures { result ≡ self.turns }
+        ensures { result ≡ self.entry.turns }
     {
-        let Values { turns, .. } = self;
+        let Guide { turns, .. } = self;
         turns
     }
-
-    /// Gives a value to a state that has none, by those below it, for one turn.
-    fn settle<G: Game>(&mut self, alloc: Global, g: G, s: G::State) -> Result<(), GaveUp>
-        requires reachable { Reachable (G.model g) s }
-        requires goes_on { 1 ≤ (G.model g).rank s }
-        requires new { is_put self.old.known ((G.numbering g).place s) ≡ false }
-        requires few { self.old.count < self.old.rows }
-        ensures known { OnOk result ((place : ℕ) → is_put self.new.known place
-            ≡ cond (nat_eq ((G.numbering g).place s) place) true (is_put self.old.known place)) }
-        ensures more { OnOk result (self.new.count ≡ self.old.count + 1) }
-        ensures rows { self.new.rows ≡ self.old.rows }
-        ensures spent { HasSpent 0 1 self.old.turns self.new.turns }
-        ensures err { IfErr result (IsReason ⊥ self.new.turns) }
-    {
-        if self.turns.left() == 0 {
-            return Err(GaveUp::Spent);
-        }
-        read(&self.known, g, Side::One, s, &mut self.stage.cells)?;
-        let rows = g.moves(Side::One, s) as usize;
-        let cols = g.moves(Side::Two, s) as usize;
-        let cells = &self.stage.cells;
-        let value = self.stage.solver.value(rows, cols, cells, &mut self.turns);
-        let bits = f64_to_bits_with_nan(value).max(1);
-        self.known.put(alloc, g.place(s), bits)?;
-        self.count += 1;
-        Ok(())
-    }
 }
 
-/// Gives values to a state and to all that follow it, as far as they are undecided and have none.
-pub(crate) fn explore<G: Game>(
-    alloc: Global,
-    g: G,
-    s: G::State,
-    values: &mut Values,
-) -> Result<(), GaveUp>
-    requires reachable { Reachable (G.model g) s }
-    requires known { KnowsUndecided (G.model g) (G.numbering g).place
-        (is_put values.old.known) values.old.count }
-    requires few { values.old.count ≤ values.old.rows }
-    ensures rows { values.new.rows ≡ values.old.rows }
-    ensures explored { OnOk result (IsExplored (G.model g) (G.numbering g).place s values.old.rows
-        (is_put values.old.known) (is_put values.new.known) values.new.count) }
-    ensures spent { OnOk result (HasSpent values.old.count values.new.count values.old.turns values.new.turns) }
-    ensures err { IfErr result (IsStopped (G.model g) (HasUndecided (G.model g) (values.old.rows + 1))
-        values.old.count values.old.turns values.new.turns) }
-{
-    if values.known.word(g.place(s)) != 0 || is_decided(g, s) {
-        return Ok(());
-    }
-    let below = children(alloc, g, Side::One, ONES.as_slice(), s)?;
-    for child in &below {
-        explore(alloc, g, *child, values)?;
-    }
-    if values.count >= values.rows {
-        return Err(GaveUp::TooManyStates);
-    }
-    values.settle(alloc, g, s)?;
-    Ok(())
-}
-
-impl<G: Game> Proposer<G> for Values {
-    ghost turns = { λ v. v.turns };
+impl<'a, G: Game> Proposer<G> for Guide<'a> {
+    ghost turns = { λ guide. guide.turns };
 
     fn propose(
         &mut self,
@@ -239,14 +293,27 @@ impl<G: Game> Proposer<G> for Values {
         if self.turns.left() == 0 {
             return Err(GaveUp::Spent);
         }
-        read(&self.known, g, side, s, &mut self.stage.cells)?;
-        let rows = g.moves(side, s) as usize;
-        let cols = g.moves(side.other(), s) as usize;
-        let cells = &self.stage.cells;
-        let weights = self
-            .stage
-            .solver
-            .weights(alloc, rows, cols, cells, total, &mut self.turns)?;
+        let stage = &mut self.stage;
+        stage.read(self.known, g, s)?;
+        let rows = g.moves(Side::One, s);
+        let cols = g.moves(Side::Two, s);
+        let turns = &mut self.turns;
+        let (own, other) = (rows as usize, cols as usize);
+        let weights = match side {
+            Side::One => {
+                let cells = &stage.cells;
+                stage
+                    .solver
+                    .weights(alloc, own, other, cells, total, turns)?
+            }
+            Side::Two => {
+                stage.turn(rows, cols)?;
+                let cells = &stage.turned;
+                stage
+                    .solver
+                    .weights(alloc, other, own, cells, total, turns)?
+            }
+        };
         Ok(weights)
     }
 }

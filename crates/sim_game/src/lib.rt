@@ -12,6 +12,15 @@ mod sides;
 pub use sides::{end_bound, opening_bound, state_bound, turn_reward};
 use std::alloc::{AllocError, AllocFailed};
 
+/// What follows a pair of moves and a draw: the place of the next state, what One gets by the turn, and the weight of the
+/// draw.
+#[derive(Clone, Copy, PartialEq, Eq, Debug)]
+pub struct Transition {
+    pub place: u64,
+    pub reward: i32,
+    pub chance: u32,
+}
+
 /// How many parts a payoff of 1 has in a bound.
 pub const SCALE: i64 = 1000000;
 
@@ -172,6 +181,30 @@ pub trait Game: Copy {
         requires two { b < (model self.now).moves Side.Two s }
         requires draw { d < (model self.now).draws s a b }
         ensures { result ≡ (model self.now).drawn s a b d };
+
+    /// Adds the transitions of a state: those of One's first move first, in the order of Two's moves, then of the draws. A
+    /// game may have a faster way of its own. Proposals alone read them: nothing is promised of them, and no bound rests on
+    /// them.
+    fn add_transitions(
+        &self,
+        s: Self::State,
+        transitions: &mut Vec<Transition>,
+    ) -> Result<(), AllocError>
+        requires { Reachable (model self.now) s }
+    {
+        for a in 0..self.moves(Side::One, s) {
+            for b in 0..self.moves(Side::Two, s) {
+                for d in 0..self.draws(s, a, b) {
+                    transitions.push(Transition {
+                        place: self.place(self.drawn(s, a, b, d)),
+                        reward: self.reward(s, a, b, d),
+                        chance: self.chance(s, a, b, d),
+                    })?;
+                }
+            }
+        }
+        Ok(())
+    }
 
     ghost lawful: { (g : Self) → IsGame (model g) };
 

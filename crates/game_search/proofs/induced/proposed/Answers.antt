@@ -2,7 +2,7 @@ use Rattle.std.proofs.Common.{rules, ◌≡◌, ◌⊎◌, ⊎_elim, ◌≤◌, 
 use Rattle.std.proofs.lemmas.Int.{ints, to_z-of_z}
 use Rattle.lazy_workers.specs.Findings.{IsFoundGame}
 use Rattle.lazy_workers.specs.Keeping.{AreBudgets}
-use Rattle.game_search.specs.Steps.{found_with}
+use Rattle.game_search.specs.Steps.{found_with, AreFoundPlans}
 use Rattle.game_search.proofs.StepLemmas.{pure_one, pure_two, proposed_found, proposed_left}
 use Rattle.game_search.proofs.induced.proposed.Goals as goal
 
@@ -13,17 +13,19 @@ better_plans-plans-requires-clause-pure g c =
     let upper_fits : SFits w64 x.upper = search rules in
     rw (to_z-of_z w64 x.lower lower_fits, to_z-of_z w64 x.upper upper_fits) (record { one = pure_one m ask x c.requires.pure; two = pure_two m ask x c.requires.pure })
 
+pub better_plans-plans-requires-clause-sheets : goal.better_plans-plans-requires-clause-sheets
+better_plans-plans-requires-clause-sheets g c = c.requires.solved.sheets
+
 pub begun-requires-clause-first : goal.begun-requires-clause-first
 begun-requires-clause-first g c =
-    let turns = c.better_plans-plans.new.turns in
-    let limit : turns.limit ≡ c.args.ask.now.turns = c.better_plans-plans.ensures.spent.same ∙ ap (λ t. t.limit) c.new-turns.ensures in
-    let within : turns.spent ≤ turns.limit = c.better_plans-plans.ensures.within in
-    record { limit = limit; spent = subst (λ n. turns.spent ≤ n) limit within }
+    let limit : c.args.turns.limit ≡ c.args.ask.now.turns = c.requires.solved.spent.same in
+    record { limit = limit; spent = subst (λ n. c.args.turns.spent ≤ n) limit c.spent.ensures.within }
 
 pub returns-then-is_enough : goal.returns-then-is_enough
 returns-then-is_enough g c =
     let m = g.G.Game.model c.args.g in let ask = c.args.ask.now in let x = c.args.pure in
-    let plans = c.better_plans-plans.result in let turns = c.better_plans-plans.new.turns in let b = c.in_ok-budgets in
+    let plans = c.better_plans-plans.result in let turns = c.args.turns in let b = c.in_ok-budgets in
+    let are : AreFoundPlans m ask (turns.spent ≡ 0) plans = subst (λ n. AreFoundPlans m ask (n ≡ 0) plans) c.spent.ensures.spent c.better_plans-plans.ensures in
     let one_fits : SFits w64 plans.one.bound = search rules in
     let two_fits : SFits w64 plans.two.bound = search rules in
     let asked_fits : SFits w64 ask.gap = search rules in
@@ -33,15 +35,15 @@ returns-then-is_enough g c =
     at (c.is_enough.ensures c.if-is_enough.true) in
     let is : c.found_of.result ≡ found_with plans x.resolution b.budgets.turns.items = rw (to_z-of_z w64 x.resolution resolution_fits) at c.found_of.ensures in
     subst (IsFoundGame m ask) (sym is)
-    (proposed_found m ask x c.requires.pure plans turns.spent turns.spent b.budgets.turns.items turns c.requires.far c.better_plans-plans.ensures.plans b.ensures.budgets b.ensures.first
+    (proposed_found m ask x c.requires.pure plans turns.spent turns.spent b.budgets.turns.items turns c.requires.far are b.ensures.budgets b.ensures.first
     refl (λ wide. let asked = wide.asked in let above = wide.resolution in
     ⊎_elim (λ it. absurd (omega (arith, ints, it, asked))) (λ it. absurd (omega (arith, ints, it, above))) near))
 
 pub returns : goal.returns
 returns g c =
-    let m = g.G.Game.model c.args.g in let ask = c.args.ask.now in let x = c.args.pure in
-    let turns = c.better_plans-plans.new.turns in let b = c.in_ok-budgets in (
-      proposed_left m ask x c.requires.pure c.better_plans-plans.result turns.spent b.budgets.most c.new-turns.result turns c.requires.far c.better_plans-plans.ensures.plans
-          c.better_plans-plans.ensures.spent (ap (λ t. t.spent) c.new-turns.ensures) b.ensures.most,
+    let m = g.G.Game.model c.args.g in let ask = c.args.ask.now in let x = c.args.pure in let plans = c.better_plans-plans.result in
+    let turns = c.args.turns in let b = c.in_ok-budgets in
+    let are : AreFoundPlans m ask (turns.spent ≡ 0) plans = subst (λ n. AreFoundPlans m ask (n ≡ 0) plans) c.spent.ensures.spent c.better_plans-plans.ensures in (
+      proposed_left m ask x c.requires.pure plans turns.spent b.budgets.most (record { limit = ask.turns; spent = 0 }) turns c.requires.far are c.requires.solved.spent refl b.ensures.most,
       subst (λ n. AreBudgets ask n b.budgets.turns.items) (sym b.ensures.most) b.ensures.budgets,
     )

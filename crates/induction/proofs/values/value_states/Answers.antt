@@ -1,0 +1,54 @@
+use Rattle.std.proofs.Common.{rules, ◌≡◌, ◌+◌, ◌-◌, Err, length, ◌∙◌}
+use Rattle.induction.specs.declared.gave_up.GaveUp.TheVariants.{NoMemory}
+use Rattle.induction.specs.Undecided.{HasUndecided}
+use Rattle.induction.proofs.ListedLemmas.{missing_less, none_missing}
+use Rattle.induction.proofs.SpentLemmas.{none_spent, nothing, stopped_at, no_memory, err_is, reason_up}
+use Rattle.induction.proofs.values.value_states.Goals as goal
+
+pub returns-in_err-states-clause-err : goal.returns-in_err-states-clause-err
+returns-in_err-states-clause-err g c =
+    let m = g.G.Game.model c.args.g in
+    let turns = c.args.values.now.turns in
+    let stopped : c.from_residual.result ≡ Err c.in_err-states.field-0.0 = search rules in
+    rw stopped (stopped_at m (HasUndecided m (c.args.values.now.rows + 1)) 0 0 turns turns c.in_err-states.field-0.0 (c.in_err-states.ensures.err turns) (nothing m) (none_spent 0 turns))
+
+pub returns-in_err-take_rank-clause-err : goal.returns-in_err-take_rank-clause-err
+returns-in_err-take_rank-clause-err g c =
+    let m = g.G.Game.model c.args.g in
+    let many = length c.in_ok-states.states.items in
+    err_is (λ e. e ≡ NoMemory) _ _ c.from_residual-in_err-take_rank.ensures.1 (λ e is.
+    stopped_at m (HasUndecided m (c.args.values.now.rows + 1)) 0 many c.args.values.now.turns c.loop-below.values.turns e (no_memory (HasUndecided m (c.args.values.now.rows + 1)) _ e is)
+    c.in_ok-states.ensures.listed.known_are.undecided (none_missing c.loop-below.missing many c.args.values.now.turns c.loop-below.values.turns c.loop-below.invariant.spent))
+
+pub returns-in_err-give-clause-err : goal.returns-in_err-give-clause-err
+returns-in_err-give-clause-err g c =
+    let m = g.G.Game.model c.args.g in
+    let many = length c.in_ok-states.states.items in
+    let Many = HasUndecided m (c.args.values.now.rows + 1) in
+    let new = c.give.new.self.turns in
+    let stopped : c.from_residual-in_err-give.result ≡ Err c.in_err-give.field-0.0 = search rules in
+    rw stopped (stopped_at m Many 0 many c.args.values.now.turns new c.in_err-give.field-0.0 (reason_up Many new c.in_err-give.field-0.0 c.in_err-give.ensures.err)
+    c.in_ok-states.ensures.listed.known_are.undecided
+    (none_missing (c.loop-below.missing - length c.take_rank.new.chosen.items) many c.args.values.now.turns new
+    (missing_less c.loop-below.missing many (length c.take_rank.new.chosen.items) c.args.values.now.turns c.loop-below.values.turns new c.in_ok-take_rank.ensures.few c.loop-below.invariant.spent
+    (rw c.deref-in-loop-below.ensures.value at c.give.ensures.spent))))
+
+pub loop-below-preserved : goal.loop-below-preserved
+loop-below-preserved g c =
+    let long : c.len-missing-in-loop-below.result ≡ length c.take_rank.new.chosen.items = search rules in
+    record {
+      rows = c.give.ensures.rows ∙ c.loop-below.invariant.rows;
+      spent = rw long
+          (missing_less c.loop-below.missing (length c.in_ok-states.states.items) (length c.take_rank.new.chosen.items) c.args.values.now.turns c.loop-below.values.turns c.give.new.self.turns
+          c.in_ok-take_rank.ensures.few c.loop-below.invariant.spent (rw c.deref-in-loop-below.ensures.value at c.give.ensures.spent));
+    }
+
+pub returns-clause-valued : goal.returns-clause-valued
+returns-clause-valued g c =
+    let many = length c.in_ok-states.states.items in
+    record {
+      count = many;
+      undecided = c.in_ok-states.ensures.listed.known_are.undecided;
+      few = c.in_ok-states.ensures.listed.few;
+      spent = none_missing c.loop-below.missing many c.args.values.now.turns c.loop-below.values.turns c.loop-below.invariant.spent;
+    }

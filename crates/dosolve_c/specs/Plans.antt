@@ -102,16 +102,23 @@ pub data IsPlanTold (side : ℕ) (bytes : List ℕ) (rows rows' : List PlanRow) 
 pub record IsSplit (whole upper : ℤ) (lower : ℕ) : Type 0 where
   pub is : whole ≡ (pos (2 ^ 64) *ℤ upper) +ℤ pos lower
 
+-- what is not told is 0
 pub record IsExactTold (amount : ℤ) (base power : ℕ) (told : WorstPayoff) : Type 0 where
   pub exact : told.exact ≡ 1
   pub sum : IsSplit amount told.sum_high told.sum_low
   pub base_is : told.base ≡ base
   pub power_is : told.power ≡ power
+  pub low_not_told : told.low ≡ pos 0
+  pub high_not_told : told.high ≡ pos 0
 
 pub record IsBetweenTold (low high : ℤ) (told : WorstPayoff) : Type 0 where
   pub exact : told.exact ≡ 0
   pub low_is : told.low ≡ low
   pub high_is : told.high ≡ high
+  pub sum_high_not_told : told.sum_high ≡ pos 0
+  pub sum_low_not_told : told.sum_low ≡ 0
+  pub base_not_told : told.base ≡ 0
+  pub power_not_told : told.power ≡ 0
 
 abbrev pub IsWorthTold : Worth → WorstPayoff → Type 0
 IsWorthTold (Exact amount base power) told = IsExactTold amount base power told

@@ -27,7 +27,7 @@ use Rattle.matrix_game.specs.Budget.{Budget}
 use Rattle.serial_ab.specs.Searches.{IsPureEntry}
 use Rattle.lazy_workers.specs.Keeping.{HasLimit}
 use Rattle.lazy_workers.specs.Searched.{IsFar, HasFound}
-use Rattle.lazy_workers.specs.Workers.{IsLead, IsWorkerPass, Rows, rows_of, KnowsEach, known_of, IsFinishedKey, AreOwedTo, IsDueTo, HaveFound, HasView, IsJobDone, IsNoLooser, IsJob}
+use Rattle.lazy_workers.specs.Workers.{IsLead, IsWorkerPass, Rows, rows_of, KnowsEach, known_of, IsMetKey, IsFinishedKey, AreOwedTo, IsDueTo, HaveFound, HasView, IsJobDone, IsNoLooser, IsJob}
 
 -- ---- passes
 module _ {G : Type 0} where
@@ -117,15 +117,17 @@ module _ {S : Type 0} (m : GameModel S) (ask : Ask) (before : ℕ) where
   -- bounds that are seen as no looser, and rows of which no less is known
   module _ (seen next : Side → ℕ → ℤ) (known more : Rows) (tighter : (side : Side) (key : ℕ) → IsNoTighter side (seen side key) (next side key))
       (later : (row key : ℕ) → known row key → more row key) where
+    met_later : (key : ℕ) → IsMetKey m known key → IsMetKey m more key
+    met_later key f = record { named = f.named; row = f.row; has_row = later f.row key f.has_row }
+
     finished_later : (key : ℕ) → IsFinishedKey m ask seen known key → IsFinishedKey m ask next more key
+    unfolding met_later
     finished_later key f = record {
-      named = f.named;
-      row = f.row;
-      has_row = later f.row key f.has_row;
-      close = λ regret stage is.
-          let s = f.named.state in
+      met = met_later key f.met;
+      close = λ stage is.
+          let s = f.met.named.state in
           closer _ _ _ _ _ (better_more One _ _ (state_bound m One s) (tighter One (m.key s))) (better_more Two _ _ (state_bound m Two s) (tighter Two (m.key s)))
-          (f.close regret stage is);
+          (f.close stage is);
     } where
       closer : (a b c d gap : ℤ) → a ≤ℤ b → d ≤ℤ c → c ≤ℤ (a +ℤ gap) → d ≤ℤ (b +ℤ gap)
       closer a b c d gap low high near = omega (arith, ints)
@@ -135,10 +137,13 @@ module _ {S : Type 0} (m : GameModel S) (ask : Ask) (before : ℕ) where
         (λ (each : KnowsEach ask.rows known). inl (knows_later ask.rows known more later each))
         (λ (owed : AreOwedTo m ask before seen known). inr
         (record {
-          keys = owed.keys;
-          apart =
-              owed.apart;
-          each = All-weaker (IsFinishedKey m ask seen known) (IsFinishedKey m ask next more) finished_later owed.keys owed.each;
+          met = owed.met;
+          are_met = record { apart = owed.are_met.apart; each = All-weaker (IsMetKey m known) (IsMetKey m more) met_later owed.met owed.are_met.each };
+          finished = owed.finished;
+          are_finished = record {
+            apart = owed.are_finished.apart;
+            each = All-weaker (IsFinishedKey m ask seen known) (IsFinishedKey m ask next more) finished_later owed.finished owed.are_finished.each;
+          };
           few = owed.few;
         }))
         due

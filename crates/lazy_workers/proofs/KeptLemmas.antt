@@ -25,9 +25,9 @@ use Rattle.shared_board.specs.declared.view.View.{View}
 use Rattle.shared_board.specs.declared.close.Kept.{Kept}
 use Rattle.oracle_search.specs.Finished.{AreApart}
 use Rattle.fields.specs.declared.ask.Ask.{Ask}
-use Rattle.lazy_workers.specs.Keeping.{oracle_turns, IsKeptState, known_gap, IsFinishedRow, AreOwed, AreRows}
+use Rattle.lazy_workers.specs.Keeping.{AreAmong, IsKeptState, known_gap, IsFinishedRow, AreOwed, AreRows}
 use Rattle.lazy_workers.specs.Searched.{HasKeysIn, IsOwed, IsRooted, IsSearched}
-use Rattle.lazy_workers.specs.Workers.{rows_of, KnowsEach, known_of, IsFinishedKey, AreOwedTo, IsDueTo, HasView}
+use Rattle.lazy_workers.specs.Workers.{rows_of, KnowsEach, known_of, IsMetKey, IsFinishedKey, AreKeysOf, AreOwedTo, IsDueTo, HasView}
 use Rattle.lazy_workers.proofs.JoinLemmas.{found_later}
 
 nothing_kept : Kept
@@ -90,51 +90,70 @@ module _ {S G : Type 0} (m : GameModel S) (game : IsGame m) (ask : Ask) (before 
   rows_kept : 1 ≤ m.rank m.root → AreRows m ask.rows kept
   rows_kept goes_on = record { none = λ end. absurd (omega arith); few = is.few; distinct = is.distinct; each = All-weaker (IsKeptRow m entries) (IsKeptState m) kept_state kept is.each }
 
-  -- ---- the rows of finished states
-  module _ (owed : AreOwedTo m ask before (seen_by m v) (rows_of v)) (n : ℕ) (resolution : IsResolution m ask.weight n) where
-    row_of : (key : ℕ) → IsFinishedKey m ask (seen_by m v) (rows_of v) key → HasKey kept key
-    row_of key f = is.known f.row key f.has_row
+  -- ---- the rows of keys that were met
+  module _ (Kind : ℕ → Type 0) (met_of : (key : ℕ) → Kind key → IsMetKey m (rows_of v) key) where
+    row_of : (key : ℕ) → Kind key → HasKey kept key
+    row_of key f = let met = met_of key f in is.known met.row key met.has_row
 
-    abbrev rows : (keys : List ℕ) → AllByRecursion (IsFinishedKey m ask (seen_by m v) (rows_of v)) keys → List Kept
+    abbrev rows : (keys : List ℕ) → AllByRecursion Kind keys → List Kept
     rows [] each = []
     rows (key ∷ keys) each = (row_of key each.0).row ∷ rows keys each.1
 
-    rows_count : (keys : List ℕ) (each : AllByRecursion (IsFinishedKey m ask (seen_by m v) (rows_of v)) keys) → length (rows keys each) ≡ length keys
+    rows_count : (keys : List ℕ) (each : AllByRecursion Kind keys) → length (rows keys each) ≡ length keys
     rows_count [] each = refl
     rows_count (key ∷ keys) each = ap suc (rows_count keys each.1)
 
-    rows_all : (P : Kept → Type 0) → ((key : ℕ) (f : IsFinishedKey m ask (seen_by m v) (rows_of v) key) → P (row_of key f).row)
-        → (keys : List ℕ) (each : AllByRecursion (IsFinishedKey m ask (seen_by m v) (rows_of v)) keys) → AllByRecursion P (rows keys each)
+    rows_all : (P : Kept → Type 0) → ((key : ℕ) (f : Kind key) → P (row_of key f).row) → (keys : List ℕ) (each : AllByRecursion Kind keys) → AllByRecursion P (rows keys each)
     rows_all P here [] each = tt
     rows_all P here (key ∷ keys) each = (here key each.0, rows_all P here keys each.1)
 
-    rows_keys : (keys : List ℕ) (each : AllByRecursion (IsFinishedKey m ask (seen_by m v) (rows_of v)) keys) (x : Kept) → Has x (rows keys each) → Has x.key keys
+    rows_keys : (keys : List ℕ) (each : AllByRecursion Kind keys) (x : Kept) → Has x (rows keys each) → Has x.key keys
     rows_keys [] each x h = h
     rows_keys (key ∷ keys) each x h = ⊎_elim
         (λ (e : x ≡ (row_of key each.0).row). inl (ap (λ (k : Kept). k.key) e ∙ (row_of key each.0).is_key))
         (λ (t : Has x (rows keys each.1)). inr (rows_keys keys each.1 x t))
         h
 
-    rows_distinct : (keys : List ℕ) (each : AllByRecursion (IsFinishedKey m ask (seen_by m v) (rows_of v)) keys) → Apart keys → IsDistinct (rows keys each)
+    rows_distinct : (keys : List ℕ) (each : AllByRecursion Kind keys) → Apart keys → IsDistinct (rows keys each)
     rows_distinct [] each apart = tt
     rows_distinct (key ∷ keys) each apart = (
       λ y h e. apart.0 y.key (rows_keys keys each.1 y h) (sym (row_of key each.0).is_key ∙ e),
       rows_distinct keys each.1 apart.1,
     )
 
-    finished_row : (key : ℕ) (f : IsFinishedKey m ask (seen_by m v) (rows_of v) key) → IsFinishedRow m ask (pos n) (row_of key f).row
+    -- each key has a row of its own
+    own_rows : (P : Kept → Type 0) → ((key : ℕ) (f : Kind key) → P (row_of key f).row) → (keys : List ℕ) → AreKeysOf Kind keys
+        → (some : List Kept) × AreAmong kept some × All P some × (length some ≡ length keys)
+    own_rows P here keys are =
+        let each = recursion_from_All Kind keys are.each in
+        let list = rows keys each in (
+          list,
+          record {
+            among = All-from_recursion (Contains kept) list (rows_all (Contains kept) (λ key f. (row_of key f).is_kept) keys each);
+            distinct = rows_distinct keys each (apart_by_recursion keys are.apart);
+          },
+          All-from_recursion P list (rows_all P here keys each),
+          rows_count keys each,
+        )
+
+  -- ---- the rows of finished states
+  module _ (n : ℕ) (resolution : IsResolution m ask.weight n) where
+    abbrev Finished : ℕ → Type 0
+    Finished key = IsFinishedKey m ask (seen_by m v) (rows_of v) key
+
+    finished_row : (key : ℕ) (f : Finished key) → IsFinishedRow m (pos n) (row_of Finished (λ key f. f.met) key f).row
     finished_row key f =
-        let here = row_of key f in
+        let here = row_of Finished (λ key f. f.met) key f in
+        let named = f.met.named in
         let row : IsKeptRow m entries here.row = All-contains (IsKeptRow m entries) kept here.row is.each here.is_kept in
-        let s = f.named.state in
+        let s = named.state in
         let best : (side : Side) → IsNoTighter side (known_of m (seen_by m v) s side) (better side (kept_bound side here.row) (state_bound m side s)) = λ side.
         better_more side _ _ (state_bound m side s) (subst (IsNoTighter side (seen_by m v side (m.key s)))
-        (sym (row.best side ∙ ap (best_posted m entries side) (here.is_key ∙ sym f.named.is_key))) (is.no_looser side (m.key s))) in
+        (sym (row.best side ∙ ap (best_posted m entries side) (here.is_key ∙ sym named.is_key))) (is.no_looser side (m.key s))) in
         record {
-          named = record { state = f.named.state; reachable = f.named.reachable; goes_on = f.named.goes_on; is_key = f.named.is_key ∙ sym here.is_key };
-          close = λ regret.
-              share (m.rank m.root) (m.rank s) (resolution.gap + 1 + cond m.chance_free 0 1) n (known_gap m here.row s) resolution.sums
-              (apart _ _ _ _ _ (best One) (best Two) (f.close regret resolution.gap resolution.is_gap));
+          named = record { state = s; reachable = named.reachable; goes_on = named.goes_on; is_key = named.is_key ∙ sym here.is_key };
+          close = share (m.rank m.root) (m.rank s) (resolution.gap + 1 + cond m.chance_free 0 1) n (known_gap m here.row s) resolution.sums
+              (apart _ _ _ _ _ (best One) (best Two) (f.close resolution.gap resolution.is_gap));
         } where
           apart : (a b c d : ℤ) (gap : ℕ) → a ≤ℤ b → d ≤ℤ c → c ≤ℤ (a +ℤ pos gap) → (d -ℤ b) ≤ℤ pos gap
           apart a b c d gap low high near = omega (arith, ints)
@@ -144,22 +163,24 @@ module _ {S G : Type 0} (m : GameModel S) (game : IsGame m) (ask : Ask) (before 
               let times : root * (rank * each) ≡ rank * n = rw is (omega arith) in
               subst (λ (k : ℕ). (pos root *ℤ gap) ≤ℤ pos k) times (times_mono root gap (pos (rank * each)) near)
 
-    owed_rows : AreOwed m ask before (pos n) kept
-    owed_rows =
-        let each = recursion_from_All (IsFinishedKey m ask (seen_by m v) (rows_of v)) owed.keys owed.each in
-        let list = rows owed.keys each in record {
-          finished = list;
-          among = All-from_recursion (Contains kept) list (rows_all (Contains kept) (λ key f. (row_of key f).is_kept) owed.keys each);
-          distinct = rows_distinct owed.keys each (apart_by_recursion owed.keys owed.apart);
-          each = All-from_recursion (IsFinishedRow m ask (pos n)) list (rows_all (IsFinishedRow m ask (pos n)) finished_row owed.keys each);
-          few = subst (λ (k : ℕ). ask.turns ≤ before + oracle_turns m ask.stages * (k + m.rank m.root)) (sym (rows_count owed.keys each)) owed.few;
+    owed_rows : AreOwedTo m ask before (seen_by m v) (rows_of v) → AreOwed m ask before (pos n) kept
+    owed_rows owed =
+        let met = own_rows (IsMetKey m (rows_of v)) (λ key f. f) (Contains kept) (λ key f. (row_of (IsMetKey m (rows_of v)) (λ key f. f) key f).is_kept) owed.met owed.are_met in
+        let finished = own_rows Finished (λ key f. f.met) (IsFinishedRow m (pos n)) finished_row owed.finished owed.are_finished in
+        record {
+          met = met.0;
+          are_met = met.1;
+          finished = finished.0;
+          are_finished = finished.1;
+          each = finished.2;
+          few = rw (met.3, finished.3) owed.few;
         }
 
   -- a board on which a row is left is none of which each row's key is known
   rows_left : IsDueTo m ask before (seen_by m v) (rows_of v) → IsOwed m ask before kept
   rows_left due n resolution left = ⊎_elim
       (λ (each : KnowsEach ask.rows (rows_of v)). let all = is.full each in absurd (omega arith))
-      (λ (owed : AreOwedTo m ask before (seen_by m v) (rows_of v)). owed_rows owed n resolution)
+      (λ (owed : AreOwedTo m ask before (seen_by m v) (rows_of v)). owed_rows n resolution owed)
       due
 
   -- of a root that is no end, the bound of the book is the best posted at its key, or that of every value of it where that is better

@@ -11,7 +11,7 @@ use Rattle.shared_board.specs.Closing.{IsDistinct}
 use Rattle.shared_board.specs.declared.close.Kept.{Kept}
 use Rattle.fields.specs.declared.ask.Ask.{Ask}
 use Rattle.matrix_game.specs.Budget.{Budget}
-use Rattle.lazy_workers.specs.Keeping.{HasLimit, oracle_turns, AreBudgets, IsKeptState, IsFinishedRow, AreOwed}
+use Rattle.lazy_workers.specs.Keeping.{HasLimit, oracle_turns, AreBudgets, IsKeptState, AreOwed}
 use Rattle.lazy_workers.specs.Searched.{IsFar, HasRoom, TooFewAfter, AnswersToo}
 
 module _ {S : Type 0} (m : GameModel S) where
@@ -65,13 +65,8 @@ module _ {S : Type 0} (m : GameModel S) where
       ]
 
       owed_too : (before : ℕ) (n : ℤ) (kept : List Kept) → AreOwed m enough before n kept → AreOwed m ask before n kept
-      owed_too before n kept owed = record {
-        finished = owed.finished;
-        among = owed.among;
-        distinct = owed.distinct;
-        each = All-weaker (IsFinishedRow m enough n) (IsFinishedRow m ask n) (λ x row. record { named = row.named; close = row.close }) owed.finished owed.each;
-        few = owed.few;
-      }
+      owed_too before n kept owed =
+          record { met = owed.met; are_met = owed.are_met; finished = owed.finished; are_finished = owed.are_finished; each = owed.each; few = owed.few }
 
       pub fewer_rows_answer_too : AnswersToo m enough ask
       fewer_rows_answer_too before entries kept turns was_full x =

@@ -26,7 +26,7 @@ use Rattle.bounds_board.proofs.FullLemmas.{rows_too_few}
 use Rattle.serial_ab.specs.Counts.{VisitsView, left_on}
 use Rattle.oracle_search.specs.declared.ends.SearchEnd.{SearchEnd}
 use Rattle.oracle_search.specs.declared.ends.SearchEnd.TheVariants.{Reached, Settled, Spent, Full}
-use Rattle.oracle_search.specs.Finished.{FinishedView, IsFinished, AreApart, IsWithin, rank_gap}
+use Rattle.oracle_search.specs.Finished.{FinishedView, IsFinished, AreFinished, AreApart, IsWithin, rank_gap}
 use Rattle.oracle_search.specs.Sweeps.{TakesSweeps}
 use Rattle.oracle_search.specs.declared.worker.MemoryLimits.{MemoryLimits}
 use Rattle.oracle_search.specs.Searches.{IsWorked, IsBoardFull, Ends, growth_turns, TakesTurns, HasTaken, IsPureTight, HasVisitsBelow as Whole}
@@ -36,8 +36,8 @@ use Rattle.fields.specs.declared.ask.StageMethod.{StageMethod}
 use Rattle.fields.specs.declared.ask.StageMethod.TheVariants.{Regret, Linear}
 use Rattle.fields.specs.declared.ask.StageMethod.TheVariants as methods
 use Rattle.lazy_workers.specs.Solvers.{solver_kind}
-use Rattle.lazy_workers.specs.Workers.{Rows, KnowsEach, IsFinishedKey, AreOwedTo, IsDueTo, HaveFound}
-use Rattle.lazy_workers.specs.Keeping.{HasLimit, AreBudgets, oracle_turns}
+use Rattle.lazy_workers.specs.Workers.{Rows, KnowsEach, IsMetKey, IsFinishedKey, AreKeysOf, AreOwedTo, IsDueTo, HaveFound}
+use Rattle.lazy_workers.specs.Keeping.{HasLimit, AreBudgets, oracle_turns, owed_turns}
 use Rattle.lazy_workers.specs.Searched.{IsFar, HasRoom, HasVisits, IsPureClose, TooFewAfter, IsSearched}
 
 -- bounds within a gap are no further apart
@@ -53,15 +53,20 @@ turns_from each spent start before turns keys none rank taken begun all = omega 
 turns_below : (each before turns keys n rank : ℕ) → 1 ≤ each → keys ≤ n → turns ≤ before + each * (keys + rank) → turns < before + each * (n + rank + 1)
 turns_below each before turns keys n rank some few taken = let more : each * (keys + rank) ≤ each * (n + rank) = mul-le-mul_left each (omega arith) in omega arith
 
--- double oracle takes a turn at least
-some_turns : {S : Type 0} (m : GameModel S) → IsGame m → (stages : StageMethod) → 1 ≤ oracle_turns m stages
-some_turns m game methods.Regret = omega (arith, game.width_low)
-some_turns m game methods.Linear = omega arith
+-- a restricted game takes a turn at least
+some_turns : {S : Type 0} (m : GameModel S) → IsGame m → 1 ≤ growth_turns m
+some_turns m game = omega (arith, game.width_low)
+
+-- turns that are owed to no more states than these are too few for them
+owed_below : {S : Type 0} (m : GameModel S) → IsGame m → (stages : StageMethod) (before turns met finished n : ℕ) → met ≤ n → finished ≤ n
+    → turns ≤ before + owed_turns m stages met finished → turns < before + oracle_turns m stages * (n + m.rank m.root + 1)
+owed_below m game methods.Regret before turns met finished n some few owed = turns_below (growth_turns m) before turns finished n (m.rank m.root) (some_turns m game) few owed
+owed_below m game methods.Linear before turns met finished n some few owed = omega (arith, some, few, owed)
 
 -- the turns of a search that ended so: those of a restricted game to a state with regret matching, a turn of each of three sweeps with linear stages
 abbrev pub AreTaken : {S G N : Type 0} → GameModel S → Ask → SearchEnd → WorkView G N → WorkView G N → Type 0
 AreTaken m ask end start last = ((ask.stages ≡ Regret) × HasTaken m m.root end start last)
-    ⊎ ((ask.stages ≡ Linear) × (last.settled.was_full ≡ false → TakesSweeps m 3 last.board (m.rank m.root) start.turns.spent last.turns.spent))
+    ⊎ ((ask.stages ≡ Linear) × (last.settled.was_full ≡ false → TakesSweeps m 2 1 last.board start.turns.spent last.turns.spent))
 
 -- whether the solver of a method makes sweeps
 abbrev IsOfKind : StageMethod → SolverKind → Type 0
@@ -153,35 +158,45 @@ module _ {S : Type 0} (m : GameModel S) (game : IsGame m) where
                 (λ (b : (left_of last.turns ≡ 0) × TakesTurns (growth_turns m) (m.rank m.root) start.worker last.worker). b.1) (takes.unless_full quiet) in
                 turns_from (growth_turns m) last.turns.spent start.turns.spent before ask.turns (length last.settled.keys) (length start.settled.keys) (m.rank m.root) so begun all
 
-            finished : (is_close : Bool) → (ask.stages ≡ Regret → is_close ≡ true) → (key : ℕ) → IsFinished m is_close last.board (1 + MOST_TURNS) key → IsFinishedKey m ask last.board.seen has_row key
-            finished is_close so key f = record {
-              named = record { state = f.state; reachable = f.reachable; goes_on = f.goes_on; is_key = f.is_key };
-              row = f.row;
-              has_row = f.held;
-              close = λ regret stage is. f.close (so regret) stage (subst (λ (w : ℕ). IsStageGap m w stage) (sym total) is);
+            met : (is_close : Bool) (key : ℕ) → IsFinished m is_close last.board (1 + MOST_TURNS) key → IsMetKey m has_row key
+            met is_close key f = record { named = record { state = f.state; reachable = f.reachable; goes_on = f.goes_on; is_key = f.is_key }; row = f.row; has_row = f.held }
+
+            finished : (key : ℕ) → IsFinished m true last.board (1 + MOST_TURNS) key → IsFinishedKey m ask last.board.seen has_row key
+            finished key f = record { met = met true key f; close = λ stage is. f.close refl stage (subst (λ (w : ℕ). IsStageGap m w stage) (sym total) is) }
+
+            finished_keys : (keys : List ℕ) → AreFinished m true last.board keys → AreKeysOf (IsFinishedKey m ask last.board.seen has_row) keys
+            finished_keys keys f = record {
+              apart = f.apart;
+              each = All-weaker (IsFinished m true last.board (1 + MOST_TURNS)) (IsFinishedKey m ask last.board.seen has_row) finished keys f.each;
+            }
+
+            met_keys : (is_close : Bool) (keys : List ℕ) → AreFinished m is_close last.board keys → AreKeysOf (IsMetKey m has_row) keys
+            met_keys is_close keys f = record {
+              apart = f.apart;
+              each = All-weaker (IsFinished m is_close last.board (1 + MOST_TURNS)) (IsMetKey m has_row) (met is_close) keys f.each;
             }
 
             owed : last.turns.spent ≡ ask.turns → AreTaken m ask Spent start last → last.settled.was_full ≡ false → AreOwedTo m ask before last.board.seen has_row
             owed all takes quiet =
-                let so : (stages : StageMethod) (keys : List ℕ) → ask.stages ≡ stages → ask.turns ≤ before + oracle_turns m stages * (length keys + m.rank m.root)
-                → ask.turns ≤ before + oracle_turns m ask.stages * (length keys + m.rank m.root) = λ stages keys is few.
-                subst (λ (x : StageMethod). ask.turns ≤ before + oracle_turns m x * (length keys + m.rank m.root)) (sym is) few in
+                let so : (stages : StageMethod) (met finished : ℕ) → ask.stages ≡ stages → ask.turns ≤ before + owed_turns m stages met finished
+                → ask.turns ≤ before + owed_turns m ask.stages met finished = λ stages met finished is few.
+                subst (λ (x : StageMethod). ask.turns ≤ before + owed_turns m x met finished) (sym is) few in
                 ⊎_elim
                 (λ (a : (ask.stages ≡ Regret) × HasTaken m m.root Spent start last). record {
-                  keys = last.settled.keys;
-                  apart = worked.kept.finished.apart;
-                  each = All-weaker (IsFinished m true last.board (1 + MOST_TURNS)) (IsFinishedKey m ask last.board.seen has_row) (finished true (λ _. refl)) last.settled.keys
-                      worked.kept.finished.each;
-                  few = so Regret last.settled.keys a.0 (taken all a.1 quiet);
+                  met = last.settled.keys;
+                  are_met = met_keys true last.settled.keys worked.kept.finished;
+                  finished = last.settled.keys;
+                  are_finished = finished_keys last.settled.keys worked.kept.finished;
+                  few = so Regret _ _ a.0 (taken all a.1 quiet);
                 })
-                (λ (b : (ask.stages ≡ Linear) × (last.settled.was_full ≡ false → TakesSweeps m 3 last.board (m.rank m.root) start.turns.spent last.turns.spent)).
-                let it : TakesSweeps m 3 last.board (m.rank m.root) start.turns.spent last.turns.spent = b.1 quiet in
+                (λ (b : (ask.stages ≡ Linear) × (last.settled.was_full ≡ false → TakesSweeps m 2 1 last.board start.turns.spent last.turns.spent)).
+                let it : TakesSweeps m 2 1 last.board start.turns.spent last.turns.spent = b.1 quiet in
                 let few = it.few in record {
-                  keys = it.keys;
-                  apart = it.swept.apart;
-                  each = All-weaker (IsFinished m false last.board (1 + MOST_TURNS)) (IsFinishedKey m ask last.board.seen has_row)
-                      (finished false (λ regret. let wrong : Regret ≡ Linear = sym regret ∙ b.0 in absurd (cc))) it.keys it.swept.each;
-                  few = so Linear it.keys b.0 (omega arith);
+                  met = it.keys;
+                  are_met = met_keys false it.keys it.swept;
+                  finished = it.finished;
+                  are_finished = finished_keys it.finished it.closed;
+                  few = so Linear (length it.keys) (length it.finished) b.0 (omega arith);
                 })
                 takes
 
@@ -189,8 +204,10 @@ module _ {S : Type 0} (m : GameModel S) (game : IsGame m) where
             too_few all takes n has few =
                 let wide : HasRoom m ask = record { few = λ count states reach apart. let less = has.few count states reach apart in omega arith } in
                 let it = owed all takes (room wide) in
-                let keys = keys_few it.keys it.apart (All-weaker (IsFinishedKey m ask last.board.seen has_row) (IsInnerKey m) (λ key f. f.named) it.keys it.each) n has in
-                turns_below (oracle_turns m ask.stages) before ask.turns (length it.keys) n (m.rank m.root) (some_turns m game ask.stages) keys it.few
+                let met_few = keys_few it.met it.are_met.apart (All-weaker (IsMetKey m has_row) (IsInnerKey m) (λ key f. f.named) it.met it.are_met.each) n has in
+                let finished_few = keys_few it.finished it.are_finished.apart
+                (All-weaker (IsFinishedKey m ask last.board.seen has_row) (IsInnerKey m) (λ key f. f.met.named) it.finished it.are_finished.each) n has in
+                owed_below m game ask.stages before ask.turns (length it.met) (length it.finished) n met_few finished_few it.few
 
             by : last.turns.spent ≡ ask.turns → AreTaken m ask Spent start last → (b : Bool) → last.settled.was_full ≡ b → KnowsEach ask.rows has_row ⊎ AreOwedTo m ask before last.board.seen has_row
             by all takes true e = inl (full_board e).0

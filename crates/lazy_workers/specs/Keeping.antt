@@ -22,6 +22,13 @@ abbrev pub oracle_turns : {S : Type 0} → GameModel S → StageMethod → ℕ
 oracle_turns m Regret = growth_turns m
 oracle_turns m Linear = 3
 
+-- how many turns are owed to rows, so many of states that were met and so many of finished ones: with regret matching those of a
+-- restricted game at each finished state and at each on the way to the root; with linear stages one of each of two sweeps at each
+-- state that was met, and one of the last sweep at each finished state
+abbrev pub owed_turns : {S : Type 0} → GameModel S → StageMethod → ℕ → ℕ → ℕ
+owed_turns m Regret met finished = growth_turns m * (finished + m.rank m.root)
+owed_turns m Linear met finished = 2 * met + finished
+
 -- the turns are those asked, and no more of them were spent
 pub record HasLimit (ask : Ask) (t : Budget) : Type 0 where
   pub limit : t.limit ≡ ask.turns
@@ -39,6 +46,11 @@ pub record IsSheetRowKept (side : Side) (kept : List Kept) (r : SheetRow) : Type
   pub held : HasKey kept r.key
   pub bound : kept_bound side held.row ≡ r.bound
 
+-- some of the rows, none twice
+pub record AreAmong (kept some : List Kept) : Type 0 where
+  pub among : All (Contains kept) some
+  pub distinct : IsDistinct some
+
 -- the row plays one move alone
 pub record IsPureRow (total : ℕ) (r : SheetRow) : Type 0 where
   pub place : ℕ
@@ -54,20 +66,19 @@ module _ {S : Type 0} (m : GameModel S) where
   abbrev pub known_gap : Kept → S → ℤ
   known_gap x s = better Two x.upper (state_bound m Two s) -ℤ better One x.lower (state_bound m One s)
 
-  -- besides, with regret matching, they are no further apart than the resolution's share of the state's rank
-  pub record IsFinishedRow (ask : Ask) (resolution : ℤ) (x : Kept) : Type 0 where
+  -- besides, they are no further apart than the resolution's share of the state's rank
+  pub record IsFinishedRow (resolution : ℤ) (x : Kept) : Type 0 where
     pub named : IsInnerKey m x.key
-    pub close : ask.stages ≡ Regret
-        → (pos (m.rank m.root) *ℤ known_gap x named.state) ≤ℤ (pos (m.rank named.state) *ℤ resolution)
+    pub close : (pos (m.rank m.root) *ℤ known_gap x named.state) ≤ℤ (pos (m.rank named.state) *ℤ resolution)
 
-  -- the turns, but for those that were spent before, are owed to finished states among the rows, so many to each, and to
-  -- the states on the way to the root
+  -- the turns, but for those that were spent before, are owed to rows of states that were met and to rows of finished ones
   pub record AreOwed (ask : Ask) (before : ℕ) (resolution : ℤ) (kept : List Kept) : Type 0 where
+    pub met : List Kept
+    pub are_met : AreAmong kept met
     pub finished : List Kept
-    pub among : All (Contains kept) finished
-    pub distinct : IsDistinct finished
-    pub each : All (IsFinishedRow ask resolution) finished
-    pub few : ask.turns ≤ before + oracle_turns m ask.stages * (length finished + m.rank m.root)
+    pub are_finished : AreAmong kept finished
+    pub each : All (IsFinishedRow resolution) finished
+    pub few : ask.turns ≤ before + owed_turns m ask.stages (length met) (length finished)
 
   -- the rows of a board that was made for a root that is no end
   pub record AreRows (rows : ℕ) (kept : List Kept) : Type 0 where

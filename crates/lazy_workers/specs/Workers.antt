@@ -9,7 +9,6 @@ use Rattle.matrix_game.specs.Budget.{Budget}
 use Rattle.bounds_board.specs.Views.{IsInnerKey}
 use Rattle.serial_ab.specs.Searches.{IsPureEntry}
 use Rattle.fields.specs.declared.ask.Ask.{Ask}
-use Rattle.fields.specs.declared.ask.StageMethod.TheVariants.{Regret}
 use Rattle.fields.specs.Ranges.{IsAskInRange}
 use Rattle.shared_board.specs.Rule.{Has}
 use Rattle.shared_board.specs.Passes.{seen_by}
@@ -21,7 +20,7 @@ use Rattle.oracle_search.specs.declared.ends.SearchEnd.TheVariants.{Full}
 use Rattle.oracle_search.specs.Finished.{AreApart, rank_gap}
 use Rattle.lazy_workers.specs.declared.jobs.Job.{Job}
 use Rattle.lazy_workers.specs.declared.jobs.Done.{Done}
-use Rattle.lazy_workers.specs.Keeping.{HasLimit, oracle_turns}
+use Rattle.lazy_workers.specs.Keeping.{HasLimit, owed_turns}
 use Rattle.lazy_workers.specs.Searched.{HasFound}
 
 -- ---- passes
@@ -55,25 +54,34 @@ KnowsEach rows known = (row : ℕ) → row < rows → (key : ℕ) × known row k
 abbrev pub known_of : {S : Type 0} → GameModel S → (Side → ℕ → ℤ) → S → Side → ℤ
 known_of m seen s side = better side (seen side (m.key s)) (state_bound m side s)
 
-module _ {S : Type 0} (m : GameModel S) (ask : Ask) where
-  -- the row of the key is known, and with regret matching the bounds known are as close as the rank of its state allows
-  pub record IsFinishedKey (seen : Side → ℕ → ℤ) (known : Rows) (key : ℕ) : Type 0 where
-    pub named : IsInnerKey m key
-    pub row : ℕ
-    pub has_row : known row key
-    pub close : ask.stages ≡ Regret → (stage : ℕ) → IsStageGap m ask.weight stage
-        → known_of m seen named.state Two ≤ℤ (known_of m seen named.state One +ℤ pos (rank_gap m stage (m.rank named.state)))
+-- the row of the key is known, which is that of a reachable state that is no end
+pub record IsMetKey {S : Type 0} (m : GameModel S) (known : Rows) (key : ℕ) : Type 0 where
+  pub named : IsInnerKey m key
+  pub row : ℕ
+  pub has_row : known row key
+
+-- besides, the bounds known are as close as the rank of its state allows
+pub record IsFinishedKey {S : Type 0} (m : GameModel S) (ask : Ask) (seen : Side → ℕ → ℤ) (known : Rows) (key : ℕ) : Type 0 where
+  pub met : IsMetKey m known key
+  pub close : (stage : ℕ) → IsStageGap m ask.weight stage
+      → known_of m seen met.named.state Two ≤ℤ (known_of m seen met.named.state One +ℤ pos (rank_gap m stage (m.rank met.named.state)))
+
+-- keys of such a kind, none twice
+pub record AreKeysOf (Kind : ℕ → Type 0) (keys : List ℕ) : Type 0 where
+  pub apart : AreApart keys
+  pub each : All Kind keys
 
 module _ {S : Type 0} (m : GameModel S) (ask : Ask) (before : ℕ) where
-  -- the turns of a worker, but for those that were spent before, are owed to states that it has finished, and to those on
-  -- the way to the root
+  -- the turns of a worker, but for those that were spent before, are owed to states that it has met and to states that it
+  -- has finished
   pub record AreOwedTo (seen : Side → ℕ → ℤ) (known : Rows) : Type 0 where
-    pub keys : List ℕ
-    pub apart : AreApart keys
-    pub each : All (IsFinishedKey m ask seen known) keys
-    pub few : ask.turns ≤ before + oracle_turns m ask.stages * (length keys + m.rank m.root)
+    pub met : List ℕ
+    pub are_met : AreKeysOf (IsMetKey m known) met
+    pub finished : List ℕ
+    pub are_finished : AreKeysOf (IsFinishedKey m ask seen known) finished
+    pub few : ask.turns ≤ before + owed_turns m ask.stages (length met) (length finished)
 
-  -- what is due where all turns were spent: the turns are owed to finished states, unless a key of each row is known
+  -- what is due where all turns were spent: the turns are owed to such states, unless a key of each row is known
   abbrev pub IsDueTo : (Side → ℕ → ℤ) → Rows → Type 0
   IsDueTo seen known = KnowsEach ask.rows known ⊎ AreOwedTo seen known
 

@@ -1,5 +1,5 @@
 -- The keys of finished states, and what stays done.
-use Rattle.std.proofs.Common.{◌≡◌, ⊎_elim, ℕ, ◌+◌, ◌-◌, ◌<◌, ◌≤◌, ℤ, pos, ◌+ℤ◌, ◌≤ℤ◌, Bool, true, false, List, [], ◌∷◌, ◌++◌, length, get_or, Some, Contains, refl, sym, ap, subst, ◌∙◌, append_assoc, append-nil, arith}
+use Rattle.std.proofs.Common.{◌≡◌, ⊎_elim, ℕ, ◌+◌, ◌-◌, ◌<◌, ◌≤◌, ℤ, pos, ◌+ℤ◌, ◌≤ℤ◌, Bool, true, List, [], ◌∷◌, ◌++◌, length, get_or, Some, Contains, refl, sym, ap, subst, ◌∙◌, append_assoc, append-nil, arith}
 use Rattle.std.proofs.lemmas.Bool.{cases_lt}
 use Rattle.std.proofs.lemmas.Int.{ints}
 use Rattle.std.proofs.lemmas.List.{length-append, get_or_append_left, get_or-append_right}
@@ -53,14 +53,6 @@ key_later {m = m} {key = key} less wide later f = let below = f.below in record 
   row = f.row;
   held = later.keys f.row key f.held;
   close = λ e. close_later m f.state later (f.close (less e));
-}
-
--- as close as their ranks allow or not
-pub finished_open : {S G N : Type 0} {m : GameModel S} {is_close : Bool} {v : BoardView G N} {keys : List ℕ} → AreFinished m is_close v keys → AreFinished m false v keys
-finished_open {m = m} {is_close = is_close} {v = v} {keys = keys} f = record {
-  each = All-weaker (IsFinished m is_close v (1 + MOST_TURNS)) (IsFinished m false v (1 + MOST_TURNS)) (λ key. key_later (λ e. let wrong : false ≡ true = e in absurd (cc))
-      (omega arith) (later_refl v)) keys f.each;
-  apart = f.apart;
 }
 
 module _ {S G N : Type 0} {m : GameModel S} {is_close : Bool} where

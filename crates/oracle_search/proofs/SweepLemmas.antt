@@ -1,5 +1,5 @@
 -- Sweeps, one part after another.
-use Rattle.std.proofs.Common.{◌≡◌, ⊎_elim, ℕ, ◌+◌, ◌*◌, ◌<◌, ◌≤◌, ℤ, pos, ◌+ℤ◌, ◌≤ℤ◌, ◌<ℤ◌, Bool, true, false, List, [], ◌∷◌, ◌++◌, length, Some, None, Option, Contains, refl, sym, ap, subst, ◌∙◌, arith}
+use Rattle.std.proofs.Common.{◌≡◌, inl, inr, ℕ, ◌+◌, ◌*◌, ◌<◌, ◌≤◌, ℤ, pos, ◌+ℤ◌, ◌≤ℤ◌, ◌<ℤ◌, Bool, true, false, cond, List, [], ◌∷◌, ◌++◌, length, Some, None, Option, Contains, refl, sym, ap, subst, ◌∙◌, arith}
 use Rattle.std.specs.List.{range_with_len}
 use Rattle.std.proofs.lemmas.Int.{ints}
 use Rattle.std.proofs.lemmas.Bool.{cases_lt}
@@ -25,7 +25,7 @@ use Rattle.oracle_search.specs.Searches.{HasKept, IsBoardFull, IsWorked, IsWorke
 use Rattle.oracle_search.specs.Sweeps.{HasSwept, TakesOne, IsSweepEnd, AreAllDone, IsFullHeld, TakesSweeps, EndsBySweeps, LeavesToNext, HasBounded}
 use Rattle.oracle_search.specs.Workers.{WorkerView, WorkView, at_work, with_full, with_swept}
 use Rattle.oracle_search.proofs.GrowLemmas.{close_after}
-use Rattle.oracle_search.proofs.KeyLemmas.{finished_none, finished_open, finished_later, finished_more, added_none, added_wider, added_after, added_more}
+use Rattle.oracle_search.proofs.KeyLemmas.{finished_none, finished_later, finished_more, added_none, added_wider, added_after, added_more}
 use Rattle.oracle_search.proofs.TurnLemmas.{not_before, taken_by, taken_from}
 use Rattle.oracle_search.proofs.WorkLemmas.{IsAfter, worked_none, worked_read, worked_full, worked_after, worked_wider, worked_under, worked_swept}
 
@@ -76,18 +76,15 @@ swept_added {m = m} {is_last = is_last} game s r {u} {v} {w} row goes_on held cl
 
 -- ---- turns of a sweep
 -- a turn that was not taken
-pub one_none : {states : ℕ} {w x : WorkerView} → x.turns.spent ≡ w.turns.spent → x.swept ≡ w.swept → TakesOne states w x
+pub one_none : {w x : WorkerView} → x.turns.spent ≡ w.turns.spent → x.swept ≡ w.swept → TakesOne w x
 one_none turns swept = record { unless_full = λ not. let keys = ap (λ (l : List ℕ). length l) swept in omega arith }
 
-pub one_wider : {a b : ℕ} {w x : WorkerView} → a ≤ b → TakesOne a w x → TakesOne b w x
-one_wider wide p = record { unless_full = λ not. let a = p.unless_full not in omega arith }
-
 -- a claim that was full
-pub one_full : {states : ℕ} {w new : WorkerView} (x : WorkerView) → new ≡ with_full x → TakesOne states w new
+pub one_full : {w new : WorkerView} (x : WorkerView) → new ≡ with_full x → TakesOne w new
 one_full x is = record { unless_full = λ not. let wrong : false ≡ true = sym not ∙ ap (λ (x : WorkerView). x.settled.was_full) is in absurd (cc) }
 
 -- a turn at the state itself, whose key was added
-pub one_added : {w x y : WorkerView} (key : ℕ) → HasTurn w.turns x.turns → x.swept ≡ w.swept → y ≡ with_swept x key → TakesOne 0 w y
+pub one_added : {w x y : WorkerView} (key : ℕ) → HasTurn w.turns x.turns → x.swept ≡ w.swept → y ≡ with_swept x key → TakesOne w y
 one_added {w} {x} {y} key turn swept is = record {
   unless_full = λ not.
       let spent : x.turns.spent ≡ w.turns.spent + 1 = ap (λ t. t.spent) turn.1 in
@@ -98,21 +95,21 @@ one_added {w} {x} {y} key turn swept is = record {
 }
 
 module _ {S G N : Type 0} {m : GameModel S} {s : S} {limit : ℕ} {v x : WorkView G N} (worked : IsWorkedBelow m s limit v x) where
-  pub one_after : {states most : ℕ} {w : WorkerView} → states ≤ most → TakesOne 0 w v.worker → TakesOne states v.worker x.worker → TakesOne most w x.worker
-  one_after few p q = record {
+  pub one_after : {w : WorkerView} → TakesOne w v.worker → TakesOne v.worker x.worker → TakesOne w x.worker
+  one_after p q = record {
     unless_full = λ not. let a = p.unless_full (not_before v.settled.was_full x.settled.was_full worked.settled.full not) in let b = q.unless_full not in omega arith;
   }
 
   -- an end, after a part that took no turn
-  pub ended_after : (rank : ℕ) (Known : Type 0) {u : WorkerView} → TakesOne 0 u v.worker → (stop : Option Stop) → IsSweepEnd m s rank Known v.worker x stop → IsSweepEnd m s rank Known u x stop
-  ended_after rank Known p None end = (end.0, one_after (omega arith) p end.1)
-  ended_after rank Known p (Some stop) end = (end.0, one_after (omega arith) p end.1)
+  pub ended_after : (Known : Type 0) {u : WorkerView} → TakesOne u v.worker → (stop : Option Stop) → IsSweepEnd m s Known v.worker x stop → IsSweepEnd m s Known u x stop
+  ended_after Known p None end = (end.0, one_after p end.1)
+  ended_after Known p (Some stop) end = (end.0, one_after p end.1)
 
 -- ---- sweeps over the states after moves
 -- what was kept so far, what is done, and the rows that are known
 pub record IsSweeping {S G N : Type 0} (m : GameModel S) (is_last : Bool) (s : S) (places : KeptRows) (old new : WorkView G N) (Known : Type 0) : Type 0 where
   pub swept : HasSwept m is_last s (m.rank s) old new
-  pub turns : TakesOne 0 old.worker new.worker
+  pub turns : TakesOne old.worker new.worker
   pub done : Known
   pub children : AreChildRows m new.board s places
 
@@ -127,9 +124,9 @@ module _ {S G N : Type 0} {m : GameModel S} {is_last : Bool} {s : S} where
   sweeping_read p later same children done = record { swept = swept_read p.swept later same; turns = p.turns; done = done; children = children }
 
   pub sweeping_more : {xs ys : KeptRows} {u v w : WorkView G N} {Known More : Type 0} → IsSweeping m is_last s xs u v Known → HasSwept m is_last s (m.rank s) v w
-      → TakesOne 0 v.worker w.worker → AreChildRows m w.board s ys → More → IsSweeping m is_last s ys u w More
+      → TakesOne v.worker w.worker → AreChildRows m w.board s ys → More → IsSweeping m is_last s ys u w More
   sweeping_more p swept turns children done =
-      record { swept = swept_after p.swept swept; turns = one_after swept.worked (omega arith) p.turns turns; done = done; children = children }
+      record { swept = swept_after p.swept swept; turns = one_after swept.worked p.turns turns; done = done; children = children }
 
 -- ---- a restricted game that holds all moves
 -- how close the bounds are after a step
@@ -154,66 +151,79 @@ met_not_beyond m v w s target some later near far = not_both _ _ _ _ (known_late
   not_both a b c d low high near far = absurd (omega (arith, ints))
 
 -- ---- the turns of whole sweeps
-module _ {S G N : Type 0} {m : GameModel S} {rank : ℕ} where
-  pub owed_none : {sweeps a b : ℕ} (v : BoardView G N) → b ≤ a → TakesSweeps m sweeps v rank a b
-  owed_none v few = record { keys = []; swept = finished_none v; few = omega arith }
+-- the longer of two lists
+longer : {S G N : Type 0} {m : GameModel S} {is_close : Bool} {v : BoardView G N} (xs ys : List ℕ) → AreFinished m is_close v xs → AreFinished m is_close v ys
+    → (zs : List ℕ) × AreFinished m is_close v zs × (length xs ≤ length zs) × (length ys ≤ length zs)
+longer xs ys p q = elim (cases_lt (length xs) (length ys)) [
+  | inl less ↦ (ys, q, omega (arith, less), omega arith)
+  | inr most ↦ (xs, p, omega arith, omega (arith, most))
+]
+
+module _ {S G N : Type 0} {m : GameModel S} where
+  pub owed_none : {earlier last a b : ℕ} (v : BoardView G N) → b ≤ a → TakesSweeps m earlier last v a b
+  owed_none v few = record { keys = []; swept = finished_none v; finished = []; closed = finished_none v; few = omega arith }
 
   -- a sweep that began with no state finished
-  pub owed_sweep : {is_last : Bool} {states : ℕ} {v t : BoardView G N} {w x : WorkerView} (u : WorkerView) → w ≡ record u { swept = [] } → states ≤ rank → IsLater v t → AreFinished m is_last v x.swept
-      → TakesOne states w x → x.settled.was_full ≡ false → TakesSweeps m 1 t rank u.turns.spent x.turns.spent
-  owed_sweep {states = states} {w = w} {x = x} u is few later swept took not =
-      let begun : length w.swept ≡ 0 = ap (λ (z : WorkerView). length z.swept) is in
-      let spent : w.turns.spent ≡ u.turns.spent = ap (λ (z : WorkerView). z.turns.spent) is in
-      let most = took.unless_full not in
-      record { keys = x.swept; swept = finished_open (finished_later later swept); few = omega arith }
+  pub owed_sweep : {is_last : Bool} {v t : BoardView G N} {w x : WorkerView} (u : WorkerView) → w ≡ record u { swept = [] } → IsLater v t → AreFinished m is_last v x.swept
+      → TakesOne w x → x.settled.was_full ≡ false → TakesSweeps m (cond is_last 0 1) (cond is_last 1 0) t u.turns.spent x.turns.spent
+  owed_sweep {is_last = is_last} {t = t} {w = w} {x = x} u is later swept took not = of is_last (finished_later later swept) where
+    begun : length w.swept ≡ 0
+    begun = ap (λ (z : WorkerView). length z.swept) is
 
-  -- the longer list is owed the turns of both
-  pub owed_after : {p q a b c : ℕ} {u v : BoardView G N} → IsLater u v → TakesSweeps m p u rank a b → TakesSweeps m q v rank b c → TakesSweeps m (p + q) v rank a c
-  owed_after {p} {q} later x y =
-      let first = x.few in let last = y.few in
-      ⊎_elim
-      (λ (l : length x.keys < length y.keys).
-      let more : p * (length x.keys + rank) ≤ p * (length y.keys + rank) = mul-le-mul_left p (omega arith) in
-      record { keys = y.keys; swept = y.swept; few = omega arith })
-      (λ (g : length y.keys ≤ length x.keys).
-      let more : q * (length y.keys + rank) ≤ q * (length x.keys + rank) = mul-le-mul_left q (omega arith) in
-      record { keys = x.keys; swept = finished_later later x.swept; few = omega arith })
-      (cases_lt (length x.keys) (length y.keys))
+    spent : w.turns.spent ≡ u.turns.spent
+    spent = ap (λ (z : WorkerView). z.turns.spent) is
 
-  pub owed_wider : {p q a b : ℕ} {v : BoardView G N} → p ≤ q → TakesSweeps m p v rank a b → TakesSweeps m q v rank a b
-  owed_wider {p} {q} wide x =
-      let few = x.few in let more : p * (length x.keys + rank) ≤ q * (length x.keys + rank) = mul-le-mul_right (length x.keys + rank) wide in
-      record { keys = x.keys; swept = x.swept; few = omega arith }
+    of : (b : Bool) → AreFinished m b t x.swept → TakesSweeps m (cond b 0 1) (cond b 1 0) t u.turns.spent x.turns.spent
+    of true are = record { keys = []; swept = finished_none t; finished = x.swept; closed = are; few = let most = took.unless_full not in omega (arith, begun, spent) }
+    of false are = record { keys = x.swept; swept = are; finished = []; closed = finished_none t; few = let most = took.unless_full not in omega (arith, begun, spent) }
+
+  -- the longer lists are owed the turns of both
+  pub owed_after : {p q x y a b c : ℕ} {u v : BoardView G N} → IsLater u v → TakesSweeps m p x u a b → TakesSweeps m q y v b c → TakesSweeps m (p + q) (x + y) v a c
+  owed_after {p} {q} {x} {y} later one two =
+      let keys = longer one.keys two.keys (finished_later later one.swept) two.swept in
+      let finished = longer one.finished two.finished (finished_later later one.closed) two.closed in
+      let first = one.few in let last = two.few in
+      let more_one : p * length one.keys ≤ p * length keys.0 = mul-le-mul_left p keys.2 in
+      let more_two : q * length two.keys ≤ q * length keys.0 = mul-le-mul_left q keys.3 in
+      let last_one : x * length one.finished ≤ x * length finished.0 = mul-le-mul_left x finished.2 in
+      let last_two : y * length two.finished ≤ y * length finished.0 = mul-le-mul_left y finished.3 in
+      record { keys = keys.0; swept = keys.1; finished = finished.0; closed = finished.1; few = omega arith }
+
+  pub owed_wider : {p q x y a b : ℕ} {v : BoardView G N} → p ≤ q → x ≤ y → TakesSweeps m p x v a b → TakesSweeps m q y v a b
+  owed_wider {p} {q} {x} {y} wide last owed =
+      let few = owed.few in
+      let more : p * length owed.keys ≤ q * length owed.keys = mul-le-mul_right (length owed.keys) wide in
+      let more_last : x * length owed.finished ≤ y * length owed.finished = mul-le-mul_right (length owed.finished) last in
+      record { keys = owed.keys; swept = owed.swept; finished = owed.finished; closed = owed.closed; few = omega arith }
 
 -- ---- whole sweeps
--- what the sweeps so far leave to the next
+-- what so many sweeps, none of them the last, leave to the next
 pub record HasMade {S G N : Type 0} (m : GameModel S) (s : S) (sweeps : ℕ) (old new : WorkView G N) : Type 0 where
   pub worked : IsWorked m s old new
-  pub owed : new.settled.was_full ≡ false → TakesSweeps m sweeps new.board (m.rank s) old.turns.spent new.turns.spent
+  pub owed : new.settled.was_full ≡ false → TakesSweeps m sweeps 0 new.board old.turns.spent new.turns.spent
 
 module _ {S G N : Type 0} {m : GameModel S} {s : S} {u v : WorkView G N} where
   pub made_wider : {p q : ℕ} → p ≤ q → HasMade m s p u v → HasMade m s q u v
-  made_wider wide made = record { worked = made.worked; owed = λ not. owed_wider wide (made.owed not) }
+  made_wider wide made = record { worked = made.worked; owed = λ not. owed_wider wide (omega arith) (made.owed not) }
 
   module _ {w : WorkView G N} {sweeps : ℕ} (made : HasMade m s sweeps u v) (worked : IsWorked m s v w) where
     not_full : w.settled.was_full ≡ false → v.settled.was_full ≡ false
     not_full = not_before v.settled.was_full w.settled.was_full worked.settled.full
 
-    pub made_more : {target : ℤ} {is_last : Bool} → LeavesToNext m s target is_last v w → HasMade m s (sweeps + 1) u w
+    pub made_more : {target : ℤ} → LeavesToNext m s target false v w → HasMade m s (sweeps + 1) u w
     made_more left = record { worked = worked_after made.worked worked; owed = λ not. owed_after worked.board.later (made.owed (not_full not)) (left.owed not) }
 
-    -- the last of them
-    pub made_end : {target : ℤ} {most : ℕ} {end : SearchEnd} → sweeps + 1 ≤ most → EndsBySweeps m s target 1 v w end → EndsBySweeps m s target most u w end
-    made_end few last = record {
-      ends = last.ends;
-      owed = λ not. owed_wider few (owed_after worked.board.later (made.owed (not_full not)) (last.owed not));
-      turned = λ is. let before = made.worked.turns.rises in let one = last.turned is in omega arith;
+    -- the end with one more, be it the last
+    pub made_end : (earlier last : ℕ) {target : ℤ} {end : SearchEnd} → sweeps + earlier ≤ 2 → last ≤ 1 → EndsBySweeps m s target earlier last v w end → EndsBySweeps m s target 2 1 u w end
+    made_end earlier last few one ended = record {
+      ends = ended.ends;
+      owed = λ not. owed_wider {x = 0 + last} few (omega arith) (owed_after worked.board.later (made.owed (not_full not)) (ended.owed not));
+      turned = λ is. let before = made.worked.turns.rises in let turn = ended.turned is in omega arith;
     }
 
 -- the search is settled after the last sweep
-pub ends_settled : {S G N : Type 0} {m : GameModel S} {s : S} {target : ℤ} {is_last : Bool} {v w : WorkView G N} → 1 ≤ m.rank s → is_last ≡ true → LeavesToNext m s target is_last v w
-    → EndsBySweeps m s target 1 v w Settled
-ends_settled goes_on last left = record { ends = (goes_on, left.beyond, left.close last); owed = left.owed; turned = λ _. left.turned last }
+pub ends_settled : {S G N : Type 0} {m : GameModel S} {s : S} {target : ℤ} {v w : WorkView G N} → 1 ≤ m.rank s → LeavesToNext m s target true v w → EndsBySweeps m s target 0 1 v w Settled
+ends_settled goes_on left = record { ends = (goes_on, left.beyond, left.close refl); owed = left.owed; turned = λ _. left.turned refl }
 
 -- ---- how the search of a state ends
 module _ {S G N : Type 0} {m : GameModel S} {s : S} {target : ℤ} {u v : WorkView G N} {end : SearchEnd} where
@@ -226,9 +236,9 @@ module _ {S G N : Type 0} {m : GameModel S} {s : S} {target : ℤ} {u v : WorkVi
     bounded_grown keys regret ended =
         record { ends = ended.ends; turns = λ _. taken_from turns keys ended.turns; owed = λ linear. let wrong : false ≡ true = sym regret ∙ linear in absurd (cc) }
 
-    pub bounded_swept : start.linear ≡ true → EndsBySweeps m s target 3 u v end → HasBounded m s target start v end
+    pub bounded_swept : start.linear ≡ true → EndsBySweeps m s target 2 1 u v end → HasBounded m s target start v end
     bounded_swept linear ended = record {
       ends = ended.ends;
       turns = λ regret. let wrong : false ≡ true = sym regret ∙ linear in absurd (cc);
-      owed = λ _ not. subst (λ (n : ℕ). TakesSweeps m 3 v.board (m.rank s) n v.turns.spent) turns (ended.owed not);
+      owed = λ _ not. subst (λ (n : ℕ). TakesSweeps m 2 1 v.board n v.turns.spent) turns (ended.owed not);
     }

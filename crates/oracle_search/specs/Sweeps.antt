@@ -1,5 +1,5 @@
 -- The sweeps of a search with linear stages.
-use Rattle.std.specs.Prelude.{◌≡◌, ℕ, ◌+◌, ◌*◌, ◌≤◌, ◌<◌, ℤ, Bool, true, false, Option, None, Some, List, length}
+use Rattle.std.specs.Prelude.{◌≡◌, ℕ, ◌+◌, ◌*◌, ◌≤◌, ◌<◌, ℤ, Bool, true, false, cond, Option, None, Some, List, length}
 use Rattle.std.specs.List.{range_with_len}
 use Rattle.sim_game.specs.declared.Side.TheVariants.{One, Two}
 use Rattle.sim_game.specs.Model.{GameModel}
@@ -19,14 +19,14 @@ pub record HasSwept {S G N : Type 0} (m : GameModel S) (is_last : Bool) (s : S) 
   pub added : AreAdded m is_last new.board limit old.swept new.swept
   pub kept : AreFinished m is_last new.board new.swept
 
--- as long as no claim was full: at most one turn for each state that the sweep has finished, and for so many others
-pub record TakesOne (states : ℕ) (old new : WorkerView) : Type 0 where
-  pub unless_full : new.settled.was_full ≡ false → new.turns.spent + length old.swept ≤ old.turns.spent + length new.swept + states
+-- as long as no claim was full: at most one turn for each state that the sweep has finished
+pub record TakesOne (old new : WorkerView) : Type 0 where
+  pub unless_full : new.settled.was_full ≡ false → new.turns.spent + length old.swept ≤ old.turns.spent + length new.swept
 
--- how a sweep over states of at most this rank ends: all is known, or it stopped at one of them
-abbrev pub IsSweepEnd : {S G N : Type 0} → GameModel S → S → ℕ → Type 0 → WorkerView → WorkView G N → Option Stop → Type 0
-IsSweepEnd m s rank Known old new None = Known × TakesOne 0 old new.worker
-IsSweepEnd m s rank Known old new (Some stop) = IsStop m s new stop × TakesOne rank old new.worker
+-- how a sweep over states ends: all is known, or it stopped at one of them, where it took no turn
+abbrev pub IsSweepEnd : {S G N : Type 0} → GameModel S → S → Type 0 → WorkerView → WorkView G N → Option Stop → Type 0
+IsSweepEnd m s Known old new None = Known × TakesOne old new.worker
+IsSweepEnd m s Known old new (Some stop) = IsStop m s new stop × TakesOne old new.worker
 
 -- in the last sweep each state that is no end is as close as its rank allows
 abbrev pub IsSweepDone : {S G N : Type 0} → GameModel S → Bool → BoardView G N → S → Type 0
@@ -37,35 +37,38 @@ abbrev pub AreAllDone : {S G N : Type 0} → GameModel S → BoardView G N → S
 AreAllDone m v s = (one two : ℕ) → one < m.moves One s → two < m.moves Two s → AreDone m v s one two
 
 -- ---- whole sweeps
--- so many sweeps took at most a turn each for each state of a list, none twice, of which each has a row, and for each rank
-pub record TakesSweeps {S G N : Type 0} (m : GameModel S) (sweeps : ℕ) (v : BoardView G N) (rank old new : ℕ) : Type 0 where
+-- so many sweeps before the last took at most a turn each for each state of a list, none twice, of which each has a row; and so many
+-- last ones for each state of another list, none twice, whose bounds are besides as close as its rank allows
+pub record TakesSweeps {S G N : Type 0} (m : GameModel S) (earlier last : ℕ) (v : BoardView G N) (old new : ℕ) : Type 0 where
   pub keys : List ℕ
   pub swept : AreFinished m false v keys
-  pub few : new ≤ old + sweeps * (length keys + rank)
+  pub finished : List ℕ
+  pub closed : AreFinished m true v finished
+  pub few : new ≤ old + earlier * length keys + last * length finished
 
 -- how a search ends by so many sweeps
-pub record EndsBySweeps {S G N : Type 0} (m : GameModel S) (s : S) (target : ℤ) (sweeps : ℕ) (old new : WorkView G N) (end : SearchEnd) : Type 0 where
+pub record EndsBySweeps {S G N : Type 0} (m : GameModel S) (s : S) (target : ℤ) (earlier last : ℕ) (old new : WorkView G N) (end : SearchEnd) : Type 0 where
   pub ends : Ends m s target new end
-  pub owed : new.settled.was_full ≡ false → TakesSweeps m sweeps new.board (m.rank s) old.turns.spent new.turns.spent
+  pub owed : new.settled.was_full ≡ false → TakesSweeps m earlier last new.board old.turns.spent new.turns.spent
   pub turned : end ≡ Settled → old.turns.spent + 1 ≤ new.turns.spent
 
 -- what a sweep leaves to the next: the gap is above the target, and as close as the rank allows after the last sweep
 pub record LeavesToNext {S G N : Type 0} (m : GameModel S) (s : S) (target : ℤ) (is_last : Bool) (old new : WorkView G N) : Type 0 where
   pub beyond : IsBeyond m new.board s target
   pub close : is_last ≡ true → IsClose m new.board s
-  pub owed : new.settled.was_full ≡ false → TakesSweeps m 1 new.board (m.rank s) old.turns.spent new.turns.spent
+  pub owed : new.settled.was_full ≡ false → TakesSweeps m (cond is_last 0 1) (cond is_last 1 0) new.board old.turns.spent new.turns.spent
   pub turned : is_last ≡ true → old.turns.spent + 1 ≤ new.turns.spent
 
 -- how the search ends with a sweep, if it does
 abbrev pub IsAfterSweep : {S G N : Type 0} → GameModel S → S → ℤ → Bool → WorkView G N → WorkView G N → Option SearchEnd → Type 0
 IsAfterSweep m s target is_last old new None = LeavesToNext m s target is_last old new
-IsAfterSweep m s target is_last old new (Some end) = EndsBySweeps m s target 1 old new end
+IsAfterSweep m s target is_last old new (Some end) = EndsBySweeps m s target (cond is_last 0 1) (cond is_last 1 0) old new end
 
 -- how the search of a state ends: with regret matching turns are counted by states, with linear stages by sweeps
 pub record HasBounded {S G N : Type 0} (m : GameModel S) (s : S) (target : ℤ) (old new : WorkView G N) (end : SearchEnd) : Type 0 where
   pub ends : Ends m s target new end
   pub turns : old.linear ≡ false → HasTaken m s end old new
-  pub owed : old.linear ≡ true → new.settled.was_full ≡ false → TakesSweeps m 3 new.board (m.rank s) old.turns.spent new.turns.spent
+  pub owed : old.linear ≡ true → new.settled.was_full ≡ false → TakesSweeps m 2 1 new.board old.turns.spent new.turns.spent
 
 -- ---- the moves of a state
 -- a restricted game at the state that holds all moves

@@ -8,7 +8,7 @@ ghost use Rattle.oracle_search.specs.Searches.{stop_of};
 pub enum SearchEnd {
     /// The gap is at most the target.
     Reached,
-    /// The gap is as close as the stages reach, and above the target.
+    /// The gap is above the target, and at most what the rank of the state allows.
     Settled,
     /// No turn is left.
     Spent,

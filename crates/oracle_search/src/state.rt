@@ -45,9 +45,10 @@ pub fn search<G: Game, B: Bounds<G>, T: Gate>(
     ensures turns { worker.old.linear ≡ false → IfOk result (λ end. HasTaken (G.model setup.now.game) s end
         (at_start (B.view board.old) worker.old) (at_work (B.view board.new) worker.new)) }
 
-    // With linear stages: at most three sweeps of a turn for each state that has a row.
+    // With linear stages: at most two sweeps of a turn for each state that has a row, and a last one of a turn for each
+    // state that it brings as close as its rank allows.
     ensures owed { worker.old.linear ≡ true → worker.new.settled.was_full ≡ false
-        → IfOk result (λ _. TakesSweeps (G.model setup.now.game) 3 (B.view board.new) ((G.model setup.now.game).rank s)
+        → IfOk result (λ _. TakesSweeps (G.model setup.now.game) 2 1 (B.view board.new)
         worker.old.turns.spent worker.new.turns.spent) }
     ensures pure { IfOk result (BoundsByPure (G.model setup.now.game) s target
         (at_start (B.view board.old) worker.old) (at_work (B.view board.new) worker.new)) }

@@ -1,6 +1,6 @@
 //! A search by sweeps over the states that a state leads to, with linear stages.
 
-ghost use Rattle.std.specs.Prelude.{◌≡◌, ◌≤◌, ◌≤ℤ◌, pos, true, Some, IsTrue, IfOk};
+ghost use Rattle.std.specs.Prelude.{◌≡◌, ◌≤◌, ◌≤ℤ◌, pos, true, false, Some, IsTrue, IfOk};
 ghost use Rattle.sim_game.specs.Model.{Reachable};
 ghost use Rattle.oracle_search.specs.Sweeps.{EndsBySweeps, IsAfterSweep};
 ghost use Rattle.oracle_search.specs.Workers.{at_work};
@@ -47,7 +47,9 @@ impl Sweep {
     }
 
     /// A sweep of another goal, which is not the last.
-    fn with_goal(&self, goal: i64) -> Sweep {
+    fn with_goal(&self, goal: i64) -> Sweep
+        ensures { result.is_last ≡ false }
+    {
         Sweep {
             goal,
             rank: self.rank,
@@ -98,7 +100,7 @@ pub(crate) fn make_sweeps<G: Game, B: Bounds<G>, T: Gate>(
     requires target { pos 0 ≤ℤ target }
     ensures worked { IsWorked (G.model setup.now.game) s
         (at_work (B.view board.old) worker.old) (at_work (B.view board.new) worker.new) }
-    ensures ended { IfOk result (EndsBySweeps (G.model setup.now.game) s target 3
+    ensures ended { IfOk result (EndsBySweeps (G.model setup.now.game) s target 2 1
         (at_work (B.view board.old) worker.old) (at_work (B.view board.new) worker.new)) }
 {
     worker.forget_searches(setup.alloc);

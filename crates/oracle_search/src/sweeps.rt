@@ -1,6 +1,6 @@
 //! One sweep over the states that a state leads to: a turn for each, its children first.
 
-ghost use Rattle.std.specs.Prelude.{◌≡◌, ◌⊎◌, ◌+◌, ◌-◌, ◌<◌, ◌≤◌, ◌≤ℤ◌, pos, true, None, Some, Ok, Err, IsTrue, IsFalse, IfOk, Contains};
+ghost use Rattle.std.specs.Prelude.{◌≡◌, ◌⊎◌, ◌+◌, ◌<◌, ◌≤◌, ◌≤ℤ◌, pos, true, None, Some, Ok, Err, IsTrue, IsFalse, IfOk, Contains};
 ghost use Rattle.sim_game.specs.declared.Side.{Side};
 ghost use Rattle.sim_game.specs.Model.{Reachable};
 ghost use Rattle.restricted_game.specs.Children.{AreChildRows};
@@ -36,7 +36,7 @@ pub(crate) fn sweep_state<G: Game, B: Bounds<G>, T: Gate>(
     requires unmet { Contains worker.old.swept ((G.model setup.now.game).key s) → ⊥ }
     ensures swept { HasSwept (G.model setup.now.game) sweep.now.is_last s ((G.model setup.now.game).rank s + 1)
         (at_work (B.view board.old) worker.old) (at_work (B.view board.new) worker.new) }
-    ensures ended { IfOk result (IsSweepEnd (G.model setup.now.game) s ((G.model setup.now.game).rank s)
+    ensures ended { IfOk result (IsSweepEnd (G.model setup.now.game) s
         (IsSweepDone (G.model setup.now.game) sweep.now.is_last (B.view board.new) s)
         worker.old (at_work (B.view board.new) worker.new)) }
     ensures turned { result ≡ Ok None → sweep.now.is_last ≡ true
@@ -87,7 +87,6 @@ fn close_in<G: Game, B: Bounds<G>, T: Gate>(
         ((G.model setup.now.game).rank node.state + 1)
         (at_work (B.view board.old) worker.old) (at_work (B.view board.new) worker.new) }
     ensures ended { IfOk result (IsSweepEnd (G.model setup.now.game) node.state
-        ((G.model setup.now.game).rank node.state)
         (IsSweepDone (G.model setup.now.game) sweep.now.is_last (B.view board.new) node.state)
         worker.old (at_work (B.view board.new) worker.new)) }
     ensures turned { result ≡ Ok None → sweep.now.is_last ≡ true
@@ -146,7 +145,7 @@ fn sweep_children<G: Game, B: Bounds<G>, T: Gate>(
     ensures children { AreChildRows (G.model setup.now.game) (B.view board.new) s children.new }
     ensures swept { HasSwept (G.model setup.now.game) sweep.now.is_last s ((G.model setup.now.game).rank s)
         (at_work (B.view board.old) worker.old) (at_work (B.view board.new) worker.new) }
-    ensures ended { IfOk result (IsSweepEnd (G.model setup.now.game) s ((G.model setup.now.game).rank s - 1)
+    ensures ended { IfOk result (IsSweepEnd (G.model setup.now.game) s
         (sweep.now.is_last ≡ true → AreAllDone (G.model setup.now.game) (B.view board.new) s)
         worker.old (at_work (B.view board.new) worker.new)) }
 {
@@ -197,7 +196,7 @@ fn sweep_draws<G: Game, B: Bounds<G>, T: Gate>(
     ensures children { AreChildRows (G.model setup.now.game) (B.view board.new) s children.new }
     ensures swept { HasSwept (G.model setup.now.game) sweep.now.is_last s ((G.model setup.now.game).rank s)
         (at_work (B.view board.old) worker.old) (at_work (B.view board.new) worker.new) }
-    ensures ended { IfOk result (IsSweepEnd (G.model setup.now.game) s ((G.model setup.now.game).rank s - 1)
+    ensures ended { IfOk result (IsSweepEnd (G.model setup.now.game) s
         (sweep.now.is_last ≡ true → AreDone (G.model setup.now.game) (B.view board.new) s moves.0 moves.1)
         worker.old (at_work (B.view board.new) worker.new)) }
 {
@@ -234,7 +233,7 @@ fn sweep_child<G: Game, B: Bounds<G>, T: Gate>(
     requires swept { AreFinished (G.model setup.now.game) sweep.now.is_last (B.view board.old) worker.old.swept }
     ensures swept { HasSwept (G.model setup.now.game) sweep.now.is_last s ((G.model setup.now.game).rank s + 1)
         (at_work (B.view board.old) worker.old) (at_work (B.view board.new) worker.new) }
-    ensures ended { IfOk result (IsSweepEnd (G.model setup.now.game) s ((G.model setup.now.game).rank s)
+    ensures ended { IfOk result (IsSweepEnd (G.model setup.now.game) s
         (IsSweepDone (G.model setup.now.game) sweep.now.is_last (B.view board.new) s)
         worker.old (at_work (B.view board.new) worker.new)) }
 {

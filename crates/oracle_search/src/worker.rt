@@ -114,7 +114,7 @@ impl Worker {
         &self.serial.visits
     }
 
-    /// The states that it has finished.
+    /// The states that it has finished; none with linear stages, whose sweeps keep their own.
     pub fn settled(&self) -> &Settled
         ensures { result.now ≡ self.now.settled }
     {

@@ -1,6 +1,6 @@
 -- The lists of a nested form fit each other, and their game is the one that the form tells.
-use Rattle.std.proofs.Common.{◌≡◌, ℕ, zero, suc, ◌+◌, ◌-◌, ◌*◌, ◌%◌, ◌<◌, ◌≤◌, ℤ, pos, negsuc, Bool, true, ◌&&◌, ◌||◌, not, ◌+ℤ◌, cond, eqb, List, [], ◌∷◌, length, map, drop, get_or, false, Option, None, Some, refl, ap, sym, subst, ◌∙◌, inl, inr, arith, add-one}
-use Rattle.std.proofs.lemmas.Bool.{both_ways, or_left, or_right, and_from, and_parts, cases_lt, cond_both, cond-false, cond-true, eq-eqb, le-leb, ne_eqb}
+use Rattle.std.proofs.Common.{◌≡◌, ℕ, zero, suc, ◌+◌, ◌-◌, ◌*◌, ◌%◌, ◌<◌, ◌≤◌, ℤ, pos, negsuc, Bool, true, ◌&&◌, ◌||◌, not, ◌+ℤ◌, cond, eqb, List, [], ◌∷◌, length, map, drop, get_or, false, Option, None, Some, refl, ap, sym, subst, ◌∙◌, ◌⊎◌, inl, inr, arith, add-one}
+use Rattle.std.proofs.lemmas.Bool.{both_ways, or_left, or_right, and_from, and_parts, cases_lt, cond_both, cond-false, cond-true, eq-eqb, eqb-true, le-leb, ne_eqb}
 use Rattle.std.proofs.lemmas.Bool.Decides.{Decides-int_eq}
 use Rattle.std.proofs.lemmas.Int.{ints}
 use Rattle.std.proofs.lemmas.List.{get_or-map, length-map}
@@ -21,17 +21,18 @@ use Rattle.table.specs.declared.TableError.TheVariants as errors
 use Rattle.table.specs.declared.rules.CellRule.TheVariants as CellRule
 use Rattle.table.specs.declared.rules.Rule.TheVariants as Rule
 use Rattle.table.specs.Below.{first_below, worst_upto}
-use Rattle.table.specs.BelowLemmas.{all_from, greatest_high, or_none, or_there, worst_found}
+use Rattle.table.specs.BelowLemmas.{all_at, all_from, greatest_high, or_none, or_there, worst_found}
 use Rattle.table.specs.Faults.{AreOrdered, are_rewards, cell_fits, fault_at, is_rank, first_fault, most_table_turns, shape_fault, rule_fault, do_draws_fit, do_fit, do_states_fit, have_counts, state_fits}
 use Rattle.table.specs.Laws.{bound_turn, is_inner, last_is_end, least_at, moves_width, pair_below, payoff_at, range_state}
-use Rattle.table.specs.Lists.{Lists, cell_rank, next_rank, cells_of, count_in, count_of, draw_reward, draw_state, draw_total, draw_weight, draws_end, draws_at, end_at, first_draw, has_rewards, place_at, state_count, table_cell, table_moves, table_rank, table_reward, table_state, table_value, table_weight}
+use Rattle.table.specs.Lists.{Lists, cell_rank, next_rank, cells_of, count_in, count_of, draw_reward, draw_state, draw_total, draw_weight, draws_end, draws_at, end_at, first_draw, has_rewards, is_chance_free, place_at, state_count, table_cell, table_moves, table_rank, table_reward, table_state, table_value, table_weight, table_width}
 use Rattle.table.specs.Nested.{CellForm, Follows, Draws, StateForm, End, Rows, are_in_range, cell_in_range, columns_in, draw_told, draws_of_form, greatest_in, has_paid_draw, kept_cells, lists_of_states, named_by, rank_behind, rank_told, ranks_told, reward_told, state_in_range}
-use Rattle.table.specs.NestedGame.{cell_chance, cell_draws, cell_follows, cell_reward, form_at, form_cell, form_moves, form_sum, range_sum, rows_in, worst_sum, HaveMoves, IsFormTurn, IsNestedGame, IsPaidFor, IsUnpaid}
+use Rattle.table.specs.NestedGame.{cell_chance, cell_draws, cell_follows, cell_reward, form_at, form_cell, form_moves, form_sum, range_sum, rows_in, worst_sum, HaveMoves, HaveOneDraw, IsFormTurn, IsNestedGame, IsPaidFor, IsUnpaid}
 use Rattle.table.specs.NestedRanks.{HaveLongestWays}
 use Rattle.table.specs.Position.{IsTable}
 use Rattle.table.specs.Rules.{place_of, table_game}
 use Rattle.table.specs.Totals.{state_total, table_bound, table_range, turn_total, worst_payoff}
 use Rattle.table.proofs.PayoffLemmas.{greatest_found, least_found, IsPaid}
+use Rattle.table.proofs.PlaceLemmas.{cell_found, width_found}
 use Rattle.table.proofs.PositionLemmas.{rank_no_higher, table_of}
 use Rattle.table.proofs.RankLemmas.{bound_at_end, bound_found, turn_of_cell}
 use Rattle.table.proofs.RangeLemmas.{forms_in_range}
@@ -477,6 +478,33 @@ module _ (limits : Limits) (forms : List StateForm) (fine : list_all (state_in_r
         range_there = range_found side;
       }
 
+    -- ---- the width, and whether there is chance
+    width_told : (table_width l ≡ 1) ⊎ ((side : Side) × (s : ℕ) × (s < length forms) × (form_moves side (form_at forms s) ≡ table_width l))
+    width_told = elim (width_found l p) [
+      | inl one ↦ inl one
+      | inr found ↦
+          let here : found.1 < length forms = omega (arith, found.2, states_are) in
+          inr (found.0, found.1, here, omega (arith, same_moves found.0 found.1 here, found.3))
+    ]
+
+    one_draw : is_chance_free l ≡ true → HaveOneDraw forms
+    one_draw free s a b m =
+        let place = place_of l s.number a b in
+        let below : place < length l.cells = omega (arith, (there s a b m).0, cells_are) in
+        sym (same_draws s a b m) ∙ eqb-true (draws_at l place) 1 (all_at (length l.cells) (λ place. eqb (draws_at l place) 1) place free below)
+
+    no_chance : HaveOneDraw forms → is_chance_free l ≡ true
+    no_chance one = all_from (length l.cells) (λ place. eqb (draws_at l place) 1) (λ place below.
+        let found = cell_found l p place below in
+        let s : State = record { number = found.0 } in
+        let here : found.0 < length forms = omega (arith, found.3, states_are) in
+        let m : HaveMoves forms s found.1 found.2 = record {
+          here = here;
+          one = omega (arith, same_moves One found.0 here, found.4);
+          two = omega (arith, same_moves Two found.0 here, found.5);
+        } in
+        eq-eqb (draws_at l place) 1 (ap (draws_at l) (sym found.6) ∙ same_draws s found.1 found.2 m ∙ one s found.1 found.2 m))
+
     pub nested_game : IsNestedGame forms (table_game l)
     nested_game = record {
       root = refl;
@@ -492,6 +520,8 @@ module _ (limits : Limits) (forms : List StateForm) (fine : list_all (state_in_r
       unpaid = is_unpaid;
       paid = is_paid;
       width_most = λ side s here. omega (arith, same_moves side s here, moves_width l p side s (omega (arith, here, states_are)));
+      width_there = width_told;
+      chance_free_is = (one_draw, no_chance);
     }
 
 -- ---- ranks that are refused

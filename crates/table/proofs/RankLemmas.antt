@@ -17,7 +17,7 @@ use Rattle.table.specs.Totals.{state_total, table_bound, turn_total, worst_payof
 use Rattle.table.proofs.TotalLemmas.{total_found}
 
 -- the greatest is one of them
-greatest_found : (n : ℕ) (f : ℕ → ℕ) → 1 ≤ n → (i : ℕ) × (i < n) × (f i ≡ highest_below n f)
+pub greatest_found : (n : ℕ) (f : ℕ → ℕ) → 1 ≤ n → (i : ℕ) × (i < n) × (f i ≡ highest_below n f)
 greatest_found zero f h = absurd (omega arith)
 greatest_found (suc n) f h = elim (cases_lt 0 n) [
   | inl more ↦

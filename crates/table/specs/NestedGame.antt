@@ -1,5 +1,5 @@
 -- The game of a table, told by its nested form alone: no list of cells or draws, no place.
-use Rattle.std.specs.Prelude.{◌≡◌, ℕ, ◌<◌, ◌≤◌, ℤ, pos, ◌+ℤ◌, ◌≤ℤ◌, unsigned_abs, true, false, List, [], length, slice_index_or}
+use Rattle.std.specs.Prelude.{◌≡◌, ◌⊎◌, ◌↔◌, ℕ, ◌<◌, ◌≤◌, ℤ, pos, ◌+ℤ◌, ◌≤ℤ◌, unsigned_abs, true, false, IsTrue, List, [], length, slice_index_or}
 use Rattle.sim_game.specs.declared.Side.{Side}
 use Rattle.sim_game.specs.declared.Side.TheVariants.{One, Two}
 use Rattle.sim_game.specs.Model.{whole_chance, GameModel, IsEnd}
@@ -59,6 +59,10 @@ pub record HaveMoves (forms : List StateForm) (s : State) (a b : ℕ) : Type 0 w
   pub one : a < form_moves One (form_at forms s.number)
   pub two : b < form_moves Two (form_at forms s.number)
 
+-- each cell of two moves has one draw
+abbrev pub HaveOneDraw : List StateForm → Type 0
+HaveOneDraw forms = (s : State) (a b : ℕ) → HaveMoves forms s a b → cell_draws (form_cell (form_at forms s.number) a b) ≡ 1
+
 -- ---- what can still be got
 -- between the least payoff of an end and the greatest, at each state
 pub record IsUnpaid (forms : List StateForm) (m : GameModel State) : Type 0 where
@@ -112,5 +116,8 @@ pub record IsNestedGame (forms : List StateForm) (m : GameModel State) : Type 0 
   pub unpaid : has_paid_draw forms ≡ false → IsUnpaid forms m
   -- else what can still be got at a state is told by the states that follow
   pub paid : has_paid_draw forms ≡ true → (side : Side) → IsPaidFor forms m side
-  -- the width is the greatest number of moves of either side
+  -- the width is the greatest number of moves of either side, and 1 where there are none
   pub width_most : (side : Side) (s : ℕ) → s < length forms → form_moves side (form_at forms s) ≤ m.width
+  pub width_there : (m.width ≡ 1) ⊎ ((side : Side) × (s : ℕ) × (s < length forms) × (form_moves side (form_at forms s) ≡ m.width))
+  -- the game is free of chance exactly if each cell has one draw
+  pub chance_free_is : IsTrue m.chance_free ↔ HaveOneDraw forms

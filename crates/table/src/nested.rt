@@ -31,8 +31,8 @@ pub fn states_fit()
         → do_fit (lists_of_states forms) ≡ true }
 {}
 
-/// The game of the lists is the one that the states tell: its moves, draws, chances, next states, rewards, payoffs, and
-/// what can still be got.
+/// The game of the lists is the one that the states tell: its moves, draws, chances, next states, rewards, payoffs, what
+/// can still be got, its width, and whether there is chance.
 pub fn states_have_one_game()
     ensures { (limits : Limits) (forms : List StateForm) → are_in_range limits forms ≡ true
         → first_fault limits (lists_of_states forms) ≡ None

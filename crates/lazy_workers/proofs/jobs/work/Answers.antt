@@ -44,7 +44,7 @@ returns g c =
     let ends = rw (c.root.ensures, gap) at c.in_ok-end.ensures.ends in
     let linear : c.new-state.result.linear ≡ is_linear (solver_of c.limits_for.result.stages) = ap (λ w. w.linear) c.new-state.ensures in
     let few = rw c.root.ensures at c.in_ok-end.ensures.turns in
-    let owed = rw c.root.ensures at c.in_ok-end.ensures.owed in
+    let owed = c.in_ok-end.ensures.owed in
     let takes : AreTaken m ask c.in_ok-end.end start last = ⊎_elim
     (λ (a : (ask.stages ≡ Regret) × (is_linear (solver_of c.limits_for.result.stages) ≡ false)). inl (a.0, few (linear ∙ a.1)))
     (λ (b : (ask.stages ≡ Linear) × (is_linear (solver_of c.limits_for.result.stages) ≡ true)). inr (b.0, owed (linear ∙ b.1)))

@@ -26,7 +26,7 @@ returns-then-is_within_told-clause-ended g c =
     let end = rw c.in-Ok-None.field-0-is at c.in-Ok-None.ensures.ended in
     record {
       ends = λ _. rw (to_z-of_z w64 c.args.target fits) at c.if-is_within_told.ensures.within;
-      owed = owed_sweep c.args.worker.now c.begin_sweep.ensures (omega arith) c.is_within_told.ensures.later c.sweep_state.ensures.swept.kept end.1;
+      owed = owed_sweep c.args.worker.now c.begin_sweep.ensures c.is_within_told.ensures.later c.sweep_state.ensures.swept.kept end.1;
       turned = λ is. absurd (cc);
     }
 
@@ -46,7 +46,7 @@ returns-else-is_within_told-clause-ended g c =
     record {
       beyond = beyond;
       close = λ last. done_later m c.args.s c.is_within_told.ensures.later (end.0 last) c.requires.here.has_row.goes_on;
-      owed = owed_sweep c.args.worker.now c.begin_sweep.ensures (omega arith) c.is_within_told.ensures.later c.sweep_state.ensures.swept.kept end.1;
+      owed = owed_sweep c.args.worker.now c.begin_sweep.ensures c.is_within_told.ensures.later c.sweep_state.ensures.swept.kept end.1;
       turned = λ last. ⊎_elim
           (λ (took : c.begin_sweep.new.self.turns.spent + 1 ≤ c.sweep_state.new.worker.turns.spent). omega arith)
           (λ (met : IsWithin m v c.args.s (pos 0)). absurd (met_not_beyond m v t c.args.s c.args.target c.requires.target c.is_within_told.ensures.later met beyond))
@@ -68,7 +68,7 @@ returns-in-Ok-Some-clause-ended g c =
     record {
       ends = stopped_ends m c.args.s c.requires.here.has_row.goes_on (at_work t c.sweep_state.new.worker) c.args.target c.in-Ok-Some.stop c.stopped.result
           (stop_kept m c.args.s v t c.sweep_state.new.worker c.in-Ok-Some.stop c.stopped.ensures.later end.0) stopped;
-      owed = owed_sweep c.args.worker.now c.begin_sweep.ensures (omega arith) c.stopped.ensures.later c.sweep_state.ensures.swept.kept end.1;
+      owed = owed_sweep c.args.worker.now c.begin_sweep.ensures c.stopped.ensures.later c.sweep_state.ensures.swept.kept end.1;
       turned = λ is. absurd (stopped_unsettled m t c.args.s c.args.target c.in-Ok-Some.stop c.stopped.result stopped is);
     }
 

@@ -18,7 +18,8 @@ pub loop-goal-preserved : goal.loop-goal-preserved
 loop-goal-preserved g c = elim c.if-goal-gt0.branch [
   | then-goal-gt0+in-Ok-None w ↦
       let fits : SFits w64 c.args.target = search rules in
-      rw (w.board-is, w.worker-is) (made_more c.loop-goal.invariant w.make_sweep.ensures.worked (rw (w.in-Ok-None.field-0-is, to_z-of_z w64 c.args.target fits) at w.in-Ok-None.ensures.ended))
+      rw (w.board-is, w.worker-is) (made_more c.loop-goal.invariant w.make_sweep.ensures.worked
+      (rw (w.in-Ok-None.field-0-is, w.with_goal-sweep.ensures, to_z-of_z w64 c.args.target fits) at w.in-Ok-None.ensures.ended))
   | else-goal-gt0 w ↦ rw (w.board-is, w.worker-is) (made_wider (omega arith) c.loop-goal.invariant)
 ]
 
@@ -28,7 +29,8 @@ returns-in-Ok-Some-clause-worked g c = worked_after c.loop-goal.invariant.worked
 pub returns-in-Ok-Some-clause-ended : goal.returns-in-Ok-Some-clause-ended
 returns-in-Ok-Some-clause-ended g c =
     let fits : SFits w64 c.args.target = search rules in
-    made_end c.loop-goal.invariant c.make_sweep.ensures.worked (omega arith) (rw (c.in-Ok-Some.field-0-is, to_z-of_z w64 c.args.target fits) at c.in-Ok-Some.ensures.ended)
+    made_end c.loop-goal.invariant c.make_sweep.ensures.worked 1 0 (omega arith) (omega arith)
+    (rw (c.in-Ok-Some.field-0-is, c.with_goal-sweep.ensures, to_z-of_z w64 c.args.target fits) at c.in-Ok-Some.ensures.ended)
 
 pub returns-in-Err-clause-worked : goal.returns-in-Err-clause-worked
 returns-in-Err-clause-worked g c = worked_after c.loop-goal.invariant.worked c.make_sweep.ensures.worked
@@ -42,8 +44,9 @@ returns-in-Ok-None-make_sweep-clause-worked g c = worked_after c.loop-goal.invar
 pub returns-in-Ok-None-make_sweep-clause-ended : goal.returns-in-Ok-None-make_sweep-clause-ended
 returns-in-Ok-None-make_sweep-clause-ended g c =
     let fits : SFits w64 c.args.target = search rules in
-    made_end c.loop-goal.invariant c.make_sweep-2.ensures.worked (omega arith)
-    (ends_settled c.requires.here.has_row.goes_on c.last.ensures (rw (c.in-Ok-None-make_sweep.field-0-is, to_z-of_z w64 c.args.target fits) at c.in-Ok-None-make_sweep.ensures.ended))
+    made_end c.loop-goal.invariant c.make_sweep-2.ensures.worked 0 1 (omega arith) (omega arith)
+    (ends_settled c.requires.here.has_row.goes_on
+    (rw (c.in-Ok-None-make_sweep.field-0-is, c.last.ensures, to_z-of_z w64 c.args.target fits) at c.in-Ok-None-make_sweep.ensures.ended))
 
 pub returns-in-Ok-Some-make_sweep-clause-worked : goal.returns-in-Ok-Some-make_sweep-clause-worked
 returns-in-Ok-Some-make_sweep-clause-worked g c = worked_after c.loop-goal.invariant.worked c.make_sweep-2.ensures.worked
@@ -51,8 +54,8 @@ returns-in-Ok-Some-make_sweep-clause-worked g c = worked_after c.loop-goal.invar
 pub returns-in-Ok-Some-make_sweep-clause-ended : goal.returns-in-Ok-Some-make_sweep-clause-ended
 returns-in-Ok-Some-make_sweep-clause-ended g c =
     let fits : SFits w64 c.args.target = search rules in
-    made_end c.loop-goal.invariant c.make_sweep-2.ensures.worked (omega arith)
-    (rw (c.in-Ok-Some-make_sweep.field-0-is, to_z-of_z w64 c.args.target fits) at c.in-Ok-Some-make_sweep.ensures.ended)
+    made_end c.loop-goal.invariant c.make_sweep-2.ensures.worked 0 1 (omega arith) (omega arith)
+    (rw (c.in-Ok-Some-make_sweep.field-0-is, c.last.ensures, to_z-of_z w64 c.args.target fits) at c.in-Ok-Some-make_sweep.ensures.ended)
 
 pub returns-in-Err-make_sweep-clause-worked : goal.returns-in-Err-make_sweep-clause-worked
 returns-in-Err-make_sweep-clause-worked g c = worked_after c.loop-goal.invariant.worked c.make_sweep-2.ensures.worked

@@ -43,7 +43,7 @@ sweep_child-returns-else-is_enough-clause-swept g t c =
 pub sweep_child-returns-else-is_enough-clause-ended : goal.sweep_child-returns-else-is_enough-clause-ended
 sweep_child-returns-else-is_enough-clause-ended g t c =
     let none = one_none (ap (λ (w : WorkerView). w.turns.spent) c.is_enough.ensures.same) (ap (λ (w : WorkerView). w.swept) c.is_enough.ensures.same) in
-    IfOk-weaker c.sweep_state.result _ _ (ended_after c.sweep_state.ensures.swept.worked _ _ none) c.sweep_state.ensures.ended
+    IfOk-weaker c.sweep_state.result _ _ (ended_after c.sweep_state.ensures.swept.worked _ none) c.sweep_state.ensures.ended
 
 pub sweep_child-returns-in-Err-Full-clause-swept : goal.sweep_child-returns-in-Err-Full-clause-swept
 sweep_child-returns-in-Err-Full-clause-swept g t c = swept_wider (omega arith)
@@ -109,7 +109,7 @@ sweep_draws-returns-in-Ok-Some-clause-ended g t c =
     let k = claimed g t (goal.at.sweep_draws-returns-in-Ok-Some-clause-ended g t c).After-drawn-child in
     let end = rw c.in-Ok-Some.field-0-is at c.in-Ok-Some.ensures.ended in
     let lower = k.0.lower in
-    (stop_under k.0 (at_work (g.B.Bounds.view c.sweep_child.new.board) c.sweep_child.new.worker) c.in-Ok-Some.stop end.0, one_after c.sweep_child.ensures.swept.worked (omega arith) k.1.turns end.1)
+    (stop_under k.0 (at_work (g.B.Bounds.view c.sweep_child.new.board) c.sweep_child.new.worker) c.in-Ok-Some.stop end.0, one_after c.sweep_child.ensures.swept.worked k.1.turns end.1)
 
 pub sweep_draws-returns-in-Err-sweep_child-clause-swept : goal.sweep_draws-returns-in-Err-sweep_child-clause-swept
 sweep_draws-returns-in-Err-sweep_child-clause-swept g t c =
@@ -192,4 +192,4 @@ sweep_state-returns-clause-ended g t c =
     let end = rw (c.in-Ok-None.field-0-is, c.child_rows.ensures.same) at c.in-Ok-None.ensures.ended in
     let here = rw c.take_buffers-buffers.ensures at c.close_in-end.ensures.swept in
     let ended = rw c.take_buffers-buffers.ensures at c.close_in-end.ensures.ended in
-    rw c.put_back.ensures (IfOk-weaker c.close_in-end.result _ _ (ended_after here.worked _ _ end.1) ended)
+    rw c.put_back.ensures (IfOk-weaker c.close_in-end.result _ _ (ended_after here.worked _ end.1) ended)

@@ -12,9 +12,10 @@
  *
  * What a caller owes: pointers that are not null, also where a length is 0, and aligned as their type asks; `input` with
  * `count` bytes to read, which nobody writes during the call; `output` with `room` bytes, `*size`, and what other calls
- * write, apart from each other and from `input`, which nobody else reads or writes during the call; 1 MB of stack; and no
- * call from a signal handler, or from the forked child of a process with threads. There is no other duty: any bytes are
- * answered.
+ * write, apart from each other and from `input`, which nobody else reads or writes during the call; 1 MB of stack; no call
+ * from a signal handler, or from the forked child of a process with threads; and `malloc`, `realloc` and `free` of one
+ * allocator, whose blocks are aligned to 16 bytes. There is no other duty: any bytes are answered, and under any
+ * floating-point environment, since each call sets the default one for its own time and puts the caller's back.
  *
  * Bounds, gaps and resolutions are millionths of a payoff, and payoffs are what One gets.
  */
@@ -78,9 +79,10 @@ uint32_t dosolve_sample(uint32_t number, uint8_t *output, size_t room, uint64_t 
  * dosolve_root; else DOSOLVE_DONE, DOSOLVE_USAGE (no such side, no such number of games), DOSOLVE_FULL (dosolve_replies and
  * dosolve_worst: a plan comes to too many states), DOSOLVE_NO_MEMORY and DOSOLVE_REPORT. dosolve_root writes with
  * DOSOLVE_DONE, DOSOLVE_SETTLED, DOSOLVE_SPENT and DOSOLVE_FULL, the other calls with DOSOLVE_DONE alone; else nothing is
- * written. Why a position is refused dosolve_bounds tells, why a report dosolve_check. The room of an array is told in items;
- * it is filled as far as there is room, and what stands behind stays as it was. A plan need not be lawful: dosolve_check tells
- * whether it is. Each call reads the whole report: dosolve_worst and dosolve_games ask many things of one reading. */
+ * written. Where both the report and a side or a number of games are wrong, either status may come. Why a position is refused
+ * dosolve_bounds tells, why a report dosolve_check. The room of an array is told in items; it is filled as far as there is
+ * room, and what stands behind stays as it was. A plan need not be lawful: dosolve_check tells whether it is. Each call reads
+ * the whole report: dosolve_worst and dosolve_games ask many things of one reading. */
 
 struct dosolve_root_bounds {
     int64_t lower, upper;

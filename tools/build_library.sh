@@ -31,9 +31,15 @@ version=$(sed -n 's/^__version__ = "\([^"]*\)"$/\1/p' "$top/python/dosolve/__ini
 printf '#include "dosolve.h"\nconst char *dosolve_version(void) { return "%s"; }\n' "$version" > "$work/version.c"
 "$compiler" -c -O2 -fPIC -I"$top/include" -o "$work/version.o" "$work/version.c"
 
+# The calls, which keep the caller's floating-point environment, over the proved functions, each under a name of its own.
+"$compiler" -c -O2 -fPIC -I"$top/include" -o "$work/calls.o" "$top/tools/library_calls.c"
+sed -n 's/^uint32_t \(dosolve_[a-z_]*\)(.*/\1 proved_\1/p' "$top/include/dosolve.h" > "$work/renamed"
+objcopy --redefine-syms="$work/renamed" "$made" "$work/proved.a"
+
 # One object that exports the calls of the header alone.
 sed -n 's/^\(uint32_t \|const char \*\)\(dosolve_[a-z_]*\)(.*/\2/p' "$top/include/dosolve.h" | sort > "$work/names"
-"$compiler" -r -nostdlib -o "$work/dosolve.o" "$work/version.o" -Wl,--whole-archive "$made" "$heap" -Wl,--no-whole-archive
+"$compiler" -r -nostdlib -o "$work/dosolve.o" "$work/version.o" "$work/calls.o" -Wl,--whole-archive "$work/proved.a" "$heap" \
+    -Wl,--no-whole-archive
 objcopy --keep-global-symbols="$work/names" "$work/dosolve.o"
 rm -f "$folder/libdosolve.a"
 ar rcs "$folder/libdosolve.a" "$work/dosolve.o"

@@ -59,6 +59,14 @@ if command -v rustc > /dev/null; then
 else
     echo "caller.rs: left out, no rustc"
 fi
+# A caller's floating-point environment changes no answer, and is left as it was.
+# shellcheck disable=SC2086
+try "environment, build" "${CC:-cc}" -std=c11 -O1 $warnings -I"$top/include" -o "$work/environment" "$here/environment.c" \
+    "$folder/libdosolve.a" -lm
+small=(goofspiel_five goofspiel_mixed goofspiel_drawn_mixed oshi_zumo_mixed pursuit_grid table_best_of_three table_blotto)
+positions=("${small[@]/%/.json}")
+reports=("${small[@]/%/.report}")
+try "environment" "$work/environment" "${positions[@]/#/$top/examples/}" -- "${reports[@]/#/$top/examples/}"
 # The version is that of the package.
 printf '#include <stdio.h>\n#include "dosolve.h"\nint main(void) { puts(dosolve_version()); }\n' > "$work/version.c"
 # shellcheck disable=SC2086

@@ -124,6 +124,25 @@ class Position:
         """The limits that the position has, by its stages."""
         return limits_of(self.stages)
 
+    @property
+    def enough_rows(self) -> int | None:
+        """Rows that suffice: a search never ends as `full` with so many. One for each state that
+        the game can have, ends included; None where it does not count them."""
+        count, ends = self.game.count_states(), self.game.most_ends
+        return None if count is None or ends is None or count > WIDE.rows else count + ends
+
+    @property
+    def enough_turns(self) -> int | None:
+        """Turns of each worker that suffice where the rows do: a search never ends as `spent` with
+        so many. For each state, each turn of the game and one more they are 3 with linear stages,
+        else 2 for each move of the side that has more but the first, and 1; and 3 more by
+        induction. None where the game does not count its states. Most searches take far fewer."""
+        if self.enough_rows is None:
+            return None
+        each = 3 if self.stages == "linear" else 2 * self.game.most_moves - 1
+        before = 3 if self.search == "induction" else 0
+        return (each + before) * (self.enough_rows + self.game.root().rank + 1)
+
     def _fitting_rows(self) -> int:
         """The rows of a board for all states of the game, or those of a board that opens at once
         where they are not counted, or too many."""

@@ -41,6 +41,33 @@ class Counts(unittest.TestCase):
         self.assertEqual(len(seen), 5)
         self.assertIsNone(dosolve.Tron(3, 3, [], 0, 8).count_states())
 
+    def test_ends_are_no_more_than_is_said(self):
+        source = random.Random(6)
+        for _ in range(60):
+            game = random_game(source.choice([name for name in dosolve.GAMES if name != "tron"]), source)
+            self.assertLessEqual(sum(state.is_end for state in game.states()), game.most_ends, game)
+        self.assertIsNone(dosolve.Tron(3, 3, [], 0, 8).most_ends)
+
+    def test_enough_turns_and_rows_leave_no_search_spent_or_full(self):
+        source = random.Random(7)
+        for number in range(30):
+            game = random_game(source.choice([name for name in dosolve.GAMES if name != "tron"]), source)
+            asked = dosolve.Position(game, weight=8192, workers=1 + number % 4, visits=0,
+                                     **source.choice([dict(stages="regret", search="oracle"), dict(search="oracle"),
+                                                      dict(search="induction")]))
+            enough = dataclasses.replace(asked, turns=asked.enough_turns, rows=asked.enough_rows)
+            self.assertIn(dosolve.solve(enough).outcome, ("closed", "settled"), enough.text())
+
+    def test_enough_turns_by_the_pages(self):
+        asked = dosolve.Position(goofspiel(3), stages="regret", search="oracle", workers=1)
+        rows = asked.game.count_states() + 13
+        self.assertEqual((asked.enough_rows, asked.enough_turns), (rows, 5 * (rows + 4)))
+        linear = dataclasses.replace(asked, stages="linear")
+        self.assertEqual(linear.enough_turns, 3 * (rows + 4))
+        self.assertEqual(dataclasses.replace(linear, search="induction").enough_turns, 6 * (rows + 4))
+        tron = dosolve.Position(dosolve.Tron(3, 3, [], 0, 8))
+        self.assertEqual((tron.enough_rows, tron.enough_turns), (None, None))
+
     def test_counts_of_the_pages(self):
         for game, count in ((goofspiel(6), 7625), (goofspiel(7), 39_167), (goofspiel(8), 194_175),
                             (goofspiel(5, dosolve.GoofspielDrawn), 16_721),

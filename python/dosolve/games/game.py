@@ -422,6 +422,11 @@ class Game(ABC, Generic[S_co]):
         else the rows that a board can have."""
         return MOST_WIDE_ROWS
 
+    @property
+    def most_ends(self) -> int | None:
+        """At least the number of ends that play can reach; None where that is not known."""
+        return None
+
     def count_states(self) -> int | None:
         """The number of states with moves that play can reach, where the game counts them without
         a walk; `MOST_WIDE_ROWS + 1` where they are more than a board has room for. None where it

@@ -321,6 +321,10 @@ class Goofspiel(_Goofspiel[GoofspielState]):
         return sum(math.comb(count, left)**2 * self._scores(count - left)
                    for left in range(1, count + 1))
 
+    @property
+    def most_ends(self) -> int:
+        return self._scores(len(self.prizes))
+
     def count_states(self) -> int:
         if self.has_rewards:
             return min(self.most_states, MOST_WIDE_ROWS + 1)
@@ -403,6 +407,10 @@ class GoofspielDrawn(_Goofspiel[GoofspielDrawnState]):
         later = (math.comb(count, left)**2 * self._scores(count - left)
                  * math.comb(count - 1, left) * left for left in range(1, count))
         return min(1, count) + sum(later)
+
+    @property
+    def most_ends(self) -> int:
+        return self._scores(len(self.prizes))
 
     def count_states(self) -> int:
         if self.has_rewards:

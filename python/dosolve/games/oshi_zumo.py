@@ -88,6 +88,10 @@ class OshiZumo(Game[OshiZumoState]):
     def most_states(self) -> int:
         return (2 * self.size + 1) * (self.one + 1) * (self.two + 1)
 
+    @property
+    def most_ends(self) -> int:
+        return (2 * self.size + 3) * (self.one + 1) * (self.two + 1)
+
     def count_states(self) -> int:
         return _reached(self)
 

@@ -130,6 +130,10 @@ class Pursuit(Game[PursuitState]):
     def most_states(self) -> int:
         return self.nodes * self.nodes * self.rounds
 
+    @property
+    def most_ends(self) -> int:
+        return self.nodes * self.nodes * (self.rounds + 1)
+
     def count_states(self) -> int:
         return _reached(self)
 

@@ -325,6 +325,10 @@ class Table(Game[TableState]):
     def most_states(self) -> int:
         return sum(map(bool, self.lists.ranks))
 
+    @property
+    def most_ends(self) -> int:
+        return len(self.lists.ranks) - self.most_states
+
     def count_states(self) -> int:
         return self.most_states
 

@@ -1,6 +1,7 @@
 #!/usr/bin/env bash
-# progress.sh PROGRAM: searches Goofspiel with the cards 1 to 8 for some seconds, without and with DOSOLVE_PROGRESS, and
-# looks whether the report is the same and whether standard error has what docs/FORMATS.md says of it.
+# progress.sh PROGRAM: searches Goofspiel with the cards 1 to 8 for some seconds, without and with DOSOLVE_PROGRESS, by double
+# oracle and by induction, and looks whether the report is the same and whether standard error has what docs/FORMATS.md says
+# of it.
 set -u
 if [ $# -ne 1 ]; then
     echo "usage: progress.sh PROGRAM" >&2
@@ -16,13 +17,14 @@ fails() {
     failed=$((failed + 1))
 }
 
-# The report, standard error and status of a search by WORKERS, each of TURNS, with the stages that `stages` says; `took`
-# is its time in milliseconds.
-stages=regret
+# The report, standard error and status of a search by WORKERS, each of TURNS, of the game, with the stages and the method
+# that the variables say; `took` is its time in milliseconds.
+cards=[1,2,3,4,5,6,7,8] pay=margin stages=regret method=oracle
 search() {
-    local from cards=[1,2,3,4,5,6,7,8]
-    echo "{\"game\":\"goofspiel\",\"one\":$cards,\"two\":$cards,\"prizes\":$cards,\"score\":0,\"pay\":\"margin\",\"gap\":0," \
-        "\"weight\":8192,\"turns\":$2,\"visits\":200000,\"rows\":1000000,\"workers\":$1,\"stages\":\"$stages\"}" > "$folder/position"
+    local from
+    echo "{\"game\":\"goofspiel\",\"one\":$cards,\"two\":$cards,\"prizes\":$cards,\"score\":0,\"pay\":\"$pay\",\"gap\":0," \
+        "\"weight\":8192,\"turns\":$2,\"visits\":200000,\"rows\":1000000,\"workers\":$1,\"stages\":\"$stages\"," \
+        "\"search\":\"$method\"}" > "$folder/position"
     from=$(date +%s%3N)
     "$program" solve < "$folder/position" > "$folder/$3.report" 2> "${4:-$folder/$3.lines}"
     echo $? > "$folder/$3.status"
@@ -70,6 +72,22 @@ stages=regret
 
 DOSOLVE_PROGRESS=1 search 1 "$turns" refused /dev/full
 same refused || fails "another report where standard error takes nothing"
+
+# An induction lists all states before it values the first, and values them all before it makes a row; and tells at least
+# once in two seconds, whatever the number of threads.
+cards=[1,2,3,4,5,6,7,8,9,10] pay=prizes stages=linear method=induction
+search 1 1099511627776 without
+for workers in 1 3; do
+    DOSOLVE_PROGRESS=1 search $workers 1099511627776 induction
+    grep -v '^spent ' "$folder/without.report" > "$folder/without.bounds"
+    grep -v '^spent ' "$folder/induction.report" | cmp - "$folder/without.bounds" || fails "another report of $workers with the variable"
+    awk -v least=$((took / 2000)) -v most=$((took / 1000)) '
+        !/^induction listed [0-9]+ valued [0-9]+ planned [0-9]+ seconds [1-9][0-9]*$/ { bad = 1 }
+        $3 < listed || $5 < valued || $7 < planned || $9 < seconds || $9 > most || valued && $3 > listed { bad = 1 }
+        $5 > $3 || planned && $5 > valued || $7 && $5 < $3 { bad = 1 }
+        { listed = $3; valued = $5; planned = $7; seconds = $9 }
+        END { exit bad || NR < least }' "$folder/induction.lines" || fails "what an induction by $workers prints in $took ms: $(cat "$folder/induction.lines")"
+done
 
 echo "$failed failed"
 [ "$failed" -eq 0 ]

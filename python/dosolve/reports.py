@@ -27,7 +27,7 @@ from .values import FilePath, Record, as_number, as_points, cut, require_range, 
 if TYPE_CHECKING:
     from .drawings import Drawing
 
-OUTCOMES = ("closed", "settled", "spent", "full")
+OUTCOMES = ("closed", "settled", "spent", "full", "stopped")
 
 Setting = str | int | tuple[int, ...]
 """A field of a report's second line."""
@@ -79,7 +79,8 @@ class Report:
     asked, `settled` at most the resolution, which can be wider than all payoffs. `notes()` and
     `is_vacuous` say what the numbers are worth.
 
-    `stopped` is what ended a search within seconds before its own end, `time` or `interrupt`, and
+    `stopped` is what ended a search within seconds before its own end, `time` or `interrupt`,
+    where that is known, and
     `board` the rows that were asked for, None where they are not known; both are no part of the
     text, and equal reports can differ in them.
 
@@ -144,9 +145,10 @@ class Report:
     @property
     def version(self) -> int:
         """The version of the report's form: the first that has its game, or the newest where no
-        other tells the game, or a plan of so many rows."""
+        other tells the game, a plan of so many rows, or that the search was stopped."""
         wide = max(len(self.one.rows), len(self.two.rows)) > NARROW.rows
-        return NEWEST_VERSION if wide or self.game.is_new else self.game.version
+        newest = wide or self.game.is_new or self.outcome == "stopped"
+        return NEWEST_VERSION if newest else self.game.version
 
     @property
     def interval(self) -> tuple[Fraction, Fraction]:
@@ -189,6 +191,8 @@ class Report:
         more = self._more_notes()
         if self.stopped:
             found.append(f"{_STOPPED[self.stopped]}{more or ': more seconds can narrow the gap'}")
+        elif self.outcome == "stopped":
+            found.append(f"the search was stopped{more or ': more seconds can narrow the gap'}")
         elif "turns" in self.used_up:
             found.append("every worker used up its turns: more turns may narrow the gap")
         elif self.turns == 0 and self.gap > self.asked:
@@ -487,7 +491,7 @@ def _outcome_fault(report: Report) -> str:
     wanted = outcome_of(report.gap, report.asked, report.resolution)
     if wanted == "spent":
         spent = all(turns == report.turns for turns in report.spent)
-        wanted = "spent or full" if spent else "full, since turns are left"
+        wanted = "spent, full or stopped" if spent else "full or stopped, since turns are left"
     shown = report.game.shown
     return (f"the gap is {shown(report.gap)}, asked was {shown(report.asked)}, and the "
             f"resolution is {shown(report.resolution)}: the outcome has to be {wanted}")
@@ -588,10 +592,11 @@ class _Reader:
                 settings.append(line.listed(word, each.low, each.high, each.most))
         return kind, settings
 
-    def outcome(self) -> str:
+    def outcome(self, version: int) -> str:
         line = self.line()
         word = line.fields[-1].decode("ascii", "replace")
         line.require(line.fields[0] == b"outcome" and len(line.fields) == 2 and word in OUTCOMES)
+        line.require(word != "stopped" or version == NEWEST_VERSION)
         return word
 
     def spent(self) -> tuple[int, ...]:
@@ -628,7 +633,7 @@ class _Reader:
         numbers = (self.named("weight", LEAST_WEIGHT, MOST_WEIGHT),
                    self.named("turns", 0, MOST_TURNS), self.named("asked", 0, MOST_GAP),
                    self.named("resolution", 0, MOST_RESOLUTION))
-        outcome = self.outcome()
+        outcome = self.outcome(version)
         bounds = (self.named("lower", -MOST_BOUND, MOST_BOUND),
                   self.named("upper", -MOST_BOUND, MOST_BOUND))
         spent = self.spent()

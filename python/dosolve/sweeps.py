@@ -17,7 +17,7 @@ from .games.game import AnyGame
 from .positions import Position, processors, require_position
 from .processes import Programs
 from .reports import Report
-from .solver.program import Solver, is_last
+from .solver.program import Solver
 from .values import FilePath, Record
 
 MOST_WAITING = 256
@@ -313,7 +313,7 @@ def _renewed(line: bytes) -> bytes:
     try:
         entry = json.loads(line)
         text, report, took = entry["position"], Report.read(entry["report"]), entry["seconds"]
-        if not is_last(report, read_swept(text)):
+        if not _is_whole(report, read_swept(text)):
             report = replace(report, stopped="time")
         # Files of earlier versions tell what a search took, and not what it was given.
         limit = float(entry.get("limit", took)) if report.stopped else None
@@ -321,6 +321,13 @@ def _renewed(line: bytes) -> bytes:
         return json.dumps(found.record()).encode() + b"\n"
     except (ValueError, KeyError, TypeError, DosolveError):
         return line.removesuffix(b"\n") + b"\n"
+
+
+def _is_whole(report: Report, position: Position) -> bool:
+    """Whether a search within seconds ended by itself, in versions that began it anew with ever
+    more turns."""
+    more = report.turns == 0 or "turns" in report.used_up
+    return not more or report.gap <= position.gap or report.turns == position.turns
 
 
 def _suffices(old: Swept, seconds: float | None) -> bool:

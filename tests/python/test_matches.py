@@ -69,9 +69,8 @@ class Matches(unittest.TestCase):
         found = dosolve.tournament({"even": even}, [halves, halves], dosolve.Solver(), seconds=0)
         rest = found.notes
         self.assertEqual([note.split(":")[0] for note in rest],
-                         [f"position {number}, the solver" for number in (0, 0, 1, 1)])
-        self.assertIn("no better than the range of payoffs", rest[0])
-        self.assertIn("the time was up", rest[1])
+                         [f"position {number}, the solver" for number in (0, 1)])
+        self.assertIn("the time was up", rest[0])
         self.assertTrue(found.markdown().endswith("".join(f"note {note}\n" for note in found.notes)))
         self.assertEqual(json.loads(found.json())["notes"], list(found.notes))
         self.assertRegex(found.markdown(), r"payoffs to the player itself:\n\n\| player \| as one "

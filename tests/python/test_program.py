@@ -45,8 +45,8 @@ class Calls(unittest.TestCase):
         one, two = (dosolve.Sheet(wide.game, side, 65536) for side in dosolve.SIDES)
         for made, words in ((dosolve.Report.read(EXAMPLE.replace(b"outcome closed", b"outcome spent")),
                              "gap is 0.000000, asked was 0.001000, and .* 0.062502: the outcome has to be closed"),
-                            (dataclasses.replace(dosolve.Report.of(one, two), outcome="settled"), "has to be spent or full"),
-                            (dataclasses.replace(dosolve.Report.of(one, two), turns=1), "has to be full, since turns are left")):
+                            (dataclasses.replace(dosolve.Report.of(one, two), outcome="settled"), "has to be spent, full or stopped"),
+                            (dataclasses.replace(dosolve.Report.of(one, two), turns=1), "has to be full or stopped, since turns are left")):
             with self.assertRaisesRegex(dosolve.ReportRefused, f"^refused outcome: the .*{words}"):
                 dosolve.check(made)
         self.assertIn("do not allow the outcome", str(dosolve.ReportRefused("refused outcome")))

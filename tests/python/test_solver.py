@@ -30,49 +30,43 @@ class Programs(unittest.TestCase):
         return file
 
     def slow_program(self):
-        """A program that answers where 0 or 256 turns are given, and else works for half a
-        minute."""
+        """A program that works until the file is there or the seconds are over, half a minute at
+        most, and then prints a report of what it has found."""
         row = dosolve.Row(GAME.root().key, -10**6, (1, 8191))
-        two, empty = (dosolve.Sheet(GAME, side, 8192) for side in ("two", "one"))
+        two = dosolve.Sheet(GAME, "two", 8192)
         report = dosolve.Report.of(dosolve.Sheet(GAME, "one", 8192, [row]), two)
-        report = dataclasses.replace(report, turns=256, spent=(256,), outcome="spent")
+        report = dataclasses.replace(report, turns=10**6, spent=(256,), outcome="stopped")
         script = self.program(
-            'position=$(cat)\ncase "$position" in *\'"turns":256,\'*) cat "$0.report" ;;\n'
-            '*\'"turns":0,\'*) cat "$0.first" ;;\n*) echo worker 0 turns 5 seconds 1 >&2\n'
-            'echo worker 0 turns 9 seconds 2 lower -5 upper 7 gap 12 >&2\nexec sleep 30 ;; esac\n')
+            'cat > /dev/null\necho worker 0 turns 5 seconds 1 >&2\n'
+            'echo worker 0 turns 9 seconds 2 lower -5 upper 7 gap 12 >&2\nlooks=0\n'
+            'while [ ! -e "$DOSOLVE_STOP" ] && [ $looks -lt "${DOSOLVE_SECONDS:-30}0" ]; do\n'
+            'sleep 0.1; looks=$((looks + 1)); done\ncat "$0.report"; exit 4\n')
         Path(f"{script}.report").write_text(report.text())
-        Path(f"{script}.first").write_text(dosolve.Report.of(empty, two).text())
         return script, report
 
 
 class Time(Programs):
-    def test_the_best_report_is_handed_back_when_time_is_up(self):
+    def test_what_was_found_is_handed_back_when_time_is_up(self):
         program, report = self.slow_program()
         since, steps = time.monotonic(), []
-        found = dosolve.solve(POSITION, program, seconds=2, progress=steps.append)
+        found = dosolve.solve(POSITION, program, seconds=1.5, progress=steps.append)
         self.assertEqual(found, report)
         self.assertLess(time.monotonic() - since, 20)
-        self.assertEqual((found.used_up, found.stopped), (("turns",), "time"))
+        self.assertEqual((found.used_up, found.stopped, found.version), ((), "time", 3))
         self.assertEqual(found.notes(), ("the time was up: more seconds can narrow the gap",))
         self.assertEqual([(step.turns, step.lower, step.upper, step.gap) for step in steps],
-                         [(5, report.lower, report.upper, report.gap), (9, -5, 7, 12),
+                         [(5, None, None, None), (9, -5, 7, 12),
                           (256, report.lower, report.upper, report.gap)])
-        self.assertEqual([(step.states, step.most) for step in steps],
-                         [(5, 2048), (5, 2048), (5, 10**6)])
+        self.assertEqual([(step.states, step.most) for step in steps], [(5, 10**6)] * 3)
 
-    def test_of_equal_gaps_the_later_report_is_handed_back(self):
-        program, report = self.slow_program()
-        later = dataclasses.replace(report, lower=-2 * 10**6, one=dosolve.Sheet(GAME, "one", 8192))
-        Path(f"{program}.report").write_text(later.text())
-        found = dosolve.solve(POSITION, program, seconds=2)
-        self.assertEqual((found, found.turns, found.stopped), (later, 256, "time"))
-        self.assertNotIn("no turn", str(found))
-
-    def test_with_no_time_there_is_the_report_of_no_search(self):
+    def test_with_no_time_there_are_the_bounds_of_pure_plans(self):
         found = dosolve.solve(POSITION, seconds=0)
-        self.assertTrue(found.is_vacuous)
+        self.assertEqual((found.outcome, found.stopped, found.spent), ("stopped", "time", (0,)))
+        self.assertEqual((found.lower, found.upper), dosolve.bounds(POSITION))
         self.assertEqual(dosolve.check(found).outcome, found.outcome)
-        self.assertEqual(found.notes()[1:], ("the time was up: more seconds can narrow the gap",))
+        self.assertEqual(found.notes(), ("the time was up: more seconds can narrow the gap",))
+        read = dosolve.Report.read(found.text())
+        self.assertEqual(read.notes(), ("the search was stopped: more seconds can narrow the gap",))
         wide = dosolve.solve(dataclasses.replace(POSITION, gap=4 * 10**6), seconds=0)
         self.assertEqual((wide.outcome, wide.stopped), ("closed", ""))
 
@@ -83,15 +77,16 @@ class Time(Programs):
         few = dosolve.solve(dataclasses.replace(POSITION, turns=1), seconds=math.inf)
         self.assertEqual((few.stopped, few.used_up), ("", ("turns",)))
 
-    def test_interrupted_there_is_the_best_report(self):
+    def test_interrupted_there_is_the_report_of_what_was_found(self):
         program, report = self.slow_program()
         words = (f"import dosolve, math; p = dosolve.Position.read({POSITION.text()!r}); "
                  f"r = dosolve.solve(p, {str(program)!r}, seconds=math.inf, "
                  f"progress=lambda step: print(step, flush=True)); print(r.text() + r.notes()[-1])")
         run = subprocess.Popen([sys.executable, "-c", words], stdout=subprocess.PIPE, text=True,
+                               start_new_session=True,
                                env=os.environ | {"PYTHONPATH": str(TOP / "python")})
-        self.assertIn("5 of at most 2048 turns for 5 states, ", run.stdout.readline())
-        run.send_signal(signal.SIGINT)
+        self.assertIn("5 of at most 1000000 turns for 5 states\n", run.stdout.readline())
+        os.killpg(run.pid, signal.SIGINT)
         answer, _ = run.communicate(timeout=20)
         self.assertEqual((run.returncode, answer[answer.index("dosolve"):].strip()),
                          (0, f"{report.text()}the search was interrupted: more seconds can narrow "
@@ -123,6 +118,23 @@ class Steps(unittest.TestCase):
         found = dosolve.read_progress(lines)
         self.assertEqual([(step.turns, step.lower, step.upper) for step in found],
                          [(9, -30, 40), (12, -30, 20), (16, -30, 20), (18, 0, 20)])
+
+    def test_states_of_an_induction_are_told(self):
+        lines = ["induction listed 700 valued 0 planned 0 seconds 1",
+                 "induction listed 900 valued 30 planned 0 seconds 2",
+                 "induction listed 900 valued 900 planned 40 seconds 3",
+                 "worker 0 turns 950 seconds 4 lower -50 upper 20 gap 70",
+                 "induction listed 1 valued x planned 0 seconds 1"]
+        found = dosolve.read_progress(lines)
+        self.assertEqual([(step.listed, step.valued, step.planned, step.turns) for step in found],
+                         [(700, 0, 0, 0), (900, 30, 0, 30), (900, 900, 40, 940),
+                          (None, None, None, 950)])
+        self.assertEqual([str(step) for step in found],
+                         ["1 s, 700 states listed", "2 s, 30 of 900 states valued",
+                          "3 s, 900 of 900 states valued, 40 rows of plans made",
+                          "4 s, 950 turns, -0.000050 to 0.000020, gap 0.000070"])
+        listing = dosolve.Progress(0, 1.0, states=900, listed=700, valued=0, planned=0)
+        self.assertEqual(str(listing), "1 s, 700 of at most 900 states listed")
 
     def test_the_bar_is_for_terminals(self):
         class Terminal(io.StringIO):

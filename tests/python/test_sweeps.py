@@ -87,7 +87,7 @@ class Sweeps(unittest.TestCase):
             self.assertTrue("cut o" in line or {"position", "seconds"} <= json.loads(line).keys())
 
     def test_what_time_cut_short_is_searched_again_where_there_is_more(self):
-        position = dosolve.Position(dosolve.Goofspiel([1, 2, 3], [1, 2, 3], [2, 1, 3]), workers=1)
+        position = dosolve.Position(dosolve.Goofspiel(*[[1, 2, 3, 4]] * 2, [4, 3, 2, 1]), workers=1)
         output = self.folder / "out.jsonl"
 
         def swept(seconds, **more):
@@ -114,9 +114,9 @@ class Sweeps(unittest.TestCase):
                 self.assertEqual((kept.is_old, kept.report), (True, better.report))
 
     def test_results_of_earlier_versions_are_read(self):
-        position = dosolve.Position(dosolve.Goofspiel([1, 2, 3], [1, 2, 3], [2, 1, 3]), workers=1)
+        position = dosolve.Position(dosolve.Goofspiel(*[[1, 2, 3, 4]] * 2, [4, 3, 2, 1]), workers=1)
         output, done = self.folder / "out.jsonl", dosolve.solve(position)
-        cut = dosolve.solve(position, seconds=0)
+        cut = dosolve.solve(dataclasses.replace(position, turns=0))
         for report, limits in ((done, {None: True, 1: True}), (cut, {None: False, 1: True, 3: False})):
             for seconds, is_old in limits.items():
                 told = {name: value for name, value in report.record().items()

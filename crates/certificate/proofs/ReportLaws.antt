@@ -16,10 +16,11 @@ use Rattle.certificate.specs.declared.error.TextError.{TextError}
 use Rattle.certificate.specs.declared.error.TextError.TheVariants.{Line, Head, NoMemory}
 use Rattle.fields.specs.declared.positions.GameKind.{GameKind}
 use Rattle.certificate.specs.declared.report.Outcome.{Outcome}
+use Rattle.certificate.specs.declared.report.Outcome.TheVariants.{Closed, Settled, Spent, Full, Stopped}
 use Rattle.certificate.specs.declared.report.Report.{Report}
 use Rattle.certificate.specs.Unread.{Unread}
 use Rattle.text.specs.Texts.{line_text, text_of}
-use Rattle.certificate.specs.Versions.{newest_version, game_version, has_game, limits_of, most_rows, most_moves, is_long, needs_newest, version_of}
+use Rattle.certificate.specs.Versions.{newest_version, game_version, has_game, is_older, has_outcome, limits_of, most_rows, most_moves, is_long, needs_newest, version_of}
 use Rattle.certificate.specs.Positions.{position_fields}
 use Rattle.sim_game.specs.declared.Limits.{Limits}
 use Rattle.sim_game.specs.declared.Limits.TheVariants.{Narrow, Wide}
@@ -57,12 +58,12 @@ bound_line_law : (word : List ℕ) → IsField word
 bound_line_law word clean =
     told_law _ _ (integer_line_law word clean (neg_ℤ (pos 4000000000)) (pos 4000000000) (λ z h. omega (arith, ints, h.0, h.1))) (λ z fits. (refl, small_bound z fits)) bound_between
 
-outcome_line_law : TextLaw 30 outcome_line (λ o. line_text (codes "outcome" ∷ outcome_word o ∷ [])) (λ _. Unit {0})
+outcome_line_law : (version : ℕ) → TextLaw 30 (outcome_line version) (λ o. line_text (codes "outcome" ∷ outcome_word o ∷ [])) (λ o. has_outcome version o ≡ true)
 unfolding outcome_line outcome
-outcome_line_law =
-    told_law _ (λ _. Unit {0})
-    (line_law (before_law (codes "outcome") (clean_word (codes "outcome") refl) (last_law Line outcome_spells)) (omega arith))
-    (λ o fits. (refl, tt)) (λ o fits. (tt, (omega arith, omega arith)))
+outcome_line_law version =
+    told_law _ (λ o. has_outcome version o ≡ true)
+    (line_law (before_law (codes "outcome") (clean_word (codes "outcome") refl) (last_law Line (outcome_spells version))) (omega arith))
+    (λ o fits. (refl, fits.0)) (λ o fits. (fits, (omega arith, omega arith)))
 
 spent_line_law : TextLaw 343 spent_line (λ ns. line_text (codes "spent" ∷ map decimal ns)) (λ ns. Within 1 16 (length ns) × All (λ n. n ≤ 1099511627776) ns)
 unfolding spent_line
@@ -279,17 +280,19 @@ findings_text x =
     line_text (codes "outcome" ∷ outcome_word x.0 ∷ [])
     ++ (line_text (codes "lower" ∷ signed_decimal x.1 ∷ []) ++ (line_text (codes "upper" ∷ signed_decimal x.2 ∷ []) ++ line_text (codes "spent" ∷ map decimal x.3)))
 
-abbrev FindingsFit : Outcome × ℤ × ℤ × List ℕ → Type 0
-FindingsFit x = unsigned_abs x.1 ≤ 4000000000 × unsigned_abs x.2 ≤ 4000000000 × (Within 1 16 (length x.3) × All (λ n. n ≤ 1099511627776) x.3)
+-- in a report of the version
+abbrev FindingsFit : ℕ → Outcome × ℤ × ℤ × List ℕ → Type 0
+FindingsFit version x =
+    has_outcome version x.0 ≡ true × unsigned_abs x.1 ≤ 4000000000 × unsigned_abs x.2 ≤ 4000000000 × (Within 1 16 (length x.3) × All (λ n. n ≤ 1099511627776) x.3)
 
-findings_law : TextLaw 429 findings findings_text FindingsFit
+findings_law : (version : ℕ) → TextLaw 429 (findings version) findings_text (FindingsFit version)
 unfolding findings
-findings_law =
-    made_law (λ (x : Outcome × (ℤ × (ℤ × List ℕ))). (x.0, x.1.0, x.1.1.0, x.1.1.1)) (λ (b : Outcome × ℤ × ℤ × List ℕ). (b.0, (b.1, (b.2, b.3)))) findings_text FindingsFit
-    (lines_law outcome_line_law
+findings_law version =
+    made_law (λ (x : Outcome × (ℤ × (ℤ × List ℕ))). (x.0, x.1.0, x.1.1.0, x.1.1.1)) (λ (b : Outcome × ℤ × ℤ × List ℕ). (b.0, (b.1, (b.2, b.3)))) findings_text (FindingsFit version)
+    (lines_law (outcome_line_law version)
     (lines_law (bound_line_law (codes "lower") (clean_word (codes "lower") refl)) (lines_law (bound_line_law (codes "upper") (clean_word (codes "upper") refl)) spent_line_law)))
-    (λ x fits. (refl, (fits.1.0, fits.1.1.0, fits.1.1.1)))
-    (λ b fits. ((tt, (fits.0, (fits.1, fits.2))), refl))
+    (λ x fits. (refl, (fits.0, fits.1.0, fits.1.1.0, fits.1.1.1)))
+    (λ b fits. ((fits.0, (fits.1, (fits.2, fits.3))), refl))
 
 abbrev sheets_text : List SheetRow × List SheetRow → List ℕ
 sheets_text x = text_of (sheet_lines (codes "one") x.0) ++ (text_of (sheet_lines (codes "two") x.1) ++ line_text (codes "end" ∷ []))
@@ -339,7 +342,7 @@ in_sheet limits side total rs fits = record {
 record IsOfVersion (version : ℕ) (r : Report) : Type 0 where
   position : IsInVersion version r.position
   terms : TermsFit (r.weight, r.turns, r.asked, r.resolution)
-  findings : FindingsFit (r.outcome, r.lower, r.upper, r.spent)
+  findings : FindingsFit version (r.outcome, r.lower, r.upper, r.spent)
   one : IsSheetInRange (limits_of version) One r.weight r.one
   two : IsSheetInRange (limits_of version) Two r.weight r.two
 
@@ -349,7 +352,7 @@ unfolding report
 report_law version =
     let limits = limits_of version in
     made_law report_of (λ r. (r.position, ((r.weight, r.turns, r.asked, r.resolution), ((r.outcome, r.lower, r.upper, r.spent), (r.one.rows, r.two.rows))))) body (IsOfVersion version)
-    (lines_law (game_line_law version) (lines_law terms_law (lines_law findings_law (sheets_law limits))))
+    (lines_law (game_line_law version) (lines_law terms_law (lines_law (findings_law version) (sheets_law limits))))
     (λ x fits. let s = fits.1.1.1 in (
       refl,
       record { position = fits.0; terms = fits.1.0; findings = fits.1.1.0; one = in_sheet limits One _ _ s.0; two = in_sheet limits Two _ _ s.1 },
@@ -365,6 +368,7 @@ report_law version =
 record IsVersion (r : Report) (version : ℕ) : Type 0 where
   known : Within 1 newest_version version
   position : IsPositionInRange r.position → IsInVersion version r.position
+  outcome : has_outcome version r.outcome ≡ true
 
 own_game : (k : GameKind) → (Within 1 newest_version (game_version k)) × ((limits_of (game_version k) ≡ Narrow) × (has_game (game_version k) k ≡ true))
 own_game Goofspiel = ((omega arith, omega arith), (refl, refl))
@@ -388,17 +392,33 @@ narrow_position text b e = elim (is_narrow text) as (λ t. (not t || b) ≡ fals
   | false ↦ λ h. absurd cc
 ] e
 
+newest_tells : (o : Outcome) → has_outcome newest_version o ≡ true
+newest_tells Closed = refl
+newest_tells Settled = refl
+newest_tells Spent = refl
+newest_tells Full = refl
+newest_tells Stopped = refl
+
+older_outcome : (narrow one two older : Bool) → (not narrow || (one || (two || not older))) ≡ false → older ≡ true
+older_outcome narrow one two true e = refl
+older_outcome false one two false e = absurd cc
+older_outcome true true two false e = absurd cc
+older_outcome true false true false e = absurd cc
+older_outcome true false false false e = absurd cc
+
 version_is : (r : Report) → IsVersion r (version_of r)
 version_is r =
     let k = kind_of r.position in
     let own = own_game k in
     elim (needs_newest r) as (λ b. needs_newest r ≡ b → IsVersion r (cond b newest_version (game_version k))) [
-      | true ↦ λ needs. record { known = (omega arith, omega arith); position = λ fits. record { values = fits; game = newest_has k } }
+      | true ↦ λ needs. record { known = (omega arith, omega arith); position = λ fits. record { values = fits; game = newest_has k }; outcome = newest_tells r.outcome }
       | false ↦ λ needs.
-          let narrow = narrow_position r.position (is_long r.one || is_long r.two) needs in
+          let narrow = narrow_position r.position (is_long r.one || (is_long r.two || not (is_older r.outcome))) needs in
+          let older = older_outcome (is_narrow r.position) (is_long r.one) (is_long r.two) (is_older r.outcome) needs in
           record {
             known = own.0;
             position = λ fits. record { values = rw (own.1.0) (narrow_fits r.position fits narrow); game = own.1.1 };
+            outcome = rw older refl;
           }
     ] refl
 
@@ -407,7 +427,7 @@ of_own : (r : Report) → IsInRange r → IsOfVersion (version_of r) r
 of_own r fits = record {
   position = (version_is r).position fits.position;
   terms = (fits.weight, fits.turns, fits.asked, fits.resolution);
-  findings = (fits.lower, fits.upper, (fits.workers, fits.spent));
+  findings = ((version_is r).outcome, fits.lower, fits.upper, (fits.workers, fits.spent));
   one = fits.one;
   two = fits.two;
 }
@@ -421,10 +441,10 @@ in_own version r is own =
       turns = t.1;
       asked = t.2;
       resolution = t.3;
-      lower = f.0;
-      upper = f.1;
-      workers = f.2.0;
-      spent = f.2.1;
+      lower = f.1;
+      upper = f.2;
+      workers = f.3.0;
+      spent = f.3.1;
       one = subst (λ (v : ℕ). IsSheetInRange (limits_of v) One r.weight r.one) (sym own) is.one;
       two = subst (λ (v : ℕ). IsSheetInRange (limits_of v) Two r.weight r.two) (sym own) is.two;
     }
@@ -572,7 +592,8 @@ own_below version r old is small =
     let place : is_narrow r.position ≡ true = narrow_by_size r.position (subst Holds narrow is.position.values) ∙ small in
     let one = not_long r.one (subst (λ (limits : Limits). length r.one.rows ≤ most_rows limits) narrow is.one.few) in
     let two = not_long r.two (subst (λ (limits : Limits). length r.two.rows ≤ most_rows limits) narrow is.two.few) in
-    rw (place, one, two) (own_version version (kind_of r.position) old is.position.game)
+    let older : is_older r.outcome ≡ true = left_of (is_older r.outcome) (version == newest_version) (not_newest version old) is.findings.0 in
+    rw (place, one, two, older) (own_version version (kind_of r.position) old is.position.game)
 
 -- What is read under a lower version has that version, unless its position is too large for the narrow rules.
 pub read_below : (version : ℕ) (u : Unread) (x : Report × Unread) → version ≤ 2 → report version u ≡ Ok x → is_small x.0.position ≡ true → version_of x.0 ≡ version
@@ -599,7 +620,7 @@ body_by_rows version r is =
       length-append two end,
       (game_line_law version).short r.position is.position,
       terms_law.short (r.weight, r.turns, r.asked, r.resolution) is.terms,
-      findings_law.short (r.outcome, r.lower, r.upper, r.spent) is.findings,
+      (findings_law version).short (r.outcome, r.lower, r.upper, r.spent) is.findings,
       sheet_by_rows (codes "one") (clean_word (codes "one") refl) limits r.one.rows (rows_fit limits One r.weight r.one is.one),
       sheet_by_rows (codes "two") (clean_word (codes "two") refl) limits r.two.rows (rows_fit limits Two r.weight r.two is.two),
     )

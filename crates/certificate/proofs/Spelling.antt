@@ -13,14 +13,15 @@ use Rattle.std.proofs.lemmas.List.Elements.{All-nil, All-cons, All-head, All-tai
 use Rattle.std.proofs.lemmas.List.Splits.{slice_split_at, slice_split_none, join_with_byte-slice_split}
 use Rattle.std.proofs.lemmas.Slice.Eq.{bytes_eq-Decides}
 use Rattle.certificate.specs.declared.report.Outcome.{Outcome}
-use Rattle.certificate.specs.declared.report.Outcome.TheVariants.{Closed, Settled, Spent, Full}
+use Rattle.certificate.specs.declared.report.Outcome.TheVariants.{Closed, Settled, Spent, Full, Stopped}
 use Rattle.text.specs.Texts.{list_text}
 use Rattle.certificate.specs.Numbers.{natural_in, integer_in}
 use Rattle.fields.specs.Numbers.{Within, Between, IsByteList, IsNumberList}
 use Rattle.certificate.specs.Readers.{each_in, has_parts, list_parts, list_in}
 use Rattle.certificate.specs.Spellings.{joined_list}
 use Rattle.certificate.specs.Texts.{outcome_word}
-use Rattle.certificate.specs.Reading.{outcome_of}
+use Rattle.certificate.specs.Versions.{has_outcome}
+use Rattle.certificate.specs.Reading.{outcome_of, outcome_in}
 use Rattle.certificate.proofs.NumberLemmas.{neither, natural_takes, natural_again, signed_takes, signed_again}
 
 -- some bytes, none of them a space or a line feed
@@ -116,15 +117,28 @@ word_spells all word each = record {
   short = λ a u. leb-true _ _ (and_parts _ _ (each a).1).1;
 }
 
-pub outcome_spells : Spells 20 outcome_of outcome_word (λ _. Unit {0})
+outcome_words : Spells 20 outcome_of outcome_word (λ _. Unit {0})
 unfolding outcome_of
-outcome_spells = word_spells (Closed ∷ Settled ∷ Spent ∷ Full ∷ []) outcome_word each
+outcome_words = word_spells (Closed ∷ Settled ∷ Spent ∷ Full ∷ Stopped ∷ []) outcome_word each
   where
     each : (o : Outcome) → (outcome_of (outcome_word o) ≡ Some o) × (is_word (outcome_word o) ≡ true)
     each Closed = (refl, refl)
     each Settled = (refl, refl)
     each Spent = (refl, refl)
     each Full = (refl, refl)
+    each Stopped = (refl, refl)
+
+-- the outcome of a word, in a report of the version
+pub outcome_spells : (version : ℕ) → Spells 20 (outcome_in version) outcome_word (λ o. has_outcome version o ≡ true)
+unfolding outcome_in
+outcome_spells version = record {
+  takes = λ word o e. option_and_then_some _ _ o e (λ other is h.
+      let same = cond_some (has_outcome version other) other o h in
+      ((outcome_words.takes word other is).0 ∙ ap outcome_word same.1, ap (has_outcome version) (sym same.1) ∙ same.0));
+  again = λ o fits. rw (outcome_words.again o tt, fits) refl;
+  clean = λ o fits. outcome_words.clean o tt;
+  short = λ o fits. outcome_words.short o tt;
+}
 
 -- ---- values one after the other
 

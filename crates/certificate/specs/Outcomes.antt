@@ -1,7 +1,7 @@
 -- Which outcome a report may tell.
 use Rattle.std.specs.Prelude.{◌≡◌, ◌-ℤ◌, ◌≤ℤ◌, ◌<ℤ◌, ℤ, All}
 use Rattle.certificate.specs.declared.report.Outcome.{Outcome}
-use Rattle.certificate.specs.declared.report.Outcome.TheVariants.{Closed, Settled, Spent, Full}
+use Rattle.certificate.specs.declared.report.Outcome.TheVariants.{Closed, Settled, Spent, Full, Stopped}
 use Rattle.certificate.specs.declared.report.Report.{Report}
 
 abbrev pub gap_of : Report → ℤ
@@ -17,6 +17,7 @@ Allows r Closed = gap_of r ≤ℤ r.asked
 Allows r Settled = r.asked <ℤ gap_of r × gap_of r ≤ℤ r.resolution
 Allows r Spent = IsWide r × All (λ n. n ≡ r.turns) r.spent
 Allows r Full = IsWide r
+Allows r Stopped = IsWide r
 
 -- the outcome is one that the numbers allow
 abbrev pub IsAllowed : Report → Type 0

@@ -1,15 +1,15 @@
 -- The report that a text spells, or its first fault.
-use Rattle.std.specs.Prelude.{ℕ, zero, suc, ◌+◌, ℤ, pos, neg_ℤ, Bool, true, false, ◌==◌, List, [], ◌∷◌, length, codes, nat_lt, bytes_eq, find, if◌then◌else◌, Option, Some, None, Result, Ok, Err}
+use Rattle.std.specs.Prelude.{ℕ, zero, suc, ◌+◌, ℤ, pos, neg_ℤ, Bool, true, false, ◌==◌, List, [], ◌∷◌, length, codes, nat_lt, bytes_eq, find, if◌then◌else◌, Option, Some, None, option_and_then, Result, Ok, Err}
 use Rattle.sim_game.specs.declared.Side.TheVariants as sides
 use Rattle.plan_book.specs.declared.SheetRow.{SheetRow}
 use Rattle.certificate.specs.declared.error.TextError.{TextError}
 use Rattle.certificate.specs.declared.error.TextError.TheVariants as errors
 use Rattle.fields.specs.declared.positions.PositionText.{PositionText}
 use Rattle.certificate.specs.declared.report.Outcome.{Outcome}
-use Rattle.certificate.specs.declared.report.Outcome.TheVariants.{Closed, Settled, Spent, Full}
+use Rattle.certificate.specs.declared.report.Outcome.TheVariants.{Closed, Settled, Spent, Full, Stopped}
 use Rattle.certificate.specs.declared.report.Report.{Report}
 use Rattle.sim_game.specs.declared.Limits.{Limits}
-use Rattle.certificate.specs.Versions.{newest_version, limits_of, most_rows, most_moves, version_of}
+use Rattle.certificate.specs.Versions.{newest_version, has_outcome, limits_of, most_rows, most_moves, version_of}
 use Rattle.certificate.specs.Positions.{position}
 use Rattle.certificate.specs.Texts.{outcome_word}
 use Rattle.certificate.specs.Readers.{◌>>=◌, Reads, ◌followed_by◌, ◌before◌, made_by, spelled, natural, integer, naturals, expected_word, lines_in, in_line}
@@ -19,10 +19,14 @@ pub use Rattle.certificate.specs.Readers.{Fails, Gives}
 
 -- the outcome whose word it is
 unfoldable pub outcome_of : List ℕ → Option Outcome
-outcome_of word = find (λ o. bytes_eq word (outcome_word o)) (Closed ∷ Settled ∷ Spent ∷ Full ∷ [])
+outcome_of word = find (λ o. bytes_eq word (outcome_word o)) (Closed ∷ Settled ∷ Spent ∷ Full ∷ Stopped ∷ [])
 
-unfoldable pub outcome : Reads Outcome
-outcome = spelled errors.Line outcome_of
+-- in a report of a version
+unfoldable pub outcome_in : ℕ → List ℕ → Option Outcome
+outcome_in version word = option_and_then (λ o. if has_outcome version o then Some o else None) (outcome_of word)
+
+unfoldable pub outcome : ℕ → Reads Outcome
+outcome version = spelled errors.Line (outcome_in version)
 
 unfoldable pub game_line : ℕ → Reads PositionText
 game_line version = in_line 7 8 (expected_word (codes "game") before position version)
@@ -33,8 +37,8 @@ natural_line word low high = in_line 2 2 (expected_word word before natural low 
 unfoldable pub integer_line : List ℕ → ℤ → ℤ → Reads ℤ
 integer_line word low high = in_line 2 2 (expected_word word before integer low high)
 
-unfoldable pub outcome_line : Reads Outcome
-outcome_line = in_line 2 2 (expected_word (codes "outcome") before outcome)
+unfoldable pub outcome_line : ℕ → Reads Outcome
+outcome_line version = in_line 2 2 (expected_word (codes "outcome") before outcome version)
 
 unfoldable pub spent_line : Reads (List ℕ)
 spent_line = in_line 2 17 (expected_word (codes "spent") before naturals 0 1099511627776)
@@ -96,9 +100,9 @@ terms = made_by (λ x. (x.0, x.1.0, x.1.1.0, x.1.1.1)) (
     followed_by integer_line (codes "resolution") (pos 0) (pos 99999999999))
 
 -- what it found: outcome, both bounds, and the turns spent
-unfoldable pub findings : Reads (Outcome × ℤ × ℤ × List ℕ)
-findings = made_by (λ x. (x.0, x.1.0, x.1.1.0, x.1.1.1)) (
-    outcome_line
+unfoldable pub findings : ℕ → Reads (Outcome × ℤ × ℤ × List ℕ)
+findings version = made_by (λ x. (x.0, x.1.0, x.1.1.0, x.1.1.1)) (
+    outcome_line version
     followed_by integer_line (codes "lower") (neg_ℤ (pos 4000000000)) (pos 4000000000)
     followed_by integer_line (codes "upper") (neg_ℤ (pos 4000000000)) (pos 4000000000)
     followed_by spent_line)
@@ -124,7 +128,7 @@ report_of (position, (asked, (found, rows))) = record {
 
 -- the lines behind the first, in a report of the version
 unfoldable pub report : ℕ → Reads Report
-report version = made_by report_of (game_line version followed_by terms followed_by findings followed_by sheets (limits_of version))
+report version = made_by report_of (game_line version followed_by terms followed_by findings version followed_by sheets (limits_of version))
 
 -- no line is left
 abbrev pub ended : List (List ℕ) → Bool

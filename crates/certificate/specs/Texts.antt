@@ -3,7 +3,7 @@ use Rattle.std.specs.Prelude.{ℕ, List, [], ◌∷◌, ◌++◌, length, map, c
 use Rattle.std.specs.Fmt.{signed_decimal}
 use Rattle.plan_book.specs.declared.SheetRow.{SheetRow}
 use Rattle.certificate.specs.declared.report.Outcome.{Outcome}
-use Rattle.certificate.specs.declared.report.Outcome.TheVariants.{Closed, Settled, Spent, Full}
+use Rattle.certificate.specs.declared.report.Outcome.TheVariants.{Closed, Settled, Spent, Full, Stopped}
 use Rattle.certificate.specs.declared.report.Report.{Report}
 use Rattle.certificate.specs.Versions.{version_of}
 use Rattle.certificate.specs.Positions.{position_fields}
@@ -14,6 +14,7 @@ outcome_word Closed = codes "closed"
 outcome_word Settled = codes "settled"
 outcome_word Spent = codes "spent"
 outcome_word Full = codes "full"
+outcome_word Stopped = codes "stopped"
 
 abbrev pub row_fields : SheetRow → List (List ℕ)
 row_fields row = decimal row.key ∷ signed_decimal row.bound ∷ map decimal row.weights

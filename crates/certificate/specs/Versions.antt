@@ -1,11 +1,13 @@
 -- The versions of reports, and how much a report of each can hold.
-use Rattle.std.specs.Prelude.{ℕ, ◌==◌, Bool, not, ◌||◌, if◌then◌else◌, nat_lt, length}
+use Rattle.std.specs.Prelude.{ℕ, ◌==◌, Bool, true, false, not, ◌||◌, if◌then◌else◌, nat_lt, length}
 use Rattle.plan_book.specs.declared.Sheet.{Sheet}
 use Rattle.fields.specs.declared.positions.GameKind.{GameKind}
 use Rattle.fields.specs.declared.positions.GameKind.TheVariants.{Goofspiel, OshiZumo, Tron, GoofspielDrawn, Pursuit, Table}
 use Rattle.sim_game.specs.declared.Limits.{Limits}
 use Rattle.sim_game.specs.declared.Limits.TheVariants.{Narrow, Wide}
 use Rattle.fields.specs.Positions.{kind_of, is_narrow}
+use Rattle.certificate.specs.declared.report.Outcome.{Outcome}
+use Rattle.certificate.specs.declared.report.Outcome.TheVariants.{Closed, Settled, Spent, Full, Stopped}
 use Rattle.certificate.specs.declared.report.Report.{Report}
 
 -- versions are numbered from 1
@@ -40,9 +42,20 @@ most_moves Wide = 64
 abbrev pub is_long : Sheet → Bool
 is_long sheet = nat_lt (most_rows Narrow) (length sheet.rows)
 
--- the position or a sheet is beyond the narrow limits
+-- each version has its own outcomes: all but one, which the newest has
+abbrev pub is_older : Outcome → Bool
+is_older Closed = true
+is_older Settled = true
+is_older Spent = true
+is_older Full = true
+is_older Stopped = false
+
+abbrev pub has_outcome : ℕ → Outcome → Bool
+has_outcome version outcome = is_older outcome || version == newest_version
+
+-- the position or a sheet is beyond the narrow limits, or the outcome is in no version before
 abbrev pub needs_newest : Report → Bool
-needs_newest r = not (is_narrow r.position) || (is_long r.one || is_long r.two)
+needs_newest r = not (is_narrow r.position) || (is_long r.one || (is_long r.two || not (is_older r.outcome)))
 
 -- each report has one version: the first of its game, unless it needs the newest
 abbrev pub version_of : Report → ℕ

@@ -8,45 +8,68 @@ ghost use Rattle.certificate.specs.Ranges.{IsInRange};
 ghost use Rattle.certificate.specs.Texts.{report_text};
 ghost use Rattle.certificate.specs.Unread.{Unread};
 ghost use Rattle.certificate.specs.Versions.{version_of};
-ghost use Rattle.certificate.specs.Reading.{Gives, outcome_of, outcome, outcome_line, spent_line, end_line, version_line, head, terms, findings, sheets, report, named_report, read_report};
+ghost use Rattle.certificate.specs.Reading.{Gives, outcome_of, outcome_in, outcome, outcome_line, spent_line, end_line, version_line, head, terms, findings, sheets, report, named_report, read_report};
 
 use crate::lines::{Line, Lines};
-use crate::version::{NEWEST_VERSION, limits_of};
+use crate::version::{NEWEST_VERSION, has_outcome, limits_of};
 use crate::{Outcome, Report, TextError};
 use plan_book::{Sheet, SheetRow};
 use seq::Seq;
 use sim_game::{Limits, Side};
 use std::alloc::Global;
 
+/// The outcome whose word it is.
+#[tactic(auto, unfolding(crate::specs::Reading::outcome_of))]
+fn outcome_of(word: &[u8]) -> Option<Outcome>
+    ensures { result ≡ outcome_of word.now }
+{
+    if word == b"closed".as_slice() {
+        Some(Outcome::Closed)
+    } else if word == b"settled".as_slice() {
+        Some(Outcome::Settled)
+    } else if word == b"spent".as_slice() {
+        Some(Outcome::Spent)
+    } else if word == b"full".as_slice() {
+        Some(Outcome::Full)
+    } else if word == b"stopped".as_slice() {
+        Some(Outcome::Stopped)
+    } else {
+        None
+    }
+}
+
+/// The outcome of the word, if the version has it.
+#[tactic(auto, unfolding(crate::specs::Reading::outcome_in))]
+fn outcome_in_version(word: &[u8], version: u32) -> Option<Outcome>
+    ensures { result ≡ outcome_in version word.now }
+{
+    let outcome = outcome_of(word)?;
+    if has_outcome(version, outcome) {
+        Some(outcome)
+    } else {
+        None
+    }
+}
+
 impl Line<'_> {
-    #[tactic(auto, unfolding(crate::specs::Reading::outcome, crate::specs::Reading::outcome_of))]
-    fn outcome(&mut self) -> Result<Outcome, TextError>
-        ensures { Gives (λ o. (o, self.new)) result (outcome self.old) }
+    #[tactic(auto, unfolding(crate::specs::Reading::outcome))]
+    fn outcome(&mut self, version: u32) -> Result<Outcome, TextError>
+        ensures { Gives (λ o. (o, self.new)) result (outcome version self.old) }
     {
         let number = self.number();
         let word = self.field()?;
-        if word == b"closed".as_slice() {
-            Ok(Outcome::Closed)
-        } else if word == b"settled".as_slice() {
-            Ok(Outcome::Settled)
-        } else if word == b"spent".as_slice() {
-            Ok(Outcome::Spent)
-        } else if word == b"full".as_slice() {
-            Ok(Outcome::Full)
-        } else {
-            Err(TextError::Line { number })
-        }
+        outcome_in_version(word, version).ok_or(TextError::Line { number })
     }
 }
 
 impl Lines<'_> {
     #[tactic(auto, unfolding(crate::specs::Reading::outcome_line))]
-    fn outcome(&mut self) -> Result<Outcome, TextError>
-        ensures { Gives (λ o. (o, self.new)) result (outcome_line self.old) }
+    fn outcome(&mut self, version: u32) -> Result<Outcome, TextError>
+        ensures { Gives (λ o. (o, self.new)) result (outcome_line version self.old) }
     {
         let mut line = self.line(2, 2)?;
         line.expect(b"outcome")?;
-        line.outcome()
+        line.outcome(version)
     }
 
     #[tactic(auto, unfolding(crate::specs::Reading::spent_line))]
@@ -101,12 +124,16 @@ impl Lines<'_> {
         Ok((weight as u32, turns, asked, resolution))
     }
 
-    /// The outcome, the bounds and the turns spent.
+    /// The outcome, the bounds and the turns spent, in a report of the version.
     #[tactic(auto, unfolding(crate::specs::Reading::findings))]
-    fn findings(&mut self, alloc: Global) -> Result<(Outcome, i64, i64, Seq<u64>), TextError>
-        ensures { Gives (λ x. (x, self.new)) result (findings self.old) }
+    fn findings(
+        &mut self,
+        alloc: Global,
+        version: u32,
+    ) -> Result<(Outcome, i64, i64, Seq<u64>), TextError>
+        ensures { Gives (λ x. (x, self.new)) result (findings version self.old) }
     {
-        let outcome = self.outcome()?;
+        let outcome = self.outcome(version)?;
         let lower = self.integer(b"lower", -4_000_000_000, 4_000_000_000)?;
         let upper = self.integer(b"upper", -4_000_000_000, 4_000_000_000)?;
         let spent = self.spent(alloc)?;
@@ -135,7 +162,7 @@ impl Lines<'_> {
     {
         let position = self.game(alloc, version)?;
         let (weight, turns, asked, resolution) = self.terms()?;
-        let (outcome, lower, upper, spent) = self.findings(alloc)?;
+        let (outcome, lower, upper, spent) = self.findings(alloc, version)?;
         let (one, two) = self.sheets(alloc, limits_of(version))?;
         Ok(Report {
             position,

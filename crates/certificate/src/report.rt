@@ -12,12 +12,14 @@ use seq::Seq;
 pub enum Outcome {
     /// The gap is at most the one asked.
     Closed,
-    /// The gap is wider than asked, and as narrow as the weight lets it be.
+    /// The gap is wider than asked, and at most the resolution.
     Settled,
     /// Every worker's turns are spent.
     Spent,
     /// The board was full.
     Full,
+    /// The search was told to stop.
+    Stopped,
 }
 
 /// Two bounds of a game's value, the sheets that guarantee them, and how they were found. Bounds, gaps and the
@@ -52,6 +54,7 @@ impl Report {
             Outcome::Settled => self.is_wider(&self.asked) && !self.is_wider(&self.resolution),
             Outcome::Spent => self.is_wide() && are_all(self.spent.as_slice(), self.turns),
             Outcome::Full => self.is_wide(),
+            Outcome::Stopped => self.is_wide(),
         }
     }
 

@@ -1,9 +1,9 @@
 //! The version of a report, and how much reports of a version can hold.
 
 ghost use Rattle.std.specs.Prelude.{◌≡◌, ◌+◌};
-ghost use Rattle.certificate.specs.Versions.{game_version, has_game, limits_of, most_rows, most_moves, is_long, needs_newest, version_of};
+ghost use Rattle.certificate.specs.Versions.{game_version, has_game, is_older, has_outcome, limits_of, most_rows, most_moves, is_long, needs_newest, version_of};
 
-use crate::Report;
+use crate::{Outcome, Report};
 use fields::GameKind;
 use plan_book::Sheet;
 use sim_game::Limits;
@@ -29,6 +29,22 @@ pub(crate) fn has_game(version: u32, game: GameKind) -> bool
     ensures { result ≡ has_game version game }
 {
     game_version(game) == version || version == NEWEST_VERSION
+}
+
+/// Whether the versions before the newest have the outcome.
+fn is_older(outcome: Outcome) -> bool
+    ensures { result ≡ is_older outcome }
+{
+    match outcome {
+        Outcome::Closed | Outcome::Settled | Outcome::Spent | Outcome::Full => true,
+        Outcome::Stopped => false,
+    }
+}
+
+pub(crate) fn has_outcome(version: u32, outcome: Outcome) -> bool
+    ensures { result ≡ has_outcome version outcome }
+{
+    is_older(outcome) || version == NEWEST_VERSION
 }
 
 /// The limits of reports of the version: wide from 3 on.
@@ -70,7 +86,7 @@ fn is_long(sheet: &Sheet) -> bool
 
 impl Report {
     /// The version of the report. That of its game, from 1 on, unless the report needs the newest: if the position or
-    /// a sheet is beyond the narrow limits.
+    /// a sheet is beyond the narrow limits, or the search was told to stop.
     pub fn version(&self) -> u32
         ensures { result ≡ version_of self.now }
     {
@@ -84,6 +100,9 @@ impl Report {
     fn needs_newest(&self) -> bool
         ensures { result ≡ needs_newest self.now }
     {
-        !self.position.is_narrow() || is_long(&self.one) || is_long(&self.two)
+        !self.position.is_narrow()
+            || is_long(&self.one)
+            || is_long(&self.two)
+            || !is_older(self.outcome)
     }
 }

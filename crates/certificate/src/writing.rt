@@ -21,6 +21,7 @@ fn add_outcome(text: &mut Text, outcome: Outcome) -> Result<(), NoMemory>
         Outcome::Settled => text.word(b"outcome settled\n"),
         Outcome::Spent => text.word(b"outcome spent\n"),
         Outcome::Full => text.word(b"outcome full\n"),
+        Outcome::Stopped => text.word(b"outcome stopped\n"),
     }
 }
 

@@ -1,5 +1,5 @@
 -- Answers to bytes in memory.
-use Rattle.std.proofs.Common.{◌≡◌, ℕ, ◌+◌, ◌≤◌, ◌<◌, List, length, take, drop, Result, IfOk, refl, sym, subst, ap, ◌∙◌, arith}
+use Rattle.std.proofs.Common.{◌≡◌, Bool, false, ℕ, ◌+◌, ◌≤◌, ◌<◌, List, length, take, drop, Result, IfOk, refl, sym, subst, ap, ◌∙◌, arith}
 use Rattle.std.proofs.lemmas.List.{length-take-le, take_all, take-append-drop}
 use Rattle.std.proofs.lemmas.Result.{IfOk-weaker}
 use Rattle.sim_game.specs.declared.NoMemory.{NoMemory}
@@ -35,19 +35,19 @@ limit_of_least (Play games seed) bytes = most_least bytes
 
 -- of more bytes than a command reads it takes one more than that
 pub long_input : (command : ReadingCommand) (bytes : List ℕ) (result : Result Answer NoMemory) → limit_of command bytes < length bytes
-    → IfOk result (λ a. (all : List ℕ) → length all ≡ limit_of command all + 1 → IsAnswerTo command all a.status a.text)
-    → IfOk result (λ a. IsAnswerTo command (take (limit_of command bytes + 1) bytes) a.status a.text)
+    → IfOk result (λ a. (may_stop : Bool) (all : List ℕ) → length all ≡ limit_of command all + 1 → IsAnswerTo may_stop command all a.status a.text)
+    → IfOk result (λ a. IsAnswerTo false command (take (limit_of command bytes + 1) bytes) a.status a.text)
 long_input command bytes result long said =
     let n = limit_of command bytes + 1 in
     let front = take n bytes in
     let more : n ≤ length bytes = omega (arith, long) in
     let same = limit_of_front command n bytes (omega (arith, limit_of_least command bytes)) more in
     let size : length front ≡ limit_of command front + 1 = length-take-le n bytes more ∙ ap (λ k. k + 1) (sym same) in
-    IfOk-weaker result _ (λ a. IsAnswerTo command front a.status a.text) (λ a s. s front size) said
+    IfOk-weaker result _ (λ a. IsAnswerTo false command front a.status a.text) (λ a s. s false front size) said
 
 -- and else all of them
 pub short_input : (command : ReadingCommand) (bytes : List ℕ) (result : Result Answer NoMemory) → length bytes ≤ limit_of command bytes
-    → IfOk result (λ a. IsAnswerTo command bytes a.status a.text) → IfOk result (λ a. IsAnswerTo command (take (limit_of command bytes + 1) bytes) a.status a.text)
+    → IfOk result (λ a. IsAnswerTo false command bytes a.status a.text) → IfOk result (λ a. IsAnswerTo false command (take (limit_of command bytes + 1) bytes) a.status a.text)
 short_input command bytes result short said =
     let all : take (limit_of command bytes + 1) bytes ≡ bytes = take_all (limit_of command bytes + 1) bytes (omega (arith, short)) in
-    subst (λ input. IfOk result (λ a. IsAnswerTo command input a.status a.text)) (sym all) said
+    subst (λ input. IfOk result (λ a. IsAnswerTo false command input a.status a.text)) (sym all) said

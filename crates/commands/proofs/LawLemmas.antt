@@ -18,7 +18,7 @@ use Rattle.sim_game.specs.declared.Limits.TheVariants.{Narrow, Wide}
 use Rattle.fields.specs.declared.positions.GameKind.{GameKind}
 use Rattle.fields.specs.declared.positions.GameKind.TheVariants.{Goofspiel, OshiZumo, Tron, GoofspielDrawn, Pursuit, Table}
 use Rattle.fields.specs.Positions.{kind_of, fits_narrow, is_small, is_narrow}
-use Rattle.certificate.specs.Versions.{newest_version, game_version, is_long, limits_of, needs_newest, version_of}
+use Rattle.certificate.specs.Versions.{newest_version, game_version, is_long, is_older, limits_of, needs_newest, version_of}
 use Rattle.certificate.proofs.ReportLaws.{read_named}
 use Rattle.position.specs.declared.games.InputError.{InputError}
 use Rattle.position.proofs.GameLemmas.{of_game_weaker, of_one_game}
@@ -53,8 +53,8 @@ one_answer bytes _ _ _ _ (IsChecked.unread f is) (IsChecked.refused s w it found
 one_answer bytes _ _ _ _ (IsChecked.unread f is) (IsChecked.unread g it) = let e : f ≡ g = cc (is, it) in (refl, ap fault_text e)
 
 -- ---- what solve writes is accepted
-pub solution_is_right : (S : Type 0) (m : GameModel S) (text : PositionText) (ask : Ask) (r : Report) → IsSolution m text ask r → IsVerdict m r Accepted
-solution_is_right S m text ask r is = record {
+pub solution_is_right : (S : Type 0) (m : GameModel S) (text : PositionText) (ask : Ask) (may_stop : Bool) (r : Report) → IsSolution m text ask may_stop r → IsVerdict m r Accepted
+solution_is_right S m text ask may_stop r is = record {
   one = is.one_lawful;
   two = is.two_lawful;
   numbers = record {
@@ -107,33 +107,35 @@ built_again r fits wide =
     elim (needs_newest r) as (λ b. needs_newest r ≡ b → fault_of (limits_of (cond b newest_version (game_version k))) r.position ≡ None) [
       | true ↦ λ needs. wide
       | false ↦ λ needs.
-          let small = (and_parts (fits_narrow r.position) (is_small r.position) (none_long (is_narrow r.position) (is_long r.one || is_long r.two) needs)).1 in
+          let small = (and_parts (fits_narrow r.position) (is_small r.position) (none_long (is_narrow r.position) (is_long r.one || (is_long r.two || not (is_older r.outcome))) needs)).1 in
           rw (narrow_game k) (small_accepted r.position fits.position small wide)
     ] refl
 
 -- ---- what solve writes as a report is accepted
-pub reported_accepted : (bytes text : List ℕ) (status : ℕ) → IsSolved bytes status text → ¬ (status ≡ 2) → length text ≤ most_report text
+pub reported_accepted : (may_stop : Bool) (bytes text : List ℕ) (status : ℕ) → IsSolved may_stop bytes status text → ¬ (status ≡ 2) → length text ≤ most_report text
     → (r : Report) × (text ≡ report_text r) × IsChecked text 0 (accepted_text r)
-reported_accepted bytes _ _ (IsSolved.refused e is) not short = absurd (not refl)
-reported_accepted bytes _ _ (IsSolved.reported task r is asked solves again) not short =
-    let P : (S : Type 0) → GameModel S → Type 0 = λ S m. IsSolution m task.text task.ask r in
+reported_accepted may_stop bytes _ _ (IsSolved.refused e is) not short = absurd (not refl)
+reported_accepted may_stop bytes _ _ (IsSolved.reported task r is asked solves again) not short =
+    let P : (S : Type 0) → GameModel S → Type 0 = λ S m. IsSolution m task.text task.ask may_stop r in
     let position : r.position ≡ task.text = of_one_game task.text P P (r.position ≡ task.text) (λ S m game p q. p.of_ask.position) solves solves in
     let in_range : IsInRange r = of_one_game task.text P P (IsInRange r) (λ S m game p q. p.in_range) solves solves in
-    let right = of_game_weaker task.text P (λ S m. IsVerdict m r Accepted) (λ S m p. solution_is_right S m task.text task.ask r p) solves in
+    let right = of_game_weaker task.text P (λ S m. IsVerdict m r Accepted) (λ S m p. solution_is_right S m task.text task.ask may_stop r p) solves in
     let judged = subst (λ (t : PositionText). OfGame t (λ S m. IsVerdict m r Accepted)) (sym position) right in
     let wide = ap (fault_of Wide) position ∙ built bytes task is in
     (r, refl, IsChecked.accepted r (report_built (report_text r) short (version_of r) r (read_named (report_text r) r again) (built_again r in_range wide) refl) judged)
 
-pub accepted_alone : (bytes text answer : List ℕ) (status state : ℕ) → IsSolved bytes status text → ¬ (status ≡ 2) → length text ≤ most_report text → IsChecked text state answer → state ≡ 0
-accepted_alone bytes text answer status state solved not short checked =
-    let told = reported_accepted bytes text status solved not short in (one_answer text state 0 answer (accepted_text told.0) checked told.2).0
+pub accepted_alone : (may_stop : Bool) (bytes text answer : List ℕ) (status state : ℕ) → IsSolved may_stop bytes status text → ¬ (status ≡ 2)
+    → length text ≤ most_report text → IsChecked text state answer → state ≡ 0
+accepted_alone may_stop bytes text answer status state solved not short checked =
+    let told = reported_accepted may_stop bytes text status solved not short in (one_answer text state 0 answer (accepted_text told.0) checked told.2).0
 
 -- with as many rows as the narrow limits allow it is not too long
-pub reported_short : (bytes text : List ℕ) (status : ℕ) (task : TaskText) → position_of bytes ≡ Ok task → task.ask.rows ≤ 1048576 → IsSolved bytes status text → ¬ (status ≡ 2)
+pub reported_short : (may_stop : Bool) (bytes text : List ℕ) (status : ℕ) (task : TaskText) → position_of bytes ≡ Ok task → task.ask.rows ≤ 1048576
+    → IsSolved may_stop bytes status text → ¬ (status ≡ 2)
     → length text ≤ most_report text
-reported_short bytes _ _ task it few (IsSolved.refused e is) not = absurd (not refl)
-reported_short bytes _ _ task it few (IsSolved.reported own r is asked solves again) not =
-    let P : (S : Type 0) → GameModel S → Type 0 = λ S m. IsSolution m own.text own.ask r in
+reported_short may_stop bytes _ _ task it few (IsSolved.refused e is) not = absurd (not refl)
+reported_short may_stop bytes _ _ task it few (IsSolved.reported own r is asked solves again) not =
+    let P : (S : Type 0) → GameModel S → Type 0 = λ S m. IsSolution m own.text own.ask may_stop r in
     let same : own ≡ task = cc (is, it) in
     let rows = ap (λ (t : TaskText). t.ask.rows) same in
     let in_range : IsInRange r = of_one_game own.text P P (IsInRange r) (λ S m game p q. p.in_range) solves solves in

@@ -1,5 +1,5 @@
 -- The samples.
-use Rattle.std.proofs.Common.{◌≡◌, ℕ, ◌+◌, ◌-◌, ◌*◌, ◌%◌, ◌<◌, ◌≤◌, pos, List, length, take, drop, leb, leb-true, true, None, Some, ◌⊎◌, inl, inr, refl, ap, arith}
+use Rattle.std.proofs.Common.{◌≡◌, false, ℕ, ◌+◌, ◌-◌, ◌*◌, ◌%◌, ◌<◌, ◌≤◌, pos, List, length, take, drop, leb, leb-true, true, None, Some, ◌⊎◌, inl, inr, refl, ap, arith}
 use Rattle.std.proofs.Math.Nat.{mod-lt, mul-le-mul}
 use Rattle.std.proofs.lemmas.Int.{ints}
 use Rattle.std.proofs.lemmas.List.Elements.{All-from_recursion, All-append, All-drop, All-take}
@@ -9,7 +9,7 @@ use Rattle.goofspiel.specs.declared.GoofspielError.{GoofspielError}
 use Rattle.goofspiel.specs.Position.{first_fault}
 use Rattle.fields.specs.Ranges.{IsByteList, IsAskInRange, IsPositionInRange}
 use Rattle.certificate.specs.declared.report.Outcome.{Outcome}
-use Rattle.certificate.specs.declared.report.Outcome.TheVariants.{Closed, Settled, Spent, Full}
+use Rattle.certificate.specs.declared.report.Outcome.TheVariants.{Closed, Settled, Spent, Full, Stopped}
 use Rattle.certificate.specs.declared.report.Report.{Report}
 use Rattle.goofspiel.specs.CardLaws.{few_cards}
 use Rattle.goofspiel.specs.declared.Goofspiel.{Goofspiel as GoofspielGame}
@@ -69,15 +69,16 @@ few_turns : (width rank : ℕ) → width ≤ 13 → rank ≡ 5 → (2 * width - 
 few_turns width rank narrow is = let each : 2 * width - 1 ≤ 25 = omega (arith, narrow) in let states : 3682 + rank + 1 ≤ 3688 = omega (arith, is) in mul-le-mul each states
 
 -- nothing runs out in so small a game
-closed_or_settled : {S : Type 0} (m : GameModel S) (n : ℕ) (r : Report) → HasAtMost m 3682 → m.rank m.root ≡ 5 → m.width ≤ 13 → IsSolution m (sample_position n) sample_ask r
+closed_or_settled : {S : Type 0} (m : GameModel S) (n : ℕ) (r : Report) → HasAtMost m 3682 → m.rank m.root ≡ 5 → m.width ≤ 13 → IsSolution m (sample_position n) sample_ask false r
     → (o : Outcome) → r.outcome ≡ o → (r.outcome ≡ Closed) ⊎ (r.outcome ≡ Settled)
 closed_or_settled m n r few rank narrow is Closed e = inl e
 closed_or_settled m n r few rank narrow is Settled e = inr e
 closed_or_settled m n r few rank narrow is Spent e = absurd (let turns = is.spent e 3682 few (omega arith) in omega (arith, turns, few_turns m.width (m.rank m.root) narrow rank))
+closed_or_settled m n r few rank narrow is Stopped e = absurd (let may = is.stopped e in cc)
 closed_or_settled m n r few rank narrow is Full e = absurd (is.full e (more_states m 3682 65536 few (omega arith)))
 
 pub is_sample_solution : {S : Type 0} (m : GameModel S) (n : ℕ) (r : Report) → HasAtMost m 3682 → m.rank m.root ≡ 5 → tree_size m m.root ≡ 32826 → m.width ≤ 13
-    → IsSolution m (sample_position n) sample_ask r → IsSampleSolution m n r
+    → IsSolution m (sample_position n) sample_ask false r → IsSampleSolution m n r
 is_sample_solution m n r few rank size narrow is =
     let room = more_states m 3682 65536 few (omega arith) in
     let visits : tree_size m m.root ≤ 40000 = omega (arith, size) in

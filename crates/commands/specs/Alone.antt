@@ -1,5 +1,5 @@
 -- Answers to bytes in memory.
-use Rattle.std.specs.Prelude.{◌≡◌, ℕ, ◌+◌, List, [], take, Option, None, Some, Ok}
+use Rattle.std.specs.Prelude.{◌≡◌, ℕ, ◌+◌, Bool, List, [], take, Option, None, Some, Ok}
 use Rattle.certificate.specs.declared.report.Report.{Report}
 use Rattle.position.specs.Games.{OfGame}
 use Rattle.position.specs.Position.{TaskText, position_of}
@@ -22,9 +22,9 @@ CanRun None = Unit {0}
 CanRun (Some (Sample number)) = Unit {0}
 CanRun (Some (Reading command)) = HasFewGames command
 
--- a report of a search of the position that the bytes are
-pub record IsFoundReport (bytes : List ℕ) (r : Report) : Type 0 where
+-- a report of a search of the position that the bytes are, by a search that may be stopped or not
+pub record IsFoundReport (may_stop : Bool) (bytes : List ℕ) (r : Report) : Type 0 where
   pub task : TaskText
   pub is_task : position_of bytes ≡ Ok task
   pub asked : IsAskInRange task.ask
-  pub solution : OfGame task.text (λ S m. IsSolution m task.text task.ask r)
+  pub solution : OfGame task.text (λ S m. IsSolution m task.text task.ask may_stop r)

@@ -1,8 +1,8 @@
 -- What a run of the program takes, answers and writes.
-use Rattle.std.specs.Prelude.{◌≡◌, ◌⊎◌, ℕ, ◌+◌, ◌≤◌, List, length, Option, None, Some, Result, Ok, Err}
+use Rattle.std.specs.Prelude.{◌≡◌, ◌⊎◌, ℕ, ◌+◌, ◌≤◌, Bool, List, length, Option, None, Some, Result, Ok, Err}
 use Rattle.std.specs.Io.KnownBytes.{Consumes, IsAtEnd, Appends}
 use Rattle.certificate.specs.declared.report.Outcome.{Outcome}
-use Rattle.certificate.specs.declared.report.Outcome.TheVariants.{Closed, Settled, Spent, Full}
+use Rattle.certificate.specs.declared.report.Outcome.TheVariants.{Closed, Settled, Spent, Full, Stopped}
 use Rattle.certificate.specs.declared.report.Report.{Report}
 use Rattle.certificate.specs.Texts.{report_text}
 use Rattle.certificate.specs.Reading.{read_report}
@@ -33,31 +33,32 @@ status_of Closed = 0
 status_of Settled = 3
 status_of Spent = 4
 status_of Full = 5
+status_of Stopped = 4
 
--- the status and the text that solve answers to the bytes of a position
-pub data IsSolved (bytes : List ℕ) : ℕ → List ℕ → Type 0 where
-  refused : (e : InputError) → position_of bytes ≡ Err e → IsSolved bytes 2 (input_text e)
+-- the status and the text that solve answers to the bytes of a position, by a search that may be stopped or not
+pub data IsSolved (may_stop : Bool) (bytes : List ℕ) : ℕ → List ℕ → Type 0 where
+  refused : (e : InputError) → position_of bytes ≡ Err e → IsSolved may_stop bytes 2 (input_text e)
   reported : (task : TaskText) (r : Report) → position_of bytes ≡ Ok task → IsAskInRange task.ask
-      → OfGame task.text (λ S m. IsSolution m task.text task.ask r) → read_report (report_text r) ≡ Ok r
-      → IsSolved bytes (status_of r.outcome) (report_text r)
+      → OfGame task.text (λ S m. IsSolution m task.text task.ask may_stop r) → read_report (report_text r) ≡ Ok r
+      → IsSolved may_stop bytes (status_of r.outcome) (report_text r)
 
 -- the status and the text that sample answers to a number
 pub data IsSampled (number : ℕ) : ℕ → List ℕ → Type 0 where
   reported : (r : Report) → IsSampleReport number r → IsSampled number (status_of r.outcome) (sample_line number r)
 
--- to the bytes that a command is given
-abbrev pub IsAnswerTo : ReadingCommand → List ℕ → ℕ → List ℕ → Type 0
-IsAnswerTo Solve bytes status text = IsSolved bytes status text
-IsAnswerTo Check bytes status text = IsChecked bytes status text
-IsAnswerTo Bounds bytes status text = IsBounded bytes status text
-IsAnswerTo (Exploit side) bytes status text = IsExploited side bytes status text
-IsAnswerTo (Play games seed) bytes status text = IsPlayedMatch games seed bytes status text
+-- to the bytes that a command is given; only a search by solve may be stopped
+abbrev pub IsAnswerTo : Bool → ReadingCommand → List ℕ → ℕ → List ℕ → Type 0
+IsAnswerTo may_stop Solve bytes status text = IsSolved may_stop bytes status text
+IsAnswerTo may_stop Check bytes status text = IsChecked bytes status text
+IsAnswerTo may_stop Bounds bytes status text = IsBounded bytes status text
+IsAnswerTo may_stop (Exploit side) bytes status text = IsExploited side bytes status text
+IsAnswerTo may_stop (Play games seed) bytes status text = IsPlayedMatch games seed bytes status text
 
 -- to the words that are no command, to the number of a sample, or to the bytes that a command is given
-abbrev pub IsAnswer : Option Command → List ℕ → ℕ → List ℕ → Type 0
-IsAnswer None bytes status text = (status ≡ 1) × (text ≡ usage_text)
-IsAnswer (Some (Sample number)) bytes status text = IsSampled number status text
-IsAnswer (Some (Reading command)) bytes status text = IsAnswerTo command bytes status text
+abbrev pub IsAnswer : Bool → Option Command → List ℕ → ℕ → List ℕ → Type 0
+IsAnswer may_stop None bytes status text = (status ≡ 1) × (text ≡ usage_text)
+IsAnswer may_stop (Some (Sample number)) bytes status text = IsSampled number status text
+IsAnswer may_stop (Some (Reading command)) bytes status text = IsAnswerTo may_stop command bytes status text
 
 -- ---- what is taken
 -- how many bytes a command reads, of bytes that begin so
@@ -87,23 +88,23 @@ IsTakenInPart (Some (Reading command)) old new =
     TakesWithin (λ bytes. limit_of command bytes + 1) old.left new.left × (new.faults ≡ old.faults)
 
 -- ---- runs
--- with a source and a sink, before and after
-pub data IsRun (command : Option Command) (source source' : SourceState) (sink sink' : SinkState) : ℕ → Type 0 where
+-- by a gate that may stop it or not, with a source and a sink, before and after
+pub data IsRun (may_stop : Bool) (command : Option Command) (source source' : SourceState) (sink sink' : SinkState) : ℕ → Type 0 where
   -- the whole text of an answer is written
   answered : (bytes text : List ℕ) (status : ℕ) → IsTaken command source source' bytes
-      → IsAnswer command bytes status text → Appends sink.written sink'.written text
-      → IsRun command source source' sink sink' status
+      → IsAnswer may_stop command bytes status text → Appends sink.written sink'.written text
+      → IsRun may_stop command source source' sink sink' status
   -- the source of a command that reads failed: nothing is written
   unread : (reading : ReadingCommand) → command ≡ Some (Reading reading)
       → TakesWithin (limit_of reading) source.left source'.left → Rose source.faults source'.faults → sink' ≡ sink
-      → IsRun command source source' sink sink' 6
+      → IsRun may_stop command source source' sink sink' 6
   -- the sink failed: a part of an answer's text is written
   cut_off : (bytes text : List ℕ) (status : ℕ) → IsTaken command source source' bytes
-      → IsAnswer command bytes status text → AppendsFront sink.written sink'.written text
+      → IsAnswer may_stop command bytes status text → AppendsFront sink.written sink'.written text
       → Rose sink.faults sink'.faults
-      → IsRun command source source' sink sink' 7
+      → IsRun may_stop command source source' sink sink' 7
   -- want of memory, and no call of the source failed: nothing is written
-  no_memory : IsTakenInPart command source source' → sink' ≡ sink → IsRun command source source' sink sink' 8
+  no_memory : IsTakenInPart command source source' → sink' ≡ sink → IsRun may_stop command source source' sink sink' 8
 
 -- the answer was written, whole or in part, or there was no memory for it
 pub data IsWritten (answer : Result Answer NoMemory) (sink sink' : SinkState) : ℕ → Type 0 where

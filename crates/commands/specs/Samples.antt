@@ -1,5 +1,5 @@
 -- The sample of a number: a position of Goofspiel, and the line that tells how it is solved.
-use Rattle.std.specs.Prelude.{◌≡◌, ◌⊎◌, ℕ, pos, ◌%◌, ◌≤ℤ◌, List, [], ◌∷◌, ◌++◌, take, drop, map, All, codes, decimal}
+use Rattle.std.specs.Prelude.{◌≡◌, ◌⊎◌, ℕ, pos, ◌%◌, ◌≤ℤ◌, false, List, [], ◌∷◌, ◌++◌, take, drop, map, All, codes, decimal}
 use Rattle.std.specs.Fmt.{signed_decimal}
 use Rattle.sim_game.specs.declared.Side.TheVariants.{One, Two}
 use Rattle.sim_game.specs.Model.{GameModel}
@@ -51,7 +51,7 @@ sample_line n r =
 
 -- the report is what solve would report of the sample; the turns, the visits and the rows that are asked for it suffice
 pub record IsSampleSolution {S : Type 0} (m : GameModel S) (n : ℕ) (r : Report) : Type 0 where
-  pub solution : IsSolution m (sample_position n) sample_ask r
+  pub solution : IsSolution m (sample_position n) sample_ask false r
   pub ends : (r.outcome ≡ Closed) ⊎ (r.outcome ≡ Settled)
   -- the bounds are at least as tight as pure plans can make them
   pub pure_lower : serial_bound m One m.root ≤ℤ r.lower

@@ -1,6 +1,6 @@
 //! Answers to bytes in memory, made by the caller alone: no thread is started, and no device is used.
 
-ghost use Rattle.std.specs.Prelude.{◌+◌, take, IfErr, IfOk};
+ghost use Rattle.std.specs.Prelude.{◌+◌, false, take, IfErr, IfOk};
 ghost use Rattle.fields.specs.Ranges.{IsAskInRange};
 ghost use Rattle.certificate.specs.Ranges.{IsInRange};
 ghost use Rattle.lazy_workers.specs.Findings.{IsFoundGame};
@@ -26,11 +26,11 @@ use std::alloc::Global;
 /// The answer to the words of a command, as `run` writes it. Of the bytes it takes at most one more than the command reads.
 pub fn answer(alloc: Global, command: Option<Command>, bytes: &[u8]) -> Result<Answer, NoMemory>
     requires { CanRun command }
-    ensures { IfOk result (λ a. IsAnswer command (input_of command bytes.now) a.status a.text) }
+    ensures { IfOk result (λ a. IsAnswer false command (input_of command bytes.now) a.status a.text) }
 {
     let find = |game: AnyGame, ask: Ask| -> Result<Found, NoMemory>
         requires { IsAskInRange ask × IsFineFor game ask.weight }
-        ensures { OfSame game.entry (λ S m. IfOk result (IsFoundGame m ask)) }
+        ensures { OfSame game.entry (λ S m. IfOk result (IsFoundGame m ask false)) }
     { find_any_alone(alloc, game, &ask) };
     match command {
         None => usage(alloc),
@@ -47,26 +47,27 @@ fn answer_all<F: FnOnce(AnyGame, Ask) -> Result<Found, NoMemory>>(
     command: ReadingCommand,
     bytes: &[u8],
 ) -> Result<Answer, NoMemory>
-    requires find { IsFinder (F.pre find) (F.post find) }
+    requires find { IsFinder false (F.pre find) (F.post find) }
     requires few { HasFewGames command }
-    ensures { IfOk result (λ a. IsAnswerTo command (take (limit_of command bytes.now + 1) bytes.now) a.status a.text) }
+    ensures { IfOk result (λ a.
+        IsAnswerTo false command (take (limit_of command bytes.now + 1) bytes.now) a.status a.text) }
 {
     if bytes.len() as u64 > limit_of(command, bytes) {
         too_long(alloc, command)
     } else {
-        answer_to(alloc, find, command, bytes)
+        answer_to(alloc, find, false, command, bytes)
     }
 }
 
 /// The report of a search of the position of the bytes, or the first refusal.
 pub fn search(alloc: Global, bytes: &[u8]) -> Result<Report, InputError>
-    ensures found { IfOk result (IsFoundReport bytes.now) }
+    ensures found { IfOk result (IsFoundReport false bytes.now) }
     ensures in_range { IfOk result IsInRange }
     ensures fault { IfErr result (λ e. Fails e (position_of bytes.now)) }
 {
     let find = |game: AnyGame, ask: Ask| -> Result<Found, NoMemory>
         requires { IsAskInRange ask × IsFineFor game ask.weight }
-        ensures { OfSame game.entry (λ S m. IfOk result (IsFoundGame m ask)) }
+        ensures { OfSame game.entry (λ S m. IfOk result (IsFoundGame m ask false)) }
     { find_any_alone(alloc, game, &ask) };
-    search_with(alloc, find, bytes)
+    search_with(alloc, find, false, bytes)
 }

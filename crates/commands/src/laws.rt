@@ -1,6 +1,6 @@
 //! What the answers of the commands say of each other.
 
-ghost use Rattle.std.specs.Prelude.{◌≡◌, ◌≢◌, ◌⊎◌, ◌≤◌, ℕ, List, length, Ok};
+ghost use Rattle.std.specs.Prelude.{◌≡◌, ◌≢◌, ◌⊎◌, ◌≤◌, ℕ, Bool, List, length, Ok};
 ghost use Rattle.sim_game.specs.Model.{HasAtMost};
 ghost use Rattle.sim_game.specs.declared.Side.{Side};
 ghost use Rattle.plan_book.specs.Serial.{tree_size};
@@ -51,9 +51,10 @@ pub fn play_has_one_answer()
 /// The checker accepts each report that is a solution of its game, and has no other verdict on it.
 #[tactic(auto, using(crate::proofs::LawLemmas::solution_is_right))]
 pub fn solutions_are_accepted<G: Game>(g: &G, r: &Report)
-    ensures accepted { (text : PositionText) (ask : Ask) → IsSolution (G.model g.now) text ask r.now
-        → IsVerdict (G.model g.now) r.now Accepted }
-    ensures only { (text : PositionText) (ask : Ask) → IsSolution (G.model g.now) text ask r.now
+    ensures accepted { (text : PositionText) (ask : Ask) (may_stop : Bool)
+        → IsSolution (G.model g.now) text ask may_stop r.now → IsVerdict (G.model g.now) r.now Accepted }
+    ensures only { (text : PositionText) (ask : Ask) (may_stop : Bool)
+        → IsSolution (G.model g.now) text ask may_stop r.now
         → (v : Verdict) → IsVerdict (G.model g.now) r.now v → v ≡ Accepted }
 {
     one_verdict(g, r);
@@ -63,13 +64,16 @@ pub fn solutions_are_accepted<G: Game>(g: &G, r: &Report)
 /// long where at most 1048576 rows were asked for. Of `solve`'s statuses 2 alone is that of a refusal.
 #[tactic(auto, using(crate::proofs::LawLemmas::reported_accepted, crate::proofs::LawLemmas::accepted_alone))]
 pub fn printed_reports_are_accepted()
-    ensures accepted { (bytes text : List ℕ) (status : ℕ) → IsSolved bytes status text → status ≢ 2
+    ensures accepted { (may_stop : Bool) (bytes text : List ℕ) (status : ℕ)
+        → IsSolved may_stop bytes status text → status ≢ 2
         → length text ≤ most_report text
         → (r : Report) × (text ≡ report_text r) × IsChecked text 0 (accepted_text r) }
-    ensures only { (bytes text answer : List ℕ) (status state : ℕ) → IsSolved bytes status text → status ≢ 2
+    ensures only { (may_stop : Bool) (bytes text answer : List ℕ) (status state : ℕ)
+        → IsSolved may_stop bytes status text → status ≢ 2
         → length text ≤ most_report text → IsChecked text state answer → state ≡ 0 }
-    ensures short { (bytes text : List ℕ) (status : ℕ) (task : TaskText) → position_of bytes ≡ Ok task
-        → task.ask.rows ≤ 1048576 → IsSolved bytes status text → status ≢ 2 → length text ≤ most_report text }
+    ensures short { (may_stop : Bool) (bytes text : List ℕ) (status : ℕ) (task : TaskText)
+        → position_of bytes ≡ Ok task → task.ask.rows ≤ 1048576 → IsSolved may_stop bytes status text → status ≢ 2
+        → length text ≤ most_report text }
 {}
 
 /// The game of each sample has at most 3682 states, and 32826 nodes in its tree.

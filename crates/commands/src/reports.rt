@@ -49,6 +49,7 @@ pub(crate) fn outcome(text: &mut Text, outcome: Outcome) -> Result<(), NoMemory>
         Outcome::Settled => text.word(b"settled"),
         Outcome::Spent => text.word(b"spent"),
         Outcome::Full => text.word(b"full"),
+        Outcome::Stopped => text.word(b"stopped"),
     }
 }
 

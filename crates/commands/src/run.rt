@@ -1,6 +1,6 @@
 //! A run of the program.
 
-ghost use Rattle.std.specs.Prelude.{◌≡◌, ◌≢◌, ◌≤◌, ◌+◌, ℕ, List, length, map, string_bytes, IfOk, Err};
+ghost use Rattle.std.specs.Prelude.{◌≡◌, ◌≢◌, ◌≤◌, ◌+◌, ℕ, Bool, false, List, length, map, string_bytes, IfOk, Err};
 ghost use Rattle.std.specs.Io.KnownBytes.{Consumes, IsAtEnd};
 ghost use Rattle.devices.specs.Causes.{Rose, IsCalm};
 ghost use Rattle.devices.specs.Taken.{TakesPast, TakesWithin};
@@ -54,7 +54,8 @@ pub(crate) fn written(status: u8, text: Text) -> Answer
 const USAGE: &[u8] =
     b"usage: dosolve solve, check, bounds, sample N, exploit SIDE or play COUNT SEED\n";
 
-/// Reads what the command needs, makes the whole answer, and writes it. The result is the status of the program.
+/// Reads what the command needs, makes the whole answer, and writes it. The result is the status of the program. The gate
+/// can stop a search of `solve` where `may_stop` says so; then the outcome can be `stopped`.
 pub fn run<R: Threads + Sync, S: Source, K: Sink, T: Gate + Sync>(
     rt: &R,
     alloc: Global,
@@ -62,19 +63,24 @@ pub fn run<R: Threads + Sync, S: Source, K: Sink, T: Gate + Sync>(
     source: &mut S,
     sink: &mut K,
     gate: &T,
+    may_stop: bool,
 ) -> u8
-    ensures { IsRun (command_of (map string_bytes words.now))
+    ensures { IsRun may_stop (command_of (map string_bytes words.now))
         (S.state source.old) (S.state source.new) (K.state sink.old) (K.state sink.new) result }
 {
     let find = |game: AnyGame, ask: Ask| -> Result<Found, NoMemory>
         requires { IsAskInRange ask × IsFineFor game ask.weight }
-        ensures { OfSame game.entry (λ S m. IfOk result (IsFoundGame m ask)) }
-    { find_any(rt, alloc, game, &ask, gate) };
+        ensures { OfSame game.entry (λ S m. IfOk result (IsFoundGame m ask may_stop)) }
+    { find_any(rt, alloc, game, &ask, gate, may_stop) };
+    let find_whole = |game: AnyGame, ask: Ask| -> Result<Found, NoMemory>
+        requires { IsAskInRange ask × IsFineFor game ask.weight }
+        ensures { OfSame game.entry (λ S m. IfOk result (IsFoundGame m ask false)) }
+    { find_any(rt, alloc, game, &ask, gate, false) };
     match command_of(words) {
         None => respond(sink, usage(alloc)),
-        Some(Command::Sample(number)) => respond(sink, sampled(alloc, find, number)),
+        Some(Command::Sample(number)) => respond(sink, sampled(alloc, find_whole, number)),
         Some(Command::Reading(command)) => match input(alloc, source, command) {
-            Ok(bytes) => respond(sink, answer_to(alloc, find, command, &bytes)),
+            Ok(bytes) => respond(sink, answer_to(alloc, find, may_stop, command, &bytes)),
             Err(ReadError::TooLong) => respond(sink, too_long(alloc, command)),
             Err(ReadError::Failed) => 6,
             Err(ReadError::NoMemory) => 8,
@@ -127,16 +133,17 @@ fn input<S: Source>(
 pub(crate) fn answer_to<F: FnOnce(AnyGame, Ask) -> Result<Found, NoMemory>>(
     alloc: Global,
     find: F,
+    may_stop: bool,
     command: ReadingCommand,
     bytes: &[u8],
 ) -> Result<Answer, NoMemory>
-    requires find { IsFinder (F.pre find) (F.post find) }
+    requires find { IsFinder may_stop (F.pre find) (F.post find) }
     requires short { length bytes.now ≤ limit_of command bytes.now }
     requires few { HasFewGames command }
-    ensures { IfOk result (λ a. IsAnswerTo command bytes.now a.status a.text) }
+    ensures { IfOk result (λ a. IsAnswerTo may_stop command bytes.now a.status a.text) }
 {
     match command {
-        ReadingCommand::Solve => solved(alloc, find, bytes),
+        ReadingCommand::Solve => solved(alloc, find, may_stop, bytes),
         ReadingCommand::Check => checked(alloc, bytes),
         ReadingCommand::Bounds => bounded(alloc, bytes),
         ReadingCommand::Exploit(side) => exploited(alloc, side, bytes),
@@ -146,8 +153,8 @@ pub(crate) fn answer_to<F: FnOnce(AnyGame, Ask) -> Result<Found, NoMemory>>(
 
 /// The answer to more bytes than the command reads.
 pub(crate) fn too_long(alloc: Global, command: ReadingCommand) -> Result<Answer, NoMemory>
-    ensures { IfOk result (λ a. (bytes : List ℕ) → length bytes ≡ limit_of command bytes + 1
-        → IsAnswerTo command bytes a.status a.text) }
+    ensures { IfOk result (λ a. (may_stop : Bool) (bytes : List ℕ) → length bytes ≡ limit_of command bytes + 1
+        → IsAnswerTo may_stop command bytes a.status a.text) }
 {
     match command {
         ReadingCommand::Solve => refused(alloc, InputError::TooLong),

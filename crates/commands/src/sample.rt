@@ -1,6 +1,6 @@
 //! The sample of a number: a position of Goofspiel, and the line that tells how it is solved.
 
-ghost use Rattle.std.specs.Prelude.{◌≡◌, ◌∷◌, pos, length, map, codes, decimal, IfOk, OnOk};
+ghost use Rattle.std.specs.Prelude.{◌≡◌, ◌∷◌, false, pos, length, map, codes, decimal, IfOk, OnOk};
 ghost use Rattle.goofspiel.specs.Position.{IsSettingOf};
 ghost use Rattle.certificate.specs.Ranges.{IsInRange};
 ghost use Rattle.certificate.specs.Outcomes.{gap_of};
@@ -36,14 +36,14 @@ const ASK: Ask = Ask {
     ..LEAST
 };
 
-/// The answer to the number of a sample.
+/// The answer to the number of a sample, whose search nothing stops.
 #[tactic(auto, using(crate::proofs::SampleLemmas::sample_fine, crate::proofs::SampleLemmas::asks))]
 pub(crate) fn sampled<F: FnOnce(AnyGame, Ask) -> Result<Found, NoMemory>>(
     alloc: Global,
     find: F,
     number: u32,
 ) -> Result<Answer, NoMemory>
-    requires { IsFinder (F.pre find) (F.post find) }
+    requires { IsFinder false (F.pre find) (F.post find) }
     ensures { IfOk result (λ a. IsSampled number a.status a.text) }
 {
     let found = find(AnyGame::Goofspiel(sample_game(number)), ASK)?;

@@ -22,16 +22,17 @@ use sim_game::NoMemory;
 use solution::report_of;
 use std::alloc::Global;
 
-/// The report of a search of what a task asks.
+/// The report of a search of what a task asks, which may be stopped or not.
 fn search_task<F: FnOnce(AnyGame, Ask) -> Result<Found, NoMemory>>(
     alloc: Global,
     find: F,
+    may_stop: bool,
     task: Task,
 ) -> Result<Report, NoMemory>
-    requires find { IsFinder (F.pre find) (F.post find) }
+    requires find { IsFinder may_stop (F.pre find) (F.post find) }
     requires text { IsPositionInRange task.text }
     requires ask { IsAskInRange task.ask }
-    ensures found { IfOk result (λ r. OfGame task.text (λ S m. IsSolution m task.text task.ask r)) }
+    ensures found { IfOk result (λ r. OfGame task.text (λ S m. IsSolution m task.text task.ask may_stop r)) }
     ensures in_range { IfOk result IsInRange }
 {
     let found = find(task.game(), task.ask)?;
@@ -43,15 +44,16 @@ fn search_task<F: FnOnce(AnyGame, Ask) -> Result<Found, NoMemory>>(
 pub(crate) fn search_with<F: FnOnce(AnyGame, Ask) -> Result<Found, NoMemory>>(
     alloc: Global,
     find: F,
+    may_stop: bool,
     bytes: &[u8],
 ) -> Result<Report, InputError>
-    requires find { IsFinder (F.pre find) (F.post find) }
-    ensures found { IfOk result (IsFoundReport bytes.now) }
+    requires find { IsFinder may_stop (F.pre find) (F.post find) }
+    ensures found { IfOk result (IsFoundReport may_stop bytes.now) }
     ensures in_range { IfOk result IsInRange }
     ensures fault { IfErr result (λ e. Fails e (position_of bytes.now)) }
 {
     match position(alloc, bytes) {
-        Ok(task) => match search_task(alloc, find, task) {
+        Ok(task) => match search_task(alloc, find, may_stop, task) {
             Ok(report) => Ok(report),
             Err(_) => Err(InputError::NoMemory),
         },
@@ -63,12 +65,13 @@ pub(crate) fn search_with<F: FnOnce(AnyGame, Ask) -> Result<Found, NoMemory>>(
 pub(crate) fn solved<F: FnOnce(AnyGame, Ask) -> Result<Found, NoMemory>>(
     alloc: Global,
     find: F,
+    may_stop: bool,
     bytes: &[u8],
 ) -> Result<Answer, NoMemory>
-    requires { IsFinder (F.pre find) (F.post find) }
-    ensures { IfOk result (λ a. IsSolved bytes.now a.status a.text) }
+    requires { IsFinder may_stop (F.pre find) (F.post find) }
+    ensures { IfOk result (λ a. IsSolved may_stop bytes.now a.status a.text) }
 {
-    match search_with(alloc, find, bytes) {
+    match search_with(alloc, find, may_stop, bytes) {
         Ok(report) => reported(alloc, &report),
         Err(error) => refused(alloc, error),
     }
@@ -93,7 +96,7 @@ pub fn status_of(outcome: Outcome) -> u8
     match outcome {
         Outcome::Closed => 0,
         Outcome::Settled => 3,
-        Outcome::Spent => 4,
+        Outcome::Spent | Outcome::Stopped => 4,
         Outcome::Full => 5,
     }
 }

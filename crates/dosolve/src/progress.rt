@@ -3,7 +3,6 @@
 ghost use Rattle.std.specs.Prelude.{◌≡◌, ◌+◌, ◌/◌, ◌≤◌, ◌↔◌, ◌-ℤ◌, IsTrue, Some, ◌++◌, codes, decimal, unsigned_abs};
 ghost use Rattle.std.specs.Fmt.{signed_decimal};
 
-use oracle_search::Gate;
 use std::env::{Env, FillError};
 use std::sync::atomic::{AtomicI64, AtomicU64, Ordering};
 use std::time::{Clock, Instant};
@@ -11,6 +10,8 @@ use std::{array, fmt};
 
 /// The most workers of a search.
 const WORKERS: usize = 16;
+/// How many states an induction does between two looks at the time.
+const BETWEEN_LOOKS: u64 = 64;
 
 /// The last bounds that a worker has told of, in millionths of a payoff. None are known while the upper is the lesser.
 #[derive(Drop)]
@@ -28,8 +29,20 @@ impl LastBounds {
     }
 }
 
+/// How many states an induction has listed and valued, and how many rows of plans it has made; each may be one more, which
+/// is under way.
+#[derive(Drop)]
+struct Counts {
+    listed: AtomicU64,
+    valued: AtomicU64,
+    planned: AtomicU64,
+    /// When they were told last, in milliseconds since the start.
+    told: AtomicU64,
+}
+
 /// Tells each worker's spent turns and the seconds since it was made, with the bounds at the root once these are known,
-/// at most once a second and a worker, and only where the environment has `DOSOLVE_PROGRESS`.
+/// and how many states an induction has done, each at most once a second, and only where the environment has
+/// `DOSOLVE_PROGRESS`.
 #[derive(Drop)]
 pub(crate) struct Progress<'a, R> {
     rt: &'a R,
@@ -38,6 +51,7 @@ pub(crate) struct Progress<'a, R> {
     /// When each worker has told last, in milliseconds since the start; 0 where it has not.
     told: [AtomicU64; WORKERS],
     bounds: [LastBounds; WORKERS],
+    induction: Counts,
 }
 
 impl<'a, R: Clock + Env + Eprint> Progress<'a, R> {
@@ -51,6 +65,12 @@ impl<'a, R: Clock + Env + Eprint> Progress<'a, R> {
             },
             told: array::from_fn(|_| AtomicU64::new(0)),
             bounds: array::from_fn(|_| LastBounds::unknown()),
+            induction: Counts {
+                listed: AtomicU64::new(0),
+                valued: AtomicU64::new(0),
+                planned: AtomicU64::new(0),
+                told: AtomicU64::new(0),
+            },
         }
     }
 
@@ -70,6 +90,41 @@ impl<'a, R: Clock + Env + Eprint> Progress<'a, R> {
         }
     }
 
+    // As `tell`.
+    #[inline(never)]
+    fn tell_counts(&self, start: Instant) {
+        let Ok(elapsed) = start.elapsed(self.rt) else {
+            return;
+        };
+        let now = u64::try_from(elapsed.as_millis()).unwrap_or(u64::MAX);
+        let counts = &self.induction;
+        let last = counts.told.load(Ordering::SeqCst);
+        // Of threads that come at once one tells.
+        let is_mine = is_due(last, now)
+            && counts
+                .told
+                .compare_exchange(last, now, Ordering::SeqCst, Ordering::SeqCst)
+                .is_ok();
+        if is_mine {
+            let _ = self.rt.eprintln(InductionLine {
+                listed: counts.listed.load(Ordering::SeqCst),
+                valued: counts.valued.load(Ordering::SeqCst),
+                planned: counts.planned.load(Ordering::SeqCst),
+                seconds: seconds_of(now),
+            });
+        }
+    }
+
+    /// One more, and now and then a look at the time: that costs as much as the work at some states.
+    fn count(&self, counter: &AtomicU64) {
+        let Some(start) = self.start else {
+            return;
+        };
+        if counter.fetch_add(1, Ordering::SeqCst) % BETWEEN_LOOKS == 0 {
+            self.tell_counts(start);
+        }
+    }
+
     /// A search goes on whether its progress can be written or not.
     fn write(&self, worker: u32, line: Line) {
         let Some(bounds) = self.bounds.get(worker as usize) else {
@@ -85,18 +140,30 @@ impl<'a, R: Clock + Env + Eprint> Progress<'a, R> {
     }
 }
 
-impl<R: Clock + Env + Eprint> Gate for Progress<'_, R> {
-    fn at_turn(&self, worker: u32, turn: u64) {
+impl<R: Clock + Env + Eprint> Progress<'_, R> {
+    pub(crate) fn at_turn(&self, worker: u32, turn: u64) {
         if let Some(start) = self.start {
             self.tell(start, worker, turn);
         }
     }
 
-    fn at_bounds(&self, worker: u32, lower: i64, upper: i64) {
+    pub(crate) fn at_bounds(&self, worker: u32, lower: i64, upper: i64) {
         if let Some(bounds) = self.bounds.get(worker as usize) {
             bounds.lower.store(lower, Ordering::SeqCst);
             bounds.upper.store(upper, Ordering::SeqCst);
         }
+    }
+
+    pub(crate) fn at_listed(&self) {
+        self.count(&self.induction.listed);
+    }
+
+    pub(crate) fn at_valued(&self) {
+        self.count(&self.induction.valued);
+    }
+
+    pub(crate) fn at_planned(&self) {
+        self.count(&self.induction.planned);
     }
 }
 
@@ -116,9 +183,16 @@ impl Line {
         Line {
             worker,
             turns,
-            seconds: now / 1000,
+            seconds: seconds_of(now),
         }
     }
+}
+
+/// The whole seconds in so many milliseconds.
+fn seconds_of(milliseconds: u64) -> u64
+    ensures { result ≡ milliseconds / 1000 }
+{
+    milliseconds / 1000
 }
 
 impl fmt::Display for Line {
@@ -175,6 +249,34 @@ impl fmt::Display for BoundedLine {
             gap,
         } = self;
         write!(f, "{line} lower {lower} upper {upper} gap {gap}")
+    }
+}
+
+/// What is told of an induction: the states that it has listed and valued, the rows of plans that it has made, and the
+/// seconds since the start.
+#[derive(Drop)]
+struct InductionLine {
+    listed: u64,
+    valued: u64,
+    planned: u64,
+    seconds: u64,
+}
+
+impl fmt::Display for InductionLine {
+    ghost output = { λ l. Some (codes "induction listed " ++ decimal l.listed ++ codes " valued " ++ decimal l.valued
+        ++ codes " planned " ++ decimal l.planned ++ codes " seconds " ++ decimal l.seconds) };
+
+    fn fmt<W: fmt::Write>(&self, f: &mut fmt::Formatter<W>) -> fmt::Result {
+        let InductionLine {
+            listed,
+            valued,
+            planned,
+            seconds,
+        } = self;
+        write!(
+            f,
+            "induction listed {listed} valued {valued} planned {planned} seconds {seconds}"
+        )
     }
 }
 

@@ -1,5 +1,5 @@
 -- What a call answers in its caller's memory.
-use Rattle.std.specs.Prelude.{◌≡◌, ℕ, List, length, take, drop, ◌++◌, Bool, ◌&&◌, nat_eq, nat_lt, nat_le, if◌then◌else◌, Option, None, Some}
+use Rattle.std.specs.Prelude.{◌≡◌, ℕ, List, length, take, drop, ◌++◌, Bool, false, ◌&&◌, nat_eq, nat_lt, nat_le, if◌then◌else◌, Option, None, Some}
 use Rattle.sim_game.specs.declared.Side.TheVariants.{One, Two}
 use Rattle.commands.specs.declared.words.Command.{Command}
 use Rattle.commands.specs.declared.words.Command.TheVariants.{Reading, Sample}
@@ -31,7 +31,7 @@ put_over items old = take (length old) items ++ drop (length items) old
 -- a status, the output before and after, and the number for the text's length before and after
 pub data IsToldInMemory (command : Option Command) (bytes old new : List ℕ) (size size' : ℕ) : ℕ → Type 0 where
   -- what a run of the program prints, as far as there is room
-  answered : (status : ℕ) (text : List ℕ) → IsAnswer command (input_of command bytes) status text
+  answered : (status : ℕ) (text : List ℕ) → IsAnswer false command (input_of command bytes) status text
       → new ≡ put_over text old → size' ≡ length text → IsToldInMemory command bytes old new size size' status
   -- want of memory: nothing is written
   no_memory : new ≡ old → size' ≡ size → IsToldInMemory command bytes old new size size' 8

@@ -1,5 +1,5 @@
 -- What calls answer in numbers, in their caller's memory.
-use Rattle.std.specs.Prelude.{◌≡◌, ℕ, ◌^◌, ℤ, pos, ◌+ℤ◌, ◌*ℤ◌, nat_eq, if◌then◌else◌, Option, None, Some, Ok, Err, List, length, map, flat_map}
+use Rattle.std.specs.Prelude.{◌≡◌, ℕ, ◌^◌, ℤ, pos, ◌+ℤ◌, ◌*ℤ◌, false, nat_eq, if◌then◌else◌, Option, None, Some, Ok, Err, List, length, map, flat_map}
 use Rattle.sim_game.specs.declared.Side.{Side}
 use Rattle.sim_game.specs.declared.Side.TheVariants.{One, Two}
 use Rattle.plan_book.specs.declared.SheetRow.{SheetRow}
@@ -66,7 +66,7 @@ abbrev pub bounds_told : Report → RootBounds
 bounds_told r = record { lower = r.lower; upper = r.upper; resolution = r.resolution }
 
 pub data IsRootTold (bytes : List ℕ) (root root' : RootBounds) : ℕ → Type 0 where
-  found : (r : Report) → IsFoundReport bytes r → root' ≡ bounds_told r → IsRootTold bytes root root' (status_of r.outcome)
+  found : (r : Report) → IsFoundReport false bytes r → root' ≡ bounds_told r → IsRootTold bytes root root' (status_of r.outcome)
   refused : (e : InputError) → position_of bytes ≡ Err e → root' ≡ root → IsRootTold bytes root root' 2
   no_memory : root' ≡ root → IsRootTold bytes root root' 8
 

@@ -1,8 +1,7 @@
 -- BothPlans of lawful sheets.
-use Rattle.std.proofs.Common.{◌≡◌, ◌⊎◌, ⊎_elim, ℕ, ◌<◌, ◌≤◌, ℤ, pos, Some, length, All, sym, subst, ◌∙◌, arith}
+use Rattle.std.proofs.Common.{◌≡◌, ℕ, ◌≤◌, ℤ, Some, length, sym, subst, ◌∙◌, arith}
 use Rattle.std.specs.Int.RustNames.{unsigned_abs}
 use Rattle.sim_game.specs.declared.Side.{Side}
-use Rattle.sim_game.specs.declared.Side.TheVariants.{One, Two}
 use Rattle.sim_game.specs.Model.{GameModel, IsGame, Reachable}
 use Rattle.sim_game.specs.Sides.{IsNoTighter}
 use Rattle.sim_game.proofs.ReachLemmas.{reachable_root}

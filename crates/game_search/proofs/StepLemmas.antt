@@ -1,23 +1,23 @@
 -- What an induction comes to, and what a search by double oracle makes of it.
-use Rattle.std.proofs.Common.{◌≡◌, ◌⊎◌, ⊎_elim, ℕ, ◌+◌, ◌*◌, ◌<◌, ◌≤◌, ℤ, pos, ◌-ℤ◌, ◌≤ℤ◌, ◌<ℤ◌, List, length, All, Contains, sym, subst, arith}
+use Rattle.std.proofs.Common.{◌≡◌, ℕ, ◌+◌, ◌*◌, ◌<◌, ◌≤◌, ℤ, ◌-ℤ◌, ◌≤ℤ◌, ◌<ℤ◌, Bool, false, List, All, Contains, arith}
 use Rattle.std.proofs.lemmas.Int.{ints}
 use Rattle.std.proofs.lemmas.List.Elements.{All-contains, All-weaker}
 use Rattle.sim_game.specs.declared.Side.{Side}
 use Rattle.sim_game.specs.declared.Side.TheVariants.{One, Two}
-use Rattle.sim_game.specs.Model.{GameModel, IsGame, HasAtMost}
+use Rattle.sim_game.specs.Model.{GameModel}
 use Rattle.sim_game.specs.Sides.{IsNoTighter}
 use Rattle.plan_book.specs.declared.Sheet.{Sheet}
 use Rattle.plan_book.specs.Serial.{serial_bound}
 use Rattle.matrix_game.specs.Budget.{Budget}
 use Rattle.fields.specs.declared.ask.Ask.{Ask}
-use Rattle.fields.specs.declared.ask.SearchMethod.{SearchMethod}
 use Rattle.fields.specs.declared.ask.SearchMethod.TheVariants.{Induction}
 use Rattle.induction.specs.Undecided.{HasUndecided}
 use Rattle.induction.specs.Spent.{HasSpentEach}
 use Rattle.lazy_workers.specs.declared.summary.Found.{Found}
-use Rattle.lazy_workers.specs.Findings.{found_gap, IsFoundPlan, IsIdle, AreSpent, IsGapWide, IsFoundAfter, IsFoundGame, IsFoundFor}
-use Rattle.lazy_workers.specs.Keeping.{HasLimit, oracle_turns, AreBudgets}
-use Rattle.lazy_workers.specs.Searched.{HasRoom, HasVisits, IsPureClose, turns_each, TooFewAfter, TooFewTurns}
+use Rattle.lazy_workers.specs.Findings.{found_gap, IsFoundPlan, IsIdle, IsGapWide, IsFoundGame, IsFoundFor}
+use Rattle.lazy_workers.specs.declared.budgets.Begun.{Begun}
+use Rattle.lazy_workers.specs.Keeping.{HasLimit, oracle_turns, AreBudgets, begun_whole}
+use Rattle.lazy_workers.specs.Searched.{HasRoom, HasVisits, IsPureClose, TooFewAfter, TooFewTurns}
 use Rattle.game_search.specs.declared.plan.Plan.{Plan}
 use Rattle.game_search.specs.declared.plan.BothPlans.{BothPlans}
 use Rattle.game_search.specs.Steps.{at_once, found_with, IsPureFound, AreFoundPlans, IsUnfinished}
@@ -27,7 +27,7 @@ module _ {S : Type 0} (m : GameModel S) (ask : Ask) where
   -- ---- what is found without a turn
   module _ (x : Found) (pure : IsPureFound m ask x) where
     idle : IsIdle m (at_once ask) x
-    idle = All-weaker (HasLimit (at_once ask)) (λ t. t.spent ≡ 0) (λ t h. let few = h.spent in omega arith) x.turns pure.game.within
+    idle = All-weaker (HasLimit (at_once ask) false) (λ t. t.spent ≡ 0) (λ t h. let few = h.spent in let none = h.no_more in omega arith) x.turns pure.game.within
 
     pure_plan : (side : Side) (sheet : Sheet) (bound : ℤ) → IsFoundPlan m (at_once ask) (IsIdle m (at_once ask) x) side sheet bound
         → IsFoundPlan m ask (Unit {0}) side sheet bound
@@ -56,8 +56,8 @@ module _ {S : Type 0} (m : GameModel S) (ask : Ask) where
         let high : x.upper ≤ℤ serial_bound m Two m.root = pure.game.two.pure has many in
         absurd (omega (arith, ints, near, far))
 
-    pub unspent_found : (turns : List Budget) → AreBudgets ask 0 turns → found_gap x ≤ℤ ask.gap → IsFoundGame m ask (record x { turns = turns })
-    unspent_found turns budgets near = record {
+    pub unspent_found : (may_stop : Bool) (turns : List Budget) → AreBudgets ask (begun_whole may_stop) turns → found_gap x ≤ℤ ask.gap → IsFoundGame m ask may_stop (record x { turns = turns })
+    unspent_found may_stop turns budgets near = record {
       one = plan_for m ask (Unit {0}) (All (λ t. t.spent ≡ 0) turns) One x.one x.lower (λ _. tt) pure_one;
       two = plan_for m ask (Unit {0}) (All (λ t. t.spent ≡ 0) turns) Two x.two x.upper (λ _. tt) pure_two;
       resolution = pure.game.resolution;
@@ -70,9 +70,9 @@ module _ {S : Type 0} (m : GameModel S) (ask : Ask) where
     }
 
     -- ---- plans that are close enough
-    pub proposed_found : (plans : BothPlans) (spent before : ℕ) (turns : List Budget) (first : Budget) → ask.gap <ℤ found_gap x → AreFoundPlans m ask (spent ≡ 0) plans
+    pub proposed_found : (plans : BothPlans) (spent : ℕ) (before : Begun) (turns : List Budget) (first : Budget) → ask.gap <ℤ found_gap x → AreFoundPlans m ask (spent ≡ 0) plans
         → AreBudgets ask before turns → Contains turns first → first.spent ≡ spent → (IsGapWide ask (found_with plans x.resolution turns) → ⊥)
-        → IsFoundGame m ask (found_with plans x.resolution turns)
+        → IsFoundGame m ask before.may_stop (found_with plans x.resolution turns)
     proposed_found plans spent before turns first far are budgets has is close = record {
       one = plan_for m ask (spent ≡ 0) (All (λ t. t.spent ≡ 0) turns) One plans.one.sheet plans.one.bound none are.one;
       two = plan_for m ask (spent ≡ 0) (All (λ t. t.spent ≡ 0) turns) Two plans.two.sheet plans.two.bound none are.two;
@@ -112,11 +112,11 @@ module _ {S : Type 0} (m : GameModel S) (ask : Ask) where
       let less = few n has rows in
       rw search (few_after (oracle_turns m ask.stages) most count n (m.rank m.root) ask.turns inside each less)
 
-  pub bettered_found : (plans : BothPlans) (most : ℕ) (x : Found) (one two : Plan) → ask.search ≡ Induction → IsUnfinished m ask plans most → IsFoundFor m ask most x
+  pub bettered_found : (plans : BothPlans) (begun : Begun) (x : Found) (one two : Plan) → ask.search ≡ Induction → IsUnfinished m ask plans begun.spent → IsFoundFor m ask begun x
       → IsFoundPlan m ask (IsIdle m ask x) One one.sheet one.bound → IsFoundPlan m ask (IsIdle m ask x) Two two.sheet two.bound
       → IsNoTighter One x.lower one.bound → IsNoTighter Two x.upper two.bound
-      → IsFoundGame m ask (record x { lower = one.bound; upper = two.bound; one = one.sheet; two = two.sheet })
-  bettered_found plans most x one two search left found is_one is_two low high = record {
+      → IsFoundGame m ask begun.may_stop (record x { lower = one.bound; upper = two.bound; one = one.sheet; two = two.sheet })
+  bettered_found plans begun x one two search left found is_one is_two low high = record {
     one = is_one;
     two = is_two;
     resolution = found.game.resolution;
@@ -127,7 +127,7 @@ module _ {S : Type 0} (m : GameModel S) (ask : Ask) where
     full = found.game.full;
     spent = λ free wide.
         let rest = found.game.spent free (wider wide.asked wide.resolution) in
-        record { all = rest.all; too_few = few_turns most left.count left.undecided left.few search rest.too_few };
+        record { all = rest.all; too_few = λ all. few_turns begun.spent left.count left.undecided left.few search (rest.too_few all) };
   } where
     wider : ask.gap <ℤ (two.bound -ℤ one.bound) → x.resolution <ℤ (two.bound -ℤ one.bound) → IsGapWide ask x
     wider asked above = record { asked = omega (arith, ints, low, high, asked); resolution = omega (arith, ints, low, high, above) }

@@ -27,18 +27,18 @@ pub(crate) fn induce<
     G: Game,
     T: Gate,
     F: FnOnce(Turns) -> (Result<Option<Induced>, NoMemory>, Turns),
->(alloc: Global, g: G, ask: &Ask, gate: &T, solve: F) -> Result<Step, NoMemory>
+>(alloc: Global, g: G, ask: &Ask, gate: &T, may_stop: bool, solve: F) -> Result<Step, NoMemory>
     requires ask { IsAskInRange ask.now }
     requires fine { IsFineWeight (G.model g) ask.now.weight }
     requires search { ask.now.search ≡ Induction }
-    requires solve { IsSolver (G.model g) ask.now (F.pre solve) (F.post solve) }
-    ensures { IfOk result (IsStepOf (G.model g) ask.now) }
+    requires solve { IsSolver (G.model g) ask.now may_stop (F.pre solve) (F.post solve) }
+    ensures { IfOk result (IsStepOf (G.model g) ask.now may_stop) }
 {
     let pure = pure_plans(alloc, g, ask, gate)?;
     if is_near(pure.lower, pure.upper, ask.gap) {
-        Ok(Step::Found(unspent(alloc, g, ask, pure)?))
+        Ok(Step::Found(unspent(alloc, g, ask, may_stop, pure)?))
     } else {
-        let (found, turns) = solve(Turns::new(ask.turns));
+        let (found, turns) = solve(Turns::with_stop(ask.turns, may_stop));
         proposed(alloc, g, ask, pure, found, turns)
     }
 }
@@ -52,18 +52,24 @@ fn pure_plans<G: Game, T: Gate>(alloc: Global, g: G, ask: &Ask, gate: &T) -> Res
     let mut first = *ask;
     first.turns = 0;
     first.workers = 1;
-    let budgets = Budgets::whole(alloc, &first)?;
+    let budgets = Budgets::whole(alloc, &first, false)?;
     find_alone(alloc, g, &first, budgets, gate)
 }
 
 /// What was found without a turn, where that is close enough.
-fn unspent<G: Game>(alloc: Global, g: G, ask: &Ask, pure: Found) -> Result<Found, NoMemory>
+fn unspent<G: Game>(
+    alloc: Global,
+    g: G,
+    ask: &Ask,
+    may_stop: bool,
+    pure: Found,
+) -> Result<Found, NoMemory>
     requires ask { IsAskInRange ask.now }
     requires pure { IsPureFound (G.model g) ask.now pure }
     requires near { found_gap pure ≤ℤ ask.now.gap }
-    ensures { IfOk result (IsFoundGame (G.model g) ask.now) }
+    ensures { IfOk result (IsFoundGame (G.model g) ask.now may_stop) }
 {
-    let budgets = Budgets::whole(alloc, ask)?;
+    let budgets = Budgets::whole(alloc, ask, may_stop)?;
     let mut found = pure;
     found.turns = Seq::from_vec(budgets.turns);
     Ok(found)
@@ -83,8 +89,8 @@ fn proposed<G: Game>(
     requires search { ask.now.search ≡ Induction }
     requires pure { IsPureFound (G.model g) ask.now pure }
     requires far { ask.now.gap <ℤ found_gap pure }
-    requires solved { IsSolvedFor (G.model g) ask.now (found, turns) }
-    ensures { IfOk result (IsStepOf (G.model g) ask.now) }
+    requires solved { IsSolvedFor (G.model g) ask.now turns.may_stop (found, turns) }
+    ensures { IfOk result (IsStepOf (G.model g) ask.now turns.may_stop) }
 {
     let Found {
         lower,

@@ -1,13 +1,15 @@
 -- The sheets of both sides: what was spent for each, and why one gave up.
-use Rattle.std.proofs.Common.{ℕ, ◌+◌, Result, Ok, Err, length, refl, ◌∙◌, arith}
+use Rattle.std.proofs.Common.{◌≡◌, ⊎_elim, ℕ, ◌+◌, ◌/◌, ◌<◌, ◌≤◌, Bool, true, false, Result, Ok, Err, length, refl, ◌∙◌, arith}
+use Rattle.std.proofs.lemmas.Bool.{cases_lt}
 use Rattle.sim_game.specs.declared.Side.{Side}
 use Rattle.sim_game.specs.declared.Side.TheVariants.{One, Two}
 use Rattle.sim_game.specs.Model.{GameModel}
 use Rattle.plan_book.specs.declared.Sheet.{Sheet}
-use Rattle.matrix_game.specs.Budget.{Budget}
+use Rattle.matrix_game.specs.Budget.{Budget, IsSameBudget, left_of, after_stop}
+use Rattle.matrix_game.proofs.BudgetLemmas.{budget_after, stop_left, stop_same}
 use Rattle.induction.specs.declared.gave_up.GaveUp.{GaveUp}
 use Rattle.induction.specs.declared.gave_up.GaveUp.TheVariants.{TooManyStates, Spent, NoMemory}
-use Rattle.induction.specs.Induced.{of_side, AreBothSheets, HasPlanned, IsOwnSheet}
+use Rattle.induction.specs.Induced.{of_side, own_turns, AreBothSheets, HasPlanned, IsOwnSheet}
 use Rattle.induction.specs.Spent.{HasSpent, IsReason, IsStopped}
 use Rattle.induction.specs.Undecided.{HasUndecided}
 use Rattle.induction.proofs.SpentLemmas.{nothing, reason_up}
@@ -21,7 +23,7 @@ pub record HasCounted {S : Type 0} (m : GameModel S) (old new : Budget) : Type 0
 
 spent_both : (i j : ℕ) (a b c : Budget) → HasSpent 0 i a b → HasSpent 0 j b c → HasSpent 0 (i + j) a c
 spent_both i j a b c p q = record {
-  same = q.same ∙ p.same;
+  same = budget_after p.same q.same;
   more = let x = p.more in let y = q.more in omega (arith, x, y);
   few = let x = p.few in let y = q.few in omega (arith, x, y);
 }
@@ -78,40 +80,79 @@ module _ {S : Type 0} (m : GameModel S) (total rows : ℕ) where
   }
 
   -- ---- both sides at once, with one turn more for each than there may be rows
-  abbrev pub own : ℕ → Budget
-  own spent = record { limit = rows + 1; spent = spent }
+  abbrev pub own : Budget → Budget
+  own b = own_turns rows b.may_stop
 
   abbrev pub after : Budget → ℕ → Budget
-  after b spent = record { limit = b.limit; spent = b.spent + spent }
+  after b spent = record b { spent = b.spent + spent }
 
-  pub planned_at_once : (b : Budget) (i j : ℕ) → HasCounted m (own 0) (own i) → HasCounted m (own 0) (own j) → HasPlanned m b (after b (i + j))
-  planned_at_once b i j p q = record {
+  still : (b : Budget) (n : ℕ) → IsSameBudget b (after b n)
+  still b n = record { may_stop = refl; no_more = omega arith; whole = λ _. refl }
+
+  pub planned_at_once : (b x y : Budget) → HasCounted m (own b) x → HasCounted m (own b) y → HasPlanned m b (after b (x.spent + y.spent))
+  planned_at_once b x y p q = record {
     one = p.count;
     two = q.count;
     one_undecided = p.undecided;
     two_undecided = q.undecided;
-    spent = record { same = refl; more = omega arith; few = let x = p.spent.few in let y = q.spent.few in omega (arith, x, y) };
+    spent = record { same = still b (x.spent + y.spent); more = omega arith; few = let i = p.spent.few in let j = q.spent.few in omega (arith, i, j) };
   }
 
-  too_many : (i : ℕ) (e : GaveUp) → IsStopped m ⊥ 0 (own 0) (own i) e → (b : Budget) → IsReason (HasUndecided m (rows + 1)) b (of_side e)
-  too_many i TooManyStates end b = absurd end.why
-  too_many i Spent end b = fewer m end.count (rows + 1) end.undecided (let none = end.why in let few = end.spent.few in omega (arith, none, few))
-  too_many i NoMemory end b = tt
+  -- a budget of one's own has no more turns than it began with
+  pub own_within : (b x : Budget) → HasCounted m (own b) x → x.limit ≤ rows + 1
+  own_within b x p = p.spent.same.no_more
 
-  pub one_stopped : (b : Budget) (i j : ℕ) (e : GaveUp) → IsStopped m ⊥ 0 (own 0) (own i) e → HasCounted m (own 0) (own j) → AreBothSheets m total rows b (after b (i + j)) (Err (of_side e))
-  one_stopped b i j e end other = record {
-    one = tt;
-    two = tt;
-    few = tt;
-    planned = planned_at_once b i j (record { count = end.count; undecided = end.undecided; spent = end.spent }) other;
-    err = too_many i e end (after b (i + j));
+  pub both_within : (b x y : Budget) → HasCounted m (own b) x → HasCounted m (own b) y → x.spent ≤ x.limit → y.spent ≤ y.limit → rows < left_of b / 2 → x.spent + y.spent ≤ left_of b
+  both_within b x y p q i j enough = let k = own_within b x p in let l = own_within b y q in omega (arith, i, j, k, l, enough)
+
+  pub made_at_once : (b x y : Budget) (s t : Sheet) → IsOwnSheet m One total (own b) x (Ok s) → IsOwnSheet m Two total (own b) y (Ok t)
+      → AreBothSheets m total rows b (after b (x.spent + y.spent)) (Ok (s, t))
+  made_at_once b x y s t p q = record {
+    one = p.sheet;
+    two = q.sheet;
+    few = record { same = still b (x.spent + y.spent); more = omega arith; few = let i = p.spent.few in let j = q.spent.few in omega (arith, i, j) };
+    planned = planned_at_once b x y (counted One (own b) x (Ok s) p) (counted Two (own b) y (Ok t) q);
+    err = tt;
   }
 
-  pub two_stopped : (b : Budget) (i j : ℕ) (e : GaveUp) → HasCounted m (own 0) (own i) → IsStopped m ⊥ 0 (own 0) (own j) e → AreBothSheets m total rows b (after b (i + j)) (Err (of_side e))
-  two_stopped b i j e other end = record {
-    one = tt;
-    two = tt;
-    few = tt;
-    planned = planned_at_once b i j other (record { count = end.count; undecided = end.undecided; spent = end.spent });
-    err = too_many j e end (after b (i + j));
-  }
+  -- one that has all of them left for the states there may be was not stopped
+  too_many : (b x : Budget) (e : GaveUp) → IsStopped m ⊥ 0 (own b) x e → rows + 1 ≤ x.limit → (c : Budget) → IsReason (HasUndecided m (rows + 1)) c (of_side e)
+  too_many b x TooManyStates end whole c = absurd end.why
+  too_many b x Spent end whole c = fewer m end.count (rows + 1) end.undecided (let none = end.why in let few = end.spent.few in omega (arith, none, few, whole))
+  too_many b x NoMemory end whole c = tt
+
+  is_true : (t : Bool) → (t ≡ false → ⊥) → t ≡ true
+  is_true true not = refl
+  is_true false not = absurd (not refl)
+
+  may_stop : (b x : Budget) (e : GaveUp) → IsStopped m ⊥ 0 (own b) x e → x.limit < rows + 1 → b.may_stop ≡ true
+  may_stop b x e end less = is_true b.may_stop (λ no. let whole = end.spent.same.whole no in omega (arith, whole, less))
+
+  told : (b x mid : Budget) (e : GaveUp) → IsStopped m ⊥ 0 (own b) x e → x.limit < rows + 1 → mid.may_stop ≡ b.may_stop → IsReason (HasUndecided m (rows + 1)) (after_stop mid) e
+  told b x mid TooManyStates end less same = absurd end.why
+  told b x mid Spent end less same = stop_left mid (same ∙ may_stop b x Spent end less)
+  told b x mid NoMemory end less same = tt
+
+  -- why one side gave up, and with it both
+  pub side_stopped : (b x mid new : Budget) (e result : GaveUp) → HasPlanned m b mid → mid.may_stop ≡ b.may_stop → mid.spent ≤ mid.limit → IsStopped m ⊥ 0 (own b) x e
+      → (rows + 1 ≤ x.limit → (result ≡ of_side e) × (new ≡ mid)) → (x.limit < rows + 1 → (result ≡ e) × (new ≡ after_stop mid)) → AreBothSheets m total rows b new (Err result)
+  side_stopped b x mid new e result planned same within end whole stopped = ⊎_elim
+      (λ (less : x.limit < rows + 1).
+      let is = stopped less in
+      rw (is.0, is.1) (record {
+        one = tt;
+        two = tt;
+        few = tt;
+        planned = record {
+          one = planned.one;
+          two = planned.two;
+          one_undecided = planned.one_undecided;
+          two_undecided = planned.two_undecided;
+          spent = record { same = budget_after planned.spent.same (stop_same mid within); more = planned.spent.more; few = planned.spent.few };
+        };
+        err = told b x mid e end less same;
+      }))
+      (λ (all : rows + 1 ≤ x.limit).
+      let is = whole all in
+      rw (is.0, is.1) (record { one = tt; two = tt; few = tt; planned = planned; err = too_many b x e end all mid }))
+      (cases_lt x.limit (rows + 1))

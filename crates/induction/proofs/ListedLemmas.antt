@@ -1,9 +1,10 @@
 -- Undecided states in a list, each once, and the turns that their values take.
-use Rattle.std.proofs.Common.{◌≡◌, ℕ, ◌+◌, ◌-◌, ◌<◌, ◌≤◌, Bool, true, false, cond, eqb, List, [], ◌∷◌, ◌++◌, length, refl, sym, subst, ◌∙◌, arith}
+use Rattle.std.proofs.Common.{◌≡◌, ℕ, ◌+◌, ◌-◌, ◌<◌, ◌≤◌, Bool, true, false, cond, eqb, List, [], ◌∷◌, ◌++◌, length, refl, sym, subst, arith}
 use Rattle.std.proofs.lemmas.List.{length_push}
 use Rattle.std.proofs.lemmas.List.Elements.{All-nil, All-push}
 use Rattle.sim_game.specs.Model.{GameModel, Reachable}
 use Rattle.matrix_game.specs.Budget.{Budget}
+use Rattle.matrix_game.proofs.BudgetLemmas.{budget_after}
 use Rattle.induction.specs.Listed.{GoesOn, AreListed}
 use Rattle.induction.specs.Spent.{HasSpent}
 use Rattle.induction.specs.Undecided.{IsUndecided, HasUndecided, KnowsUndecided}
@@ -29,7 +30,7 @@ module _ {S : Type 0} (m : GameModel S) (number : S → ℕ) (rows : ℕ) (known
 -- so many of the states that were counted have values now
 pub missing_less : (missing n count : ℕ) (a b c : Budget) → count ≤ missing → HasSpent missing n a b → HasSpent 0 count b c → HasSpent (missing - count) n a c
 missing_less missing n count a b c most p q = record {
-  same = q.same ∙ p.same;
+  same = budget_after p.same q.same;
   more = let x = p.more in let y = q.more in omega (arith, x, y);
   few = let x = p.few in let y = q.few in omega (arith, x, y, most);
 }

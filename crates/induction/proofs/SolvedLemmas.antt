@@ -1,11 +1,12 @@
 -- What an induction comes to.
-use Rattle.std.proofs.Common.{◌≡◌, ◌⊎◌, inl, inr, ℕ, ◌+◌, ◌≤◌, Result, Ok, Err, Option, None, Some, IfOk, IfSome, IfNone, length, refl, sym, subst, ◌∙◌, arith}
+use Rattle.std.proofs.Common.{◌≡◌, ◌⊎◌, inl, inr, ℕ, ◌+◌, ◌≤◌, Result, Ok, Err, Option, None, Some, IfOk, IfSome, IfNone, length, refl, sym, subst, arith}
 use Rattle.std.specs.Prelude.{◌≢◌, IsErrAnd}
 use Rattle.sim_game.specs.declared.NoMemory.{NoMemory}
 use Rattle.sim_game.specs.Model.{GameModel}
 use Rattle.plan_book.specs.declared.Sheet.{Sheet}
 use Rattle.plan_book.specs.Sheets.{root_bound}
 use Rattle.matrix_game.specs.Budget.{Budget, left_of}
+use Rattle.matrix_game.proofs.BudgetLemmas.{budget_after}
 use Rattle.induction.specs.declared.gave_up.GaveUp.{GaveUp}
 use Rattle.induction.specs.declared.gave_up.GaveUp.TheVariants as reasons
 use Rattle.induction.specs.declared.induced.Induced.{Induced}
@@ -38,7 +39,7 @@ module _ {S : Type 0} (m : GameModel S) (total rows : ℕ) where
 
   module _ (a b c : Budget) (v : HasValues m rows a b) (r : Result (Sheet × Sheet) GaveUp) (p : AreBothSheets m total rows b c r) where
     pub each_spent : HasSpentEach m 3 a c
-    each_spent = spent_each m a c v.count p.planned.one p.planned.two (p.planned.spent.same ∙ v.spent.same)
+    each_spent = spent_each m a c v.count p.planned.one p.planned.two (budget_after v.spent.same p.planned.spent.same)
         (let x = v.spent.more in let y = p.planned.spent.more in omega (arith, x, y)) (let x = v.spent.few in let y = p.planned.spent.few in omega (arith, x, y))
         v.undecided p.planned.one_undecided p.planned.two_undecided
 
@@ -52,7 +53,7 @@ module _ {S : Type 0} (m : GameModel S) (total rows : ℕ) where
   } where
     few_spent : v.count ≤ rows → HasSpent 0 v.count a b → HasSpent 0 (length one.rows + length two.rows) b c → HasSpent 0 (rows + length one.rows + length two.rows) a c
     few_spent most s t = record {
-      same = t.same ∙ s.same;
+      same = budget_after s.same t.same;
       more = let x = s.more in let y = t.more in omega (arith, x, y);
       few = let x = s.few in let y = t.few in omega (arith, x, y, most);
     }

@@ -1,8 +1,9 @@
 -- Turns that are spent one after another.
-use Rattle.std.proofs.Common.{◌≡◌, ℕ, ◌+◌, ◌≤◌, Bool, false, Result, Ok, Err, IfErr, refl, sym, subst, ◌∙◌, arith}
+use Rattle.std.proofs.Common.{◌≡◌, ◌⊎◌, ⊎_elim, ℕ, ◌+◌, Bool, false, Result, Ok, Err, IfErr, refl, sym, subst, arith}
 use Rattle.std.specs.Prelude.{IsErrAnd}
 use Rattle.sim_game.specs.Model.{GameModel, Reachable}
-use Rattle.matrix_game.specs.Budget.{Budget}
+use Rattle.matrix_game.specs.Budget.{Budget, HasGivenUp, after_one_turn}
+use Rattle.matrix_game.proofs.BudgetLemmas.{same_budget, budget_after, one_turn_later}
 use Rattle.induction.specs.declared.gave_up.GaveUp.{GaveUp}
 use Rattle.induction.specs.declared.gave_up.GaveUp.TheVariants.{TooManyStates, Spent, NoMemory}
 use Rattle.induction.specs.Undecided.{IsUndecided, HasUndecided, KnowsUndecided}
@@ -10,14 +11,28 @@ use Rattle.induction.proofs.UndecidedLemmas.{none_known, one_more_undecided, spe
 use Rattle.induction.specs.Spent.{HasSpent, HasSpentEach, IsReason, IsStopped}
 
 pub none_spent : (n : ℕ) (b : Budget) → HasSpent n n b b
-none_spent n b = record { same = refl; more = omega arith; few = omega arith }
+none_spent n b = record { same = same_budget b; more = omega arith; few = omega arith }
 
 pub spent_more : (i j k : ℕ) (a b c : Budget) → HasSpent i j a b → HasSpent j k b c → HasSpent i k a c
 spent_more i j k a b c p q = record {
-  same = q.same ∙ p.same;
+  same = budget_after p.same q.same;
   more = let x = p.more in let y = q.more in omega (arith, x, y);
   few = let x = p.few in let y = q.few in omega (arith, x, y);
 }
+
+-- it was asked whether to go on, and took one turn, or none
+pub asked_spent : (n : ℕ) (a b : Budget) → (b ≡ a) ⊎ HasGivenUp a b → HasSpent 0 n a b
+asked_spent n a b either = let p : HasSpent 0 n a a = record { same = same_budget a; more = omega arith; few = omega arith } in ⊎_elim
+    (λ (same : b ≡ a). rw same p)
+    (λ (up : HasGivenUp a b). let spent = up.spent in record { same = up.same; more = omega (arith, spent); few = omega (arith, spent) })
+    either
+
+pub turn_spent : (a b c : Budget) → (b ≡ a) ⊎ HasGivenUp a b → c ≡ after_one_turn b → HasSpent 0 1 a c
+turn_spent a b c either is = let p = asked_spent 0 a b either in rw is (record {
+  same = budget_after p.same (one_turn_later b);
+  more = let x = p.more in omega (arith, x);
+  few = let x = p.few in omega (arith, x);
+})
 
 -- one turn at most, for one thing more that is counted
 pub spent_one : (n : ℕ) (a b : Budget) → HasSpent 0 1 a b → HasSpent n (n + 1) a b
@@ -35,11 +50,6 @@ pub stopped_here : {S : Type 0} (m : GameModel S) (Many : Type 0) (number : S �
     → (a b : Budget) (e : GaveUp) → HasSpent 0 1 a b → IsReason Many b e → IsStopped m Many n a b e
 stopped_here m Many number known n old s reach mine new a b e spent why =
     stopped_at m Many n (n + 1) a b e why (one_more_undecided m number known n old s reach mine new) (spent_one n a b spent)
-
--- it gave up before that, and the turns are as before
-pub stopped_before : {S : Type 0} (m : GameModel S) (Many : Type 0) (number : S → ℕ) (known : ℕ → Bool) (n : ℕ) → KnowsUndecided m number known n
-    → (a : Budget) (e : GaveUp) → IsReason Many a e → IsStopped m Many n a a e
-stopped_before m Many number known n old a e why = stopped_at m Many n n a a e why old.undecided (none_spent n a)
 
 pub reason_up : (Many : Type 0) (b : Budget) (e : GaveUp) → IsReason ⊥ b e → IsReason Many b e
 reason_up Many b TooManyStates h = absurd h
@@ -61,19 +71,3 @@ module _ {S : Type 0} (m : GameModel S) where
 
   pub each_one : (i : ℕ) (a b : Budget) → HasUndecided m i → HasSpent 0 i a b → HasSpentEach m 3 a b
   each_one i a b u p = spent_each m a b i 0 0 p.same p.more (let few = p.few in omega (arith, few)) u nothing nothing
-
-  pub each_two : (i j : ℕ) (a b c : Budget) → HasUndecided m i → HasUndecided m j → HasSpent 0 i a b → HasSpent 0 j b c → HasSpentEach m 3 a c
-  each_two i j a b c u v p q =
-      spent_each m a c i j 0 (q.same ∙ p.same) (let x = p.more in let y = q.more in omega (arith, x, y)) (let x = p.few in let y = q.few in omega (arith, x, y)) u v nothing
-
-  pub each_three : (i j k : ℕ) (a b c d : Budget) → HasUndecided m i → HasUndecided m j → HasUndecided m k → HasSpent 0 i a b → HasSpent 0 j b c → HasSpent 0 k c d → HasSpentEach m 3 a d
-  each_three i j k a b c d u v w p q r =
-      spent_each m a d i j k (r.same ∙ q.same ∙ p.same) (let x = p.more in let y = q.more in let z = r.more in omega (arith, x, y, z))
-      (let x = p.few in let y = q.few in let z = r.few in omega (arith, x, y, z)) u v w
-
-pub few_rows : (rows n i j : ℕ) (a b c d : Budget) → n ≤ rows → HasSpent 0 n a b → HasSpent 0 i b c → HasSpent 0 j c d → HasSpent 0 (rows + i + j) a d
-few_rows rows n i j a b c d most p q r = record {
-  same = r.same ∙ q.same ∙ p.same;
-  more = let x = p.more in let y = q.more in let z = r.more in omega (arith, x, y, z);
-  few = let x = p.few in let y = q.few in let z = r.few in omega (arith, x, y, z, most);
-}

@@ -5,7 +5,7 @@ use Rattle.std.specs.Prelude.{◌≢◌}
 use Rattle.std.proofs.lemmas.Bool.{cases_lt}
 use Rattle.sim_game.specs.Model.{GameModel, Reachable}
 use Rattle.plan_book.proofs.ExpectedLemmas.{is_same, is_other}
-use Rattle.matrix_game.specs.Budget.{Budget}
+use Rattle.matrix_game.specs.Budget.{Budget, IsSameBudget}
 use Rattle.induction.specs.Undecided.{IsUndecided, HasUndecided, KnowsUndecided}
 use Rattle.induction.specs.Spent.{HasSpentEach}
 
@@ -92,7 +92,7 @@ module _ {S : Type 0} (m : GameModel S) where
     | inr not ↦ (a, p, omega arith, omega arith)
   ]
 
-  pub spent_each : (old new : Budget) (a b c : ℕ) → new.limit ≡ old.limit → old.spent ≤ new.spent → new.spent ≤ old.spent + (a + b + c) → HasUndecided m a → HasUndecided m b → HasUndecided m c
+  pub spent_each : (old new : Budget) (a b c : ℕ) → IsSameBudget old new → old.spent ≤ new.spent → new.spent ≤ old.spent + (a + b + c) → HasUndecided m a → HasUndecided m b → HasUndecided m c
       → HasSpentEach m 3 old new
   spent_each old new a b c same more few p q r =
       let ab = larger a b p q in

@@ -1,5 +1,5 @@
 -- What induction makes: lawful sheets of both sides.
-use Rattle.std.specs.Prelude.{◌≡◌, ◌⊎◌, ℕ, ◌+◌, Result, Option, length, IfOk, IfErr, IfSome, IfNone}
+use Rattle.std.specs.Prelude.{◌≡◌, ◌⊎◌, ℕ, ◌+◌, Bool, Result, Option, length, IfOk, IfErr, IfSome, IfNone}
 use Rattle.sim_game.specs.declared.Side.{Side}
 use Rattle.sim_game.specs.declared.Side.TheVariants.{One, Two}
 use Rattle.sim_game.specs.declared.NoMemory.{NoMemory}
@@ -43,6 +43,10 @@ abbrev pub of_side : GaveUp → GaveUp
 of_side reasons.TooManyStates = reasons.TooManyStates
 of_side reasons.Spent = reasons.TooManyStates
 of_side reasons.NoMemory = reasons.NoMemory
+
+-- the turns of a side alone: one more than there may be states
+abbrev pub own_turns : ℕ → Bool → Budget
+own_turns rows may_stop = record { limit = rows + 1; spent = 0; may_stop = may_stop }
 
 -- some undecided states have been planned at for each side, each for at most a turn
 pub record HasPlanned {S : Type 0} (m : GameModel S) (old new : Budget) : Type 0 where

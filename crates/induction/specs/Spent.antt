@@ -1,14 +1,15 @@
 -- Turns that are spent between two moments, and why a search gave up.
 use Rattle.std.specs.Prelude.{◌≡◌, ℕ, ◌+◌, ◌*◌, ◌≤◌}
 use Rattle.sim_game.specs.Model.{GameModel}
-use Rattle.matrix_game.specs.Budget.{Budget, left_of}
+use Rattle.matrix_game.specs.Budget.{Budget, left_of, IsSameBudget}
 use Rattle.induction.specs.declared.gave_up.GaveUp.{GaveUp}
 use Rattle.induction.specs.declared.gave_up.GaveUp.TheVariants.{TooManyStates, Spent, NoMemory}
 use Rattle.induction.specs.Undecided.{HasUndecided}
 
--- no turn comes back, and no more are spent than what was counted grew by
+-- no turn comes back, and no more are spent than what was counted grew by; those that are left were given up at most where
+-- they may be
 pub record HasSpent (before after : ℕ) (old new : Budget) : Type 0 where
-  pub same : new.limit ≡ old.limit
+  pub same : IsSameBudget old new
   pub more : old.spent ≤ new.spent
   pub few : new.spent + before ≤ old.spent + after
 
@@ -27,7 +28,7 @@ pub record IsStopped {S : Type 0} (m : GameModel S) (Many : Type 0) (before : �
 
 -- no turn comes back, and no more are spent than so many for each of some undecided states
 pub record HasSpentEach {S : Type 0} (m : GameModel S) (times : ℕ) (old new : Budget) : Type 0 where
-  pub same : new.limit ≡ old.limit
+  pub same : IsSameBudget old new
   pub more : old.spent ≤ new.spent
   pub count : ℕ
   pub undecided : HasUndecided m count

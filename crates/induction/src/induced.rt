@@ -1,14 +1,16 @@
 //! Lawful sheets of both sides, by one pass over the states and one over each side's plan.
 
-ghost use Rattle.std.specs.Prelude.{◌≡◌, ◌≢◌, ℕ, ◌≤◌, None, All, IfOk};
+ghost use Rattle.std.specs.Prelude.{◌≡◌, ◌≢◌, ℕ, ◌/◌, ◌<◌, ◌≤◌, None, All, IfOk};
 ghost use Rattle.sim_game.specs.declared.Side.TheVariants.{One, Two};
+ghost use Rattle.matrix_game.specs.Budget.{after_stop, left_of};
 ghost use Rattle.plan_book.specs.Sheets.{root_bound, IsLawful};
 ghost use Rattle.induction.specs.declared.gave_up.GaveUp.{GaveUp};
-ghost use Rattle.induction.specs.Induced.{of_side, AreBothSheets, IsOwnSheet, IsInductionResult, MakesBoth};
+ghost use Rattle.induction.specs.Induced.{of_side, own_turns, AreBothSheets, IsOwnSheet, IsInductionResult, MakesBoth};
 ghost use Rattle.induction.specs.Listed.{GoesOn};
 
 use crate::places::PlaceTable;
 use crate::values::{Guide, Stage, Values, value_states, values_of};
+use crate::watch::{Terms, Watch};
 use crate::{GaveUp, certify, plan_from};
 use matrix_game::Turns;
 use plan_book::{Sheet, bound_of};
@@ -30,12 +32,12 @@ pub struct Induced {
 }
 
 /// The sheet of a side, by what is proposed.
-fn sheet_of<'a, G: Game>(
+fn sheet_of<'a, G: Game, W: Watch>(
     alloc: Global,
     g: G,
     side: Side,
     total: u32,
-    guide: &mut Guide<'a>,
+    guide: &mut Guide<'a, W>,
 ) -> Result<Sheet, GaveUp>
     requires some { 1 ≤ total }
     requires light { total ≤ 1048576 }
@@ -46,11 +48,12 @@ fn sheet_of<'a, G: Game>(
 }
 
 /// The sheets of both sides, one after the other.
-fn both_sheets<G: Game>(
+fn both_sheets<G: Game, W: Watch>(
     alloc: Global,
     g: G,
     total: u32,
     known: &PlaceTable,
+    watch: &W,
     turns: Turns,
 ) -> (Result<(Sheet, Sheet), GaveUp>, Turns)
     requires some { 1 ≤ total }
@@ -61,7 +64,7 @@ fn both_sheets<G: Game>(
         Ok(stage) => stage,
         Err(_) => return (Err(GaveUp::NoMemory), turns),
     };
-    let mut guide = Guide::new(known, turns, stage);
+    let mut guide = Guide::new(known, turns, stage, watch);
     let one = match sheet_of(alloc, g, Side::One, total, &mut guide) {
         Ok(one) => one,
         Err(e) => return (Err(e), guide.into_turns()),
@@ -73,34 +76,39 @@ fn both_sheets<G: Game>(
     (Ok((one, two)), guide.into_turns())
 }
 
-/// The sheet of a side with so many turns of its own, and how many are spent.
-fn side_sheet<G: Game>(
+/// The sheet of a side with turns of its own.
+fn side_sheet<G: Game, W: Watch>(
     alloc: Global,
     g: G,
     side: Side,
     total: u32,
     known: &PlaceTable,
-    turns: u64,
-) -> (Result<Sheet, GaveUp>, u64)
+    watch: &W,
+    turns: Turns,
+) -> (Result<Sheet, GaveUp>, Turns)
     requires some { 1 ≤ total }
     requires light { total ≤ 1048576 }
-    ensures within { result.1 ≤ turns }
-    ensures sheet { IsOwnSheet (G.model g) side total (record { limit = turns; spent = 0 })
-        (record { limit = turns; spent = result.1 }) result.0 }
+    ensures { IsOwnSheet (G.model g) side total turns result.1 result.0 }
 {
     let stage = match Stage::new(alloc) {
         Ok(stage) => stage,
-        Err(_) => return (Err(GaveUp::NoMemory), 0),
+        Err(_) => return (Err(GaveUp::NoMemory), turns),
     };
-    let mut guide = Guide::new(known, Turns::new(turns), stage);
+    let mut guide = Guide::new(known, turns, stage, watch);
     let sheet = sheet_of(alloc, g, side, total, &mut guide);
-    (sheet, guide.into_turns().spent())
+    (sheet, guide.into_turns())
 }
 
-/// Why both sides gave up, where one did that had a turn for each state that there may be.
-fn of_side(e: GaveUp) -> GaveUp
-    ensures { result ≡ of_side e }
+/// Why both sides gave up, where one did that had so many turns, one more than there may be states: there are too many
+/// states, unless it was told to end. Then the turns of both are given up too.
+fn of_side(e: GaveUp, each: u64, own: &Turns, turns: &mut Turns) -> GaveUp
+    ensures whole { each ≤ own.now.limit → (result ≡ of_side e) × (turns.new ≡ turns.old) }
+    ensures stopped { own.now.limit < each → (result ≡ e) × (turns.new ≡ after_stop turns.old) }
 {
+    if own.limit() < each {
+        turns.stop();
+        return e;
+    }
     match e {
         GaveUp::TooManyStates => GaveUp::TooManyStates,
         GaveUp::Spent => GaveUp::TooManyStates,
@@ -108,78 +116,113 @@ fn of_side(e: GaveUp) -> GaveUp
     }
 }
 
+/// The sheets of both sides, each made with one turn more than there may be states, and all turns.
+fn both_of<G: Game>(
+    g: G,
+    terms: Terms,
+    one: (Result<Sheet, GaveUp>, Turns),
+    two: (Result<Sheet, GaveUp>, Turns),
+    turns: Turns,
+) -> (Result<(Sheet, Sheet), GaveUp>, Turns)
+    requires one { IsOwnSheet (G.model g) One terms.total (own_turns terms.rows turns.may_stop) one.1 one.0 }
+    requires two { IsOwnSheet (G.model g) Two terms.total (own_turns terms.rows turns.may_stop) two.1 two.0 }
+    requires enough { terms.rows < left_of turns / 2 }
+    ensures { AreBothSheets (G.model g) terms.total terms.rows turns result.1 result.0 }
+{
+    let each = terms.rows + 1;
+    let (one, one_turns) = one;
+    let (two, two_turns) = two;
+    let mut turns = turns;
+    let spent = one_turns.spent() + two_turns.spent();
+    turns.split(spent);
+    let one = match one {
+        Ok(one) => one,
+        Err(e) => {
+            let why = of_side(e, each, &one_turns, &mut turns);
+            return (Err(why), turns);
+        }
+    };
+    let two = match two {
+        Ok(two) => two,
+        Err(e) => {
+            let why = of_side(e, each, &two_turns, &mut turns);
+            return (Err(why), turns);
+        }
+    };
+    (Ok((one, two)), turns)
+}
+
 /// The sheets of both sides at once, where there are turns enough for each to come to its end.
-fn both_at_once<R: Threads + Sync, G: Game + Send + Sync>(
+fn both_at_once<R: Threads + Sync, G: Game + Send + Sync, W: Watch + Sync>(
     rt: &R,
     alloc: Global,
     g: G,
-    total: u32,
-    rows: u64,
+    terms: Terms,
     known: &PlaceTable,
+    watch: &W,
     turns: Turns,
 ) -> (Result<(Sheet, Sheet), GaveUp>, Turns)
 where
     G::State: Send + Sync,
-    requires some { 1 ≤ total }
-    requires light { total ≤ 1048576 }
-    ensures { AreBothSheets (G.model g) total rows turns result.1 result.0 }
+    requires some { 1 ≤ terms.total }
+    requires light { terms.total ≤ 1048576 }
+    ensures { AreBothSheets (G.model g) terms.total terms.rows turns result.1 result.0 }
 {
-    if turns.left() / 2 <= rows {
-        return both_sheets(alloc, g, total, known, turns);
+    let total = terms.total;
+    if turns.left() / 2 <= terms.rows {
+        return both_sheets(alloc, g, total, known, watch, turns);
     }
-    let each = rows + 1;
-    let ((one, one_spent), (two, two_spent)) = thread::join(
+    let each = terms.rows + 1;
+    let may_stop = turns.may_stop();
+    let (one, two) = thread::join(
         rt,
-        || -> (Result<Sheet, GaveUp>, u64)
+        || -> (Result<Sheet, GaveUp>, Turns)
             requires some { 1 ≤ total }
             requires light { total ≤ 1048576 }
-            ensures within { result.1 ≤ each }
-            ensures sheet { IsOwnSheet (G.model g) One total (record { limit = each; spent = 0 })
-                (record { limit = each; spent = result.1 }) result.0 }
-        { side_sheet(alloc, g, Side::One, total, known, each) },
-        || -> (Result<Sheet, GaveUp>, u64)
+            ensures { IsOwnSheet (G.model g) One total (record { limit = each; spent = 0; may_stop = may_stop })
+                result.1 result.0 }
+        {
+            let own = Turns::with_stop(each, may_stop);
+            side_sheet(alloc, g, Side::One, total, known, watch, own)
+        },
+        || -> (Result<Sheet, GaveUp>, Turns)
             requires some { 1 ≤ total }
             requires light { total ≤ 1048576 }
-            ensures within { result.1 ≤ each }
-            ensures sheet { IsOwnSheet (G.model g) Two total (record { limit = each; spent = 0 })
-                (record { limit = each; spent = result.1 }) result.0 }
-        { side_sheet(alloc, g, Side::Two, total, known, each) },
+            ensures { IsOwnSheet (G.model g) Two total (record { limit = each; spent = 0; may_stop = may_stop })
+                result.1 result.0 }
+        {
+            let own = Turns::with_stop(each, may_stop);
+            side_sheet(alloc, g, Side::Two, total, known, watch, own)
+        },
     );
-    let mut turns = turns;
-    turns.split(one_spent + two_spent);
-    let one = match one {
-        Ok(one) => one,
-        Err(e) => return (Err(of_side(e)), turns),
-    };
-    let two = match two {
-        Ok(two) => two,
-        Err(e) => return (Err(of_side(e)), turns),
-    };
-    (Ok((one, two)), turns)
+    both_of(g, terms, one, two, turns)
 }
 
 /// As `solve`, with values and sheets by the functions.
 fn solve_by<
     G: Game,
+    W: Watch,
     F: Fn(&PlaceTable, &[G::State]) -> Result<Vec<f64>, NoMemory>,
     B: Fn(&PlaceTable, Turns) -> (Result<(Sheet, Sheet), GaveUp>, Turns),
 >(
     alloc: Global,
     g: G,
-    total: u32,
-    rows: u64,
+    terms: Terms,
+    watch: &W,
     turns: &mut Turns,
     values_of: &F,
     both_sheets: &B,
 ) -> Result<Option<Induced>, NoMemory>
     requires may_call { (known : _) (some : _) → All (GoesOn (G.model g)) some.now
         → F.pre values_of.now known some }
-    requires both { MakesBoth (G.model g) total rows (B.pre both_sheets.now) (B.post both_sheets.now) }
-    ensures { IsInductionResult (G.model g) total rows turns.old turns.new result }
+    requires both { MakesBoth (G.model g) terms.total terms.rows
+        (B.pre both_sheets.now) (B.post both_sheets.now) }
+    ensures { IsInductionResult (G.model g) terms.total terms.rows turns.old turns.new result }
 {
+    let rows = terms.rows;
     let known = PlaceTable::new(alloc, g.most_states(), rows)?;
     let mut values = Values::new(known, rows, mem::replace(turns, Turns::new(0)));
-    let valued = value_states(alloc, g, &mut values, values_of);
+    let valued = value_states(alloc, g, watch, &mut values, values_of);
     let (known, rest) = values.into_parts();
     if let Err(e) = valued {
         *turns = rest;
@@ -224,21 +267,22 @@ fn nothing(e: GaveUp) -> Result<Option<Induced>, NoMemory>
     }
 }
 
-/// The values of states of one rank, which so many workers divide.
-fn values_by<R: Threads + Sync, G: Game + Send + Sync>(
+/// The values of states of one rank, which so many workers divide; fewer, where the watch ends it.
+fn values_by<R: Threads + Sync, G: Game + Send + Sync, W: Watch + Sync>(
     rt: &R,
     alloc: Global,
     g: G,
     workers: u32,
     known: &PlaceTable,
     states: &[G::State],
+    watch: &W,
 ) -> Result<Vec<f64>, NoMemory>
 where
     G::State: Send + Sync,
     requires { All (GoesOn (G.model g)) states.now }
 {
     if states.len() < FEW_STATES {
-        return values_of(alloc, g, known, states);
+        return values_of(alloc, g, known, states, watch);
     }
     let size = (states.len() / workers.max(1) as usize).saturating_add(1);
     let parts = thread::map_chunks(
@@ -248,7 +292,7 @@ where
         size,
         &|_first: usize, part: &[G::State]| -> Result<Vec<f64>, NoMemory>
             requires { All (GoesOn (G.model g)) part.now }
-        { values_of(alloc, g, known, part) },
+        { values_of(alloc, g, known, part, watch) },
     )?;
     let mut values = Vec::with_capacity(alloc, states.len())?;
     for part in parts {
@@ -261,56 +305,58 @@ where
 
 /// Lawful sheets of both sides with weights of this total, and a row for each undecided state that they come to. None comes
 /// only where more than `rows` states are undecided, or where no turn is left: each undecided state takes one turn, and
-/// each row of a sheet another, so no more than three for each undecided state in all. Several workers divide the states of
-/// a rank, and two of them make the sheets; the sheets are the same for each number of them.
-pub fn solve<R: Threads + Sync, G: Game + Send + Sync>(
+/// each row of a sheet another, so no more than three for each undecided state in all. Where the watch ends it, the turns
+/// that are left are given up. Several workers divide the states of a rank, and two of them make the sheets; the sheets are
+/// the same for each number of them.
+pub fn solve<R: Threads + Sync, G: Game + Send + Sync, W: Watch + Sync>(
     rt: &R,
     alloc: Global,
     g: G,
-    total: u32,
-    rows: u64,
-    workers: u32,
+    terms: Terms,
+    watch: &W,
     turns: &mut Turns,
 ) -> Result<Option<Induced>, NoMemory>
 where
     G::State: Send + Sync,
-    requires some { 1 ≤ total }
-    requires light { total ≤ 1048576 }
-    ensures { IsInductionResult (G.model g) total rows turns.old turns.new result }
+    requires some { 1 ≤ terms.total }
+    requires light { terms.total ≤ 1048576 }
+    ensures { IsInductionResult (G.model g) terms.total terms.rows turns.old turns.new result }
 {
+    let workers = terms.workers;
     if workers < 2 {
-        return solve_alone(alloc, g, total, rows, turns);
+        return solve_alone(alloc, g, terms, watch, turns);
     }
     let divided = |known: &PlaceTable, states: &[G::State]| -> Result<Vec<f64>, NoMemory>
         requires { All (GoesOn (G.model g)) states.now }
-    { values_by(rt, alloc, g, workers, known, states) };
+    { values_by(rt, alloc, g, workers, known, states, watch) };
     let at_once = |known: &PlaceTable, turns: Turns| -> (Result<(Sheet, Sheet), GaveUp>, Turns)
-        requires some { 1 ≤ total }
-        requires light { total ≤ 1048576 }
-        ensures { AreBothSheets (G.model g) total rows turns result.1 result.0 }
-    { both_at_once(rt, alloc, g, total, rows, known, turns) };
-    solve_by(alloc, g, total, rows, turns, &divided, &at_once)
+        requires some { 1 ≤ terms.total }
+        requires light { terms.total ≤ 1048576 }
+        ensures { AreBothSheets (G.model g) terms.total terms.rows turns result.1 result.0 }
+    { both_at_once(rt, alloc, g, terms, known, watch, turns) };
+    solve_by(alloc, g, terms, watch, turns, &divided, &at_once)
 }
 
 /// As `solve`, by the caller alone. It starts no thread.
-pub fn solve_alone<G: Game>(
+pub fn solve_alone<G: Game, W: Watch>(
     alloc: Global,
     g: G,
-    total: u32,
-    rows: u64,
+    terms: Terms,
+    watch: &W,
     turns: &mut Turns,
 ) -> Result<Option<Induced>, NoMemory>
-    requires some { 1 ≤ total }
-    requires light { total ≤ 1048576 }
-    ensures { IsInductionResult (G.model g) total rows turns.old turns.new result }
+    requires some { 1 ≤ terms.total }
+    requires light { terms.total ≤ 1048576 }
+    ensures { IsInductionResult (G.model g) terms.total terms.rows turns.old turns.new result }
 {
+    let total = terms.total;
     let alone = |known: &PlaceTable, states: &[G::State]| -> Result<Vec<f64>, NoMemory>
         requires { All (GoesOn (G.model g)) states.now }
-    { values_of(alloc, g, known, states) };
+    { values_of(alloc, g, known, states, watch) };
     let in_turn = |known: &PlaceTable, turns: Turns| -> (Result<(Sheet, Sheet), GaveUp>, Turns)
         requires some { 1 ≤ total }
         requires light { total ≤ 1048576 }
         ensures { (most : ℕ) → AreBothSheets (G.model g) total most turns result.1 result.0 }
-    { both_sheets(alloc, g, total, known, turns) };
-    solve_by(alloc, g, total, rows, turns, &alone, &in_turn)
+    { both_sheets(alloc, g, total, known, watch, turns) };
+    solve_by(alloc, g, terms, watch, turns, &alone, &in_turn)
 }

@@ -12,12 +12,14 @@ mod listed;
 mod places;
 mod sheets;
 mod values;
+mod watch;
 
 pub use follow::{Proposer, plan_from};
 pub use gave_up::GaveUp;
 pub use induced::{Induced, solve, solve_alone};
 use seq::Seq;
 pub use sheets::certify;
+pub use watch::{InductionStep, Terms, Watch};
 
 /// A state of a side's plan, with the weights of the side's moves.
 #[derive(Drop)]

@@ -8,17 +8,20 @@ ghost use Rattle.induction.specs.Places.{is_put};
 use crate::GaveUp;
 use crate::decided::is_decided;
 use crate::places::PlaceTable;
+use crate::watch::{InductionStep, Watch};
 use sim_game::{Game, Side, Transition};
 use std::alloc::Global;
 
 // What is put at the place of a state that is listed and has no value yet.
 const LISTED: u64 = 1;
 
-/// The undecided states of the game, each once, and each marked at its place. There are no more of them than `rows`.
-pub(crate) fn list_states<G: Game>(
+/// The undecided states of the game, each once, and each marked at its place; fewer, where the watch ends it. There are no
+/// more of them than `rows`.
+pub(crate) fn list_states<G: Game, W: Watch>(
     alloc: Global,
     g: G,
     rows: u64,
+    watch: &W,
     known: &mut PlaceTable,
 ) -> Result<Vec<G::State>, GaveUp>
     ensures listed { IfOk result (λ states.
@@ -32,6 +35,9 @@ pub(crate) fn list_states<G: Game>(
         let Some(&s) = states.get(next as usize) else {
             break;
         };
+        if !watch.goes_on(InductionStep::List) {
+            break;
+        }
         add_next(alloc, g, s, rows, &mut transitions, known, &mut states)?;
     }
     Ok(states)

@@ -1,16 +1,17 @@
 //! Values of states by linear programs, those of lower rank first, and the weights that they propose. Nothing is promised of
 //! how near the values are.
 
-ghost use Rattle.std.specs.Prelude.{◌≡◌, ℕ, ◌+◌, ◌<◌, ◌≤◌, ◌*◌, length, All, IfErr, IfOk, OnOk};
+ghost use Rattle.std.specs.Prelude.{◌≡◌, ◌⊎◌, ℕ, ◌+◌, ◌<◌, ◌≤◌, ◌*◌, length, All, IfErr, IfOk, OnOk};
 ghost use Rattle.sim_game.specs.Model.{Reachable};
 ghost use Rattle.plan_book.specs.Plans.{AreWeights};
-ghost use Rattle.matrix_game.specs.Budget.{left_of};
+ghost use Rattle.matrix_game.specs.Budget.{left_of, HasGivenUp};
 ghost use Rattle.induction.specs.Listed.{GoesOn, HasValues};
 ghost use Rattle.induction.specs.Spent.{HasSpent, IsReason, IsStopped};
 ghost use Rattle.induction.specs.Undecided.{HasUndecided};
 
 use crate::listed::list_states;
 use crate::places::PlaceTable;
+use crate::watch::{InductionStep, Watch};
 use crate::{GaveUp, Proposer};
 use matrix_game::{FloatSolver, Turns};
 use sim_game::{CHANCE, Game, NoMemory, Side, Transition};
@@ -29,10 +30,11 @@ pub(crate) struct Values {
 
 /// What proposes weights by values that are made.
 #[derive(Drop)]
-pub(crate) struct Guide<'a> {
+pub(crate) struct Guide<'a, W> {
     known: &'a PlaceTable,
     turns: Turns,
     stage: Stage,
+    watch: &'a W,
 }
 
 /// What states are solved in, kept from one to the next.
@@ -144,18 +146,22 @@ impl Stage {
     }
 }
 
-/// The values of states, one for each, by those that are known.
-pub(crate) fn values_of<G: Game>(
+/// The values of states, one for each, by those that are known; those of the first ones alone, where the watch ends it.
+pub(crate) fn values_of<G: Game, W: Watch>(
     alloc: Global,
     g: G,
     known: &PlaceTable,
     states: &[G::State],
+    watch: &W,
 ) -> Result<Vec<f64>, NoMemory>
     requires { All (GoesOn (G.model g)) states.now }
 {
     let mut stage = Stage::new(alloc)?;
     let mut values = Vec::with_capacity(alloc, states.len())?;
     for s in states {
+        if !watch.goes_on(InductionStep::Value) {
+            break;
+        }
         values.push(stage.value(known, g, *s)?)?;
     }
     Ok(values)
@@ -199,7 +205,8 @@ impl Values {
         (known, turns)
     }
 
-    /// Gives values to states, for a turn each, as far as there are turns.
+    /// Gives values to states, for a turn each, as far as there are turns. Where fewer values are made, since the watch
+    /// has ended it, the turns that are left are given up.
     fn give<G: Game, F: Fn(&PlaceTable, &[G::State]) -> Result<Vec<f64>, NoMemory>>(
         &mut self,
         g: G,
@@ -220,13 +227,17 @@ impl Values {
             states.len()
         };
         let found = values_of(&self.known, &states[..count])?;
-        self.turns.split(count as u64);
-        for place in 0..count {
-            let value = found.get(place).copied().unwrap_or(0.0);
-            let bits = f64_to_bits_with_nan(value).max(1);
+        let made = found.len().min(count);
+        self.turns.split(made as u64);
+        for place in 0..made {
+            let bits = f64_to_bits_with_nan(found[place]).max(1);
             self.known.replace(g.place(states[place]), bits);
         }
-        if count < states.len() {
+        if made == states.len() {
+            return Ok(());
+        }
+        self.turns.stop();
+        if self.turns.left() == 0 {
             return Err(GaveUp::Spent);
         }
         Ok(())
@@ -234,12 +245,11 @@ impl Values {
 }
 
 /// Gives values to the undecided states of the game, those of lower rank first.
-pub(crate) fn value_states<G: Game, F: Fn(&PlaceTable, &[G::State]) -> Result<Vec<f64>, NoMemory>>(
-    alloc: Global,
-    g: G,
-    values: &mut Values,
-    values_of: &F,
-) -> Result<(), GaveUp>
+pub(crate) fn value_states<
+    G: Game,
+    W: Watch,
+    F: Fn(&PlaceTable, &[G::State]) -> Result<Vec<f64>, NoMemory>,
+>(alloc: Global, g: G, watch: &W, values: &mut Values, values_of: &F) -> Result<(), GaveUp>
     requires may_call { (known : _) (some : _) → All (GoesOn (G.model g)) some.now
         → F.pre values_of.now known some }
     ensures rows { values.new.rows ≡ values.old.rows }
@@ -247,7 +257,7 @@ pub(crate) fn value_states<G: Game, F: Fn(&PlaceTable, &[G::State]) -> Result<Ve
     ensures err { IfErr result (IsStopped (G.model g) (HasUndecided (G.model g) (values.old.rows + 1))
         0 values.old.turns values.new.turns) }
 {
-    let states = list_states(alloc, g, values.rows, &mut values.known)?;
+    let states = list_states(alloc, g, values.rows, watch, &mut values.known)?;
     let mut missing = states.len();
     let mut chosen = Vec::new(alloc);
     for below in 0..g.rank(g.root()) {
@@ -258,15 +268,21 @@ pub(crate) fn value_states<G: Game, F: Fn(&PlaceTable, &[G::State]) -> Result<Ve
     Ok(())
 }
 
-impl<'a> Guide<'a> {
+impl<'a, W> Guide<'a, W> {
     /// Proposals by these values. Each takes a turn.
-    pub(crate) fn new(known: &'a PlaceTable, turns: Turns, stage: Stage) -> Guide<'a>
+    pub(crate) fn new(
+        known: &'a PlaceTable,
+        turns: Turns,
+        stage: Stage,
+        watch: &'a W,
+    ) -> Guide<'a, W>
         ensures { result.turns ≡ turns }
     {
         Guide {
             known,
             turns,
             stage,
+            watch,
         }
     }
 
@@ -279,9 +295,21 @@ impl<'a> Guide<'a> {
     }
 }
 
-impl<'a, G: Game> Proposer<G> for Guide<'a> {
+impl<W: Watch> Guide<'_, W> {
+    /// Gives up the turns that are left, if they may be, where the watch ends the induction.
+    fn ask(&mut self)
+        ensures { (self.new.turns ≡ self.old.turns) ⊎ HasGivenUp self.old.turns self.new.turns }
+    {
+        if !self.watch.goes_on(InductionStep::Plan) {
+            self.turns.stop();
+        }
+    }
+}
+
+impl<'a, G: Game, W: Watch> Proposer<G> for Guide<'a, W> {
     ghost turns = { λ guide. guide.turns };
 
+    #[tactic(auto, using(crate::proofs::SpentLemmas::asked_spent, crate::proofs::SpentLemmas::turn_spent))]
     fn propose(
         &mut self,
         alloc: Global,
@@ -290,6 +318,7 @@ impl<'a, G: Game> Proposer<G> for Guide<'a> {
         total: u32,
         s: G::State,
     ) -> Result<Vec<u32>, GaveUp> {
+        self.ask();
         if self.turns.left() == 0 {
             return Err(GaveUp::Spent);
         }

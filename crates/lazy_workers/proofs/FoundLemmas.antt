@@ -1,5 +1,5 @@
 -- That the plans of the best entries are what is to be found.
-use Rattle.std.proofs.Common.{◌≡◌, ⊎_elim, ℕ, ◌+◌, ◌*◌, ◌<◌, ◌≤◌, ℤ, pos, ◌-ℤ◌, ◌≤ℤ◌, ◌<ℤ◌, true, false, cond, Option, None, Some, option_map, List, length, All, Contains, sym, ap, subst, ◌∙◌, arith}
+use Rattle.std.proofs.Common.{◌≡◌, ⊎_elim, ℕ, ◌+◌, ◌*◌, ◌<◌, ◌≤◌, ℤ, pos, ◌-ℤ◌, ◌≤ℤ◌, Bool, true, false, cond, Option, None, Some, option_map, List, length, All, Contains, sym, ap, subst, ◌∙◌, arith}
 use Rattle.std.specs.Int.RustNames.{unsigned_abs}
 use Rattle.std.specs.List.{AllByRecursion}
 use Rattle.std.proofs.lemmas.Int.{ints}
@@ -35,9 +35,10 @@ use Rattle.fields.specs.Ranges.{IsAskInRange}
 use Rattle.shared_board.specs.Closing.{HasKey, IsKeptRow, kept_bound}
 use Rattle.shared_board.specs.declared.close.Kept.{Kept}
 use Rattle.lazy_workers.specs.declared.summary.Found.{Found}
-use Rattle.lazy_workers.specs.Keeping.{oracle_turns, IsPureRow, IsSheetRowKept, AreOwed}
+use Rattle.lazy_workers.specs.declared.budgets.Begun.{Begun}
+use Rattle.lazy_workers.specs.Keeping.{oracle_turns, begun_whole, IsPureRow, IsSheetRowKept, AreOwed}
 use Rattle.lazy_workers.specs.Searched.{IsFar, turns_each, TooFewAfter, IsSearched}
-use Rattle.lazy_workers.specs.Findings.{found_gap, IsFoundPlan, IsPlanKept, IsIdle, AreSpent, IsGapWide, IsFoundAfter, IsFoundGame, IsFoundFor}
+use Rattle.lazy_workers.specs.Findings.{IsFoundPlan, IsPlanKept, IsIdle, AreSpent, IsGapWide, IsFoundAfter, IsFoundGame, IsFoundFor}
 use Rattle.lazy_workers.proofs.SummaryLemmas.{root_is, rows_few, abs_small, scaled_low, scaled_high}
 
 -- ---- numbers that a game has one of
@@ -74,7 +75,7 @@ module _ {S : Type 0} (m : GameModel S) (game : IsGame m) (weight : ℕ) (entrie
   root_small side = abs_small (book_bound m entries side m.root) (scaled_low m game (book_bound m entries side m.root) (root_range side One))
       (scaled_high m game (book_bound m entries side m.root) (root_range side Two))
 
-module _ {S : Type 0} (m : GameModel S) (game : IsGame m) (ask : Ask) (before : ℕ) (asks : IsAskInRange ask) (entries : List Entry) (x : Found)
+module _ {S : Type 0} (m : GameModel S) (game : IsGame m) (ask : Ask) (before : Begun) (asks : IsAskInRange ask) (entries : List Entry) (x : Found)
     (searched : IsSearched m ask before entries x.kept x.turns x.was_full) where
   some_turns : 1 ≤ length x.turns
   some_turns = omega (arith, searched.workers, asks.workers.0)
@@ -159,13 +160,13 @@ module _ {S : Type 0} (m : GameModel S) (game : IsGame m) (ask : Ask) (before : 
     not_full : x.was_full ≡ false → x.was_full ≡ true → ⊥
     not_full is was = let wrong : false ≡ true = sym is ∙ was in absurd (cc)
 
-    spent : x.was_full ≡ false → IsGapWide ask x → AreSpent m ask (TooFewAfter before m ask) x
+    spent : x.was_full ≡ false → IsGapWide ask x → AreSpent m ask before.may_stop (TooFewAfter before.spent m ask) x
     spent free wide = record {
       all = searched.found.all_spent (not_full free) (far wide);
-      too_few = (searched.found.due (not_full free) (far wide) some_turns).0;
+      too_few = λ all. (searched.found.due (not_full free) (far wide) all some_turns).0;
     }
 
-    is_game : IsFoundAfter m ask before (TooFewAfter before m ask) x
+    is_game : IsFoundAfter m ask before (TooFewAfter before.spent m ask) x
     is_game = record {
       one = found_plan One x.one is_one total_one lawful_one best_one x.lower lower;
       two = found_plan Two x.two is_two total_two lawful_two best_two x.upper upper;
@@ -186,8 +187,8 @@ module _ {S : Type 0} (m : GameModel S) (game : IsGame m) (ask : Ask) (before : 
       rows = searched.rows;
       -- a search that met a full board leaves no row
       rooted = λ goes_on left. searched.found.rowed (λ was. let all = (searched.found.full was).0 in absurd (omega arith)) some_turns goes_on;
-      owed = λ free wide left. subst (λ (z : ℤ). AreOwed m ask before z x.kept) (sym resolution.1)
-          ((searched.found.due (not_full free) (far wide) some_turns).1 resolution.0 resolution.2 left);
+      owed = λ free wide all left. subst (λ (z : ℤ). AreOwed m ask before.spent z x.kept) (sym resolution.1)
+          ((searched.found.due (not_full free) (far wide) all some_turns).1 resolution.0 resolution.2 left);
       full = λ was. (searched.found.full was).0;
     }
 
@@ -202,8 +203,9 @@ fewer_each m stages Oracle turns states less = less
 fewer_each m stages Induction turns states less = more_each (oracle_turns m stages) turns states less
 
 -- what is found with all the turns that are asked is found by the method that is asked
-pub found_game : {S : Type 0} (m : GameModel S) (ask : Ask) (x : Found) → IsFoundFor m ask 0 x → IsFoundGame m ask x
-found_game m ask x found = record {
+pub found_game : {S : Type 0} (m : GameModel S) (ask : Ask) (may_stop : Bool) (x : Found) → IsFoundFor m ask (begun_whole may_stop) x
+    → IsFoundGame m ask may_stop x
+found_game m ask may_stop x found = record {
   one = found.game.one;
   two = found.game.two;
   resolution = found.game.resolution;
@@ -214,5 +216,5 @@ found_game m ask x found = record {
   full = found.game.full;
   spent = λ free wide.
       let rest = found.game.spent free wide in
-      record { all = rest.all; too_few = λ n has rows. let less = rest.too_few n has rows in fewer_each m ask.stages ask.search ask.turns (n + m.rank m.root + 1) (omega (arith, less)) };
+      record { all = rest.all; too_few = λ all n has rows. let less = rest.too_few all n has rows in fewer_each m ask.stages ask.search ask.turns (n + m.rank m.root + 1) (omega (arith, less)) };
 }

@@ -2,7 +2,7 @@
 use Rattle.std.proofs.Common.{◌≡◌, ◌⊎◌, ⊎_elim, inl, inr, ℕ, ◌+◌, ◌≤◌, ℤ, ◌+ℤ◌, ◌-ℤ◌, ◌≤ℤ◌, Bool, true, false, ◌||◌, max, Result, Ok, IfOk, Some, List, [], ◌∷◌, ◌++◌, length, All, refl, sym, ap, subst, ◌∙◌, arith}
 use Rattle.std.proofs.lemmas.Int.{ints}
 use Rattle.std.proofs.lemmas.List.{length-append, append-nil, append_assoc}
-use Rattle.std.proofs.lemmas.List.Elements.{All-append, All-cons, All-nil, All-pop, All-weaker}
+use Rattle.std.proofs.lemmas.List.Elements.{All-append, All-cons, All-nil, All-pop, All-tail, All-weaker}
 use Rattle.std.proofs.lemmas.Result.{IfOk-weaker}
 use Rattle.sim_game.specs.declared.Side.{Side}
 use Rattle.sim_game.specs.declared.Side.TheVariants.{One, Two}
@@ -25,6 +25,7 @@ use Rattle.lazy_workers.specs.declared.jobs.Done.{Done}
 use Rattle.lazy_workers.specs.declared.jobs.Job.{Job}
 use Rattle.matrix_game.specs.Budget.{Budget}
 use Rattle.serial_ab.specs.Searches.{IsPureEntry}
+use Rattle.lazy_workers.specs.declared.budgets.Begun.{Begun}
 use Rattle.lazy_workers.specs.Keeping.{HasLimit}
 use Rattle.lazy_workers.specs.Searched.{IsFar, HasFound}
 use Rattle.lazy_workers.specs.Workers.{IsLead, IsWorkerPass, Rows, rows_of, KnowsEach, known_of, IsMetKey, IsFinishedKey, AreOwedTo, IsDueTo, HaveFound, HasView, IsJobDone, IsNoLooser, IsJob}
@@ -38,8 +39,8 @@ module _ {G : Type 0} where
   ours_drawn b p q e o = subst (IsPassOf b) (sym e) (record { name = o.name; game = o.game; total = o.total })
 
 module _ {S G : Type 0} (model : G → GameModel S) where
-  pub job_drawn : (b : BoardValue G) (ask : Ask) (before : ℕ) (job : Job G) (p : PassValue G) → pass_of job.pass ≡ p → p.entries ≡ []
-      → HasLimit ask job.turns → job.turns.spent ≤ before → IsWorkerPass model b job.pass → IsJob model b ask before job
+  pub job_drawn : (b : BoardValue G) (ask : Ask) (before : Begun) (job : Job G) (p : PassValue G) → pass_of job.pass ≡ p → p.entries ≡ []
+      → HasLimit ask before.may_stop job.turns → job.turns.spent ≤ before.spent → IsWorkerPass model b job.pass → IsJob model b ask before job
   job_drawn b ask before job p is none limit begun w = record { pass = w; none = ap (λ (z : PassValue G). z.entries) is ∙ none; limit = limit; begun = begun }
 
   pub pass_drawn : (b : BoardValue G) (bare : BarePass G) (p : PassValue G) (v : View G) → pass_of bare ≡ p → IsSoundPass model bare → IsPassOf b p → p.view ≡ issued_view v → IsWorkerPass model b bare
@@ -59,11 +60,16 @@ not_true false not = refl
 met_not : (was now : Bool) (end : SearchEnd) → (now ≡ false → (was ≡ false) × (end ≡ Full → ⊥)) → (now ≡ true → ⊥) → (was ≡ true → ⊥) × (end ≡ Full → ⊥)
 met_not was now end else not = let it = else (not_true now not) in (λ is. let wrong : false ≡ true = sym it.0 ∙ is in absurd (cc), it.1)
 
+-- what holds of each of a list holds of each behind some of it
+All-behind : {X : Type 0} (P : X → Type 0) (xs ys : List X) → All P (xs ++ ys) → All P ys
+All-behind P [] ys each = each
+All-behind P (x ∷ xs) ys each = All-behind P xs ys (All-tail P x (xs ++ ys) each)
+
 -- ---- what was found
 pub knows_later : (rows : ℕ) (known more : Rows) → ((row key : ℕ) → known row key → more row key) → KnowsEach rows known → KnowsEach rows more
 knows_later rows known more later knows i l = let it = knows i l in (it.0, later i it.0 it.1)
 
-module _ {S : Type 0} (m : GameModel S) (ask : Ask) (before : ℕ) where
+module _ {S : Type 0} (m : GameModel S) (ask : Ask) (before : Begun) where
   far_more : (a b : ℤ) → a ≤ℤ b → IsFar m ask a → IsFar m ask b
   far_more a b less far = record { asked = let asked = far.asked in omega (arith, ints); resolution = λ n is. let over = far.resolution n is in omega (arith, ints) }
 
@@ -84,20 +90,20 @@ module _ {S : Type 0} (m : GameModel S) (ask : Ask) (before : ℕ) where
         full = λ met. (full (f.full met).0, (f.full met).1);
         rowed = λ not some. row (f.rowed not some);
         all_spent = λ not far. f.all_spent not (was_far far);
-        due = λ not far some. let it = f.due not (was_far far) some in (it.0, due it.1);
+        due = λ not far all some. let it = f.due not (was_far far) all some in (it.0, due it.1);
         pure = λ has many some side. looser_trans side (serial_bound m side m.root) (bound side) (next side) (f.pure has many some side) (tighter side);
         at_once = f.at_once;
       }
 
   pub found_none : (bound : Side → ℤ) (F D R Met : Type 0) → (Met → ⊥) → HasFound m ask before bound F D R Met []
   found_none bound F D R Met not = record {
-    within = All-nil (HasLimit ask);
+    within = All-nil (HasLimit ask before.may_stop);
     full = λ met. absurd (not met);
     rowed = λ _ some. absurd (omega arith);
-    all_spent = λ _ far. All-nil (λ t. t.spent ≡ ask.turns);
-    due = λ _ far some. absurd (omega arith);
+    all_spent = λ _ far _. All-nil (λ t. t.spent ≡ ask.turns);
+    due = λ _ far _ some. absurd (omega arith);
     pure = λ has many some side. absurd (omega arith);
-    at_once = λ has many near. All-nil (λ t. t.spent ≤ before);
+    at_once = λ has many near. All-nil (λ t. t.spent ≤ before.spent);
   }
 
   -- what some have found, and what others have
@@ -105,13 +111,13 @@ module _ {S : Type 0} (m : GameModel S) (ask : Ask) (before : ℕ) where
       → 1 ≤ length more → HasFound m ask before bound F D R Was turns
       → HasFound m ask before bound F D R End more → HasFound m ask before bound F D R Now (turns ++ more)
   found_more bound F D R Was End Now turns more then else some j f = record {
-    within = All-append (HasLimit ask) turns more j.within f.within;
+    within = All-append (HasLimit ask before.may_stop) turns more j.within f.within;
     rowed = λ not _. f.rowed (else not).1 some;
     full = λ now. ⊎_elim (λ (a : Was). j.full a) (λ (b : End). f.full b) (then now);
-    all_spent = λ not far. All-append (λ t. t.spent ≡ ask.turns) turns more (j.all_spent (else not).0 far) (f.all_spent (else not).1 far);
-    due = λ not far _. f.due (else not).1 far some;
+    all_spent = λ not far no. All-append (λ t. t.spent ≡ ask.turns) turns more (j.all_spent (else not).0 far no) (f.all_spent (else not).1 far no);
+    due = λ not far all _. f.due (else not).1 far (All-behind (λ t. t.spent ≡ ask.turns) turns more all) some;
     pure = λ has many _ side. f.pure has many some side;
-    at_once = λ has many near. All-append (λ t. t.spent ≤ before) turns more (j.at_once has many near) (f.at_once has many near);
+    at_once = λ has many near. All-append (λ t. t.spent ≤ before.spent) turns more (j.at_once has many near) (f.at_once has many near);
   }
 
   -- bounds that are seen as no looser, and rows of which no less is known
@@ -168,7 +174,7 @@ module _ {S G : Type 0} (model : G → GameModel S) (g : G) where
       (λ d before side. looser_trans side (seen_by (model g) d.pass.seat.me.0 side ((model g).key (model g).root)) (root_seen v side) (bound side) (before side) (tighter side)))
 
 -- the passes of a lead that takes in one worker after another, of all those that were found
-pub record IsJoining {S G : Type 0} (model : G → GameModel S) (g : G) (b : BoardValue G) (ask : Ask) (before : ℕ) (first lead : PassValue G)
+pub record IsJoining {S G : Type 0} (model : G → GameModel S) (g : G) (b : BoardValue G) (ask : Ask) (before : Begun) (first lead : PassValue G)
     (all found : List (Result (Done G) NoMemory)) (turns : List Budget) (was_full : Bool) : Type 0 where
   pub ours : IsPassOf b lead
   pub leads : lead.view.lead ≡ true
@@ -184,7 +190,7 @@ pub record IsJoining {S G : Type 0} (model : G → GameModel S) (g : G) (b : Boa
   pub splits : all ≡ found ++ taken
   pub tight : All (λ r. IfOk r (IsNoLooser model g (λ side. seen_by (model g) lead.view side ((model g).key (model g).root)))) taken
 
-module _ {S G : Type 0} (model : G → GameModel S) (g : G) (b : BoardValue G) (ask : Ask) (before : ℕ) where
+module _ {S G : Type 0} (model : G → GameModel S) (g : G) (b : BoardValue G) (ask : Ask) (before : Begun) where
   -- at the root a pass has seen bounds no looser than a worker has
   abbrev IsTight : View G → Result (Done G) NoMemory → Type 0
   IsTight v r = IfOk r (IsNoLooser model g (λ side. seen_by (model g) v side ((model g).key (model g).root)))

@@ -25,6 +25,7 @@ use Rattle.shared_board.specs.declared.view.View.{View}
 use Rattle.shared_board.specs.declared.close.Kept.{Kept}
 use Rattle.oracle_search.specs.Finished.{AreApart}
 use Rattle.fields.specs.declared.ask.Ask.{Ask}
+use Rattle.lazy_workers.specs.declared.budgets.Begun.{Begun}
 use Rattle.lazy_workers.specs.Keeping.{AreAmong, IsKeptState, known_gap, IsFinishedRow, AreOwed, AreRows}
 use Rattle.lazy_workers.specs.Searched.{HasKeysIn, IsOwed, IsRooted, IsSearched}
 use Rattle.lazy_workers.specs.Workers.{rows_of, KnowsEach, known_of, IsMetKey, IsFinishedKey, AreKeysOf, AreOwedTo, IsDueTo, HasView}
@@ -52,7 +53,7 @@ apart_by_recursion (k ∷ ks) apart = (
   apart_by_recursion ks (λ i j l h. apart (suc i) (suc j) (omega arith) (omega arith)),
 )
 
-module _ {S G : Type 0} (m : GameModel S) (game : IsGame m) (ask : Ask) (before : ℕ) (v : View G) (entries : List Entry) (kept : List Kept)
+module _ {S G : Type 0} (m : GameModel S) (game : IsGame m) (ask : Ask) (before : Begun) (v : View G) (entries : List Entry) (kept : List Kept)
     (is : AreKeptRows m ask.rows v entries kept) (closed : IsClosed m ask.weight entries) where
   -- each entry's key has a row
   pub kept_keys : HasKeysIn ask.rows entries
@@ -163,7 +164,7 @@ module _ {S G : Type 0} (m : GameModel S) (game : IsGame m) (ask : Ask) (before 
               let times : root * (rank * each) ≡ rank * n = rw is (omega arith) in
               subst (λ (k : ℕ). (pos root *ℤ gap) ≤ℤ pos k) times (times_mono root gap (pos (rank * each)) near)
 
-    owed_rows : AreOwedTo m ask before (seen_by m v) (rows_of v) → AreOwed m ask before (pos n) kept
+    owed_rows : AreOwedTo m ask before (seen_by m v) (rows_of v) → AreOwed m ask before.spent (pos n) kept
     owed_rows owed =
         let met = own_rows (IsMetKey m (rows_of v)) (λ key f. f) (Contains kept) (λ key f. (row_of (IsMetKey m (rows_of v)) (λ key f. f) key f).is_kept) owed.met owed.are_met in
         let finished = own_rows Finished (λ key f. f.met) (IsFinishedRow m (pos n)) finished_row owed.finished owed.are_finished in
@@ -177,7 +178,7 @@ module _ {S G : Type 0} (m : GameModel S) (game : IsGame m) (ask : Ask) (before 
         }
 
   -- a board on which a row is left is none of which each row's key is known
-  rows_left : IsDueTo m ask before (seen_by m v) (rows_of v) → IsOwed m ask before kept
+  rows_left : IsDueTo m ask before (seen_by m v) (rows_of v) → IsOwed m ask before.spent kept
   rows_left due n resolution left = ⊎_elim
       (λ (each : KnowsEach ask.rows (rows_of v)). let all = is.full each in absurd (omega arith))
       (λ (owed : AreOwedTo m ask before (seen_by m v) (rows_of v)). owed_rows n resolution owed)
@@ -208,7 +209,7 @@ module _ {S G : Type 0} (m : GameModel S) (game : IsGame m) (ask : Ask) (before 
       best = is.each;
       workers = count;
       found = found_later m ask before (known_of m (seen_by m v) m.root) (λ side. book_bound m entries side m.root) (KnowsEach ask.rows (rows_of v))
-          (length kept ≡ ask.rows) (IsDueTo m ask before (seen_by m v) (rows_of v)) (IsOwed m ask before kept)
+          (length kept ≡ ask.rows) (IsDueTo m ask before (seen_by m v) (rows_of v)) (IsOwed m ask before.spent kept)
           ((row : ℕ) × rows_of v row (m.key m.root)) (IsRooted m kept) (was_full ≡ true) turns root_known is.full rows_left (λ it _. is.known it.0 (m.key m.root) it.1) j;
       alone = alone;
     }

@@ -11,6 +11,7 @@ use Rattle.shared_board.specs.Closing.{IsDistinct}
 use Rattle.shared_board.specs.declared.close.Kept.{Kept}
 use Rattle.fields.specs.declared.ask.Ask.{Ask}
 use Rattle.matrix_game.specs.Budget.{Budget}
+use Rattle.lazy_workers.specs.declared.budgets.Begun.{Begun}
 use Rattle.lazy_workers.specs.Keeping.{HasLimit, oracle_turns, AreBudgets, IsKeptState, AreOwed}
 use Rattle.lazy_workers.specs.Searched.{IsFar, HasRoom, TooFewAfter, AnswersToo}
 
@@ -84,13 +85,14 @@ module _ {S : Type 0} (m : GameModel S) where
             best = x.best;
             workers = x.workers;
             found = record {
-              within = All-weaker (HasLimit enough) (HasLimit ask) (λ t h. record { limit = h.limit; spent = h.spent }) turns x.found.within;
+              within = All-weaker (HasLimit enough before.may_stop) (HasLimit ask before.may_stop)
+                  (λ t h. record { may = h.may; no_more = h.no_more; whole = h.whole; spent = h.spent }) turns x.found.within;
               full = λ met. absurd ((x.found.full met).1 room);
               rowed = x.found.rowed;
               all_spent = λ left far. x.found.all_spent left (far_too _ far);
-              due = λ left far one.
-                  let due = x.found.due left (far_too _ far) one in
-                  (too_few before due.0, λ n resolution free. owed_too before (pos n) kept (due.1 n resolution (omega (arith, few, some))));
+              due = λ left far all one.
+                  let due = x.found.due left (far_too _ far) all one in
+                  (too_few before.spent due.0, λ n resolution free. owed_too before.spent (pos n) kept (due.1 n resolution (omega (arith, few, some))));
               pure = λ _ visits. x.found.pure room visits;
               at_once = λ _ visits. x.found.at_once room visits;
             };
@@ -98,10 +100,11 @@ module _ {S : Type 0} (m : GameModel S) where
           }
 
 -- budgets that are good for what is asked are so for what is asked of another number of rows
-pub budgets_for : (ask other : Ask) → other.workers ≡ ask.workers → other.turns ≡ ask.turns → (before : ℕ) (turns : List Budget)
+pub budgets_for : (ask other : Ask) → other.workers ≡ ask.workers → other.turns ≡ ask.turns → (before : Begun) (turns : List Budget)
     → AreBudgets ask before turns → AreBudgets other before turns
 budgets_for ask other workers same before turns budgets = record {
   count = budgets.count ∙ sym workers;
-  each = All-weaker (HasLimit ask) (HasLimit other) (λ t h. record { limit = h.limit ∙ sym same; spent = omega (arith, h.spent, same) }) turns budgets.each;
+  each = All-weaker (HasLimit ask before.may_stop) (HasLimit other before.may_stop)
+      (λ t h. record { may = h.may; no_more = omega (arith, h.no_more, same); whole = λ no. h.whole no ∙ sym same; spent = h.spent }) turns budgets.each;
   begun = budgets.begun;
 }

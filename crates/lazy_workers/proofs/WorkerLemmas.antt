@@ -3,7 +3,7 @@ use Rattle.std.proofs.Common.{◌≡◌, ◌⊎◌, ⊎_elim, inl, inr, ℕ, ◌
 use Rattle.std.proofs.lemmas.Int.{ints}
 use Rattle.std.proofs.Math.Nat.{mul-le-mul_left}
 use Rattle.std.proofs.lemmas.Bool.{cases_lt}
-use Rattle.std.proofs.lemmas.List.Elements.{All-cons, All-get_or, All-nil, All-weaker}
+use Rattle.std.proofs.lemmas.List.Elements.{All-cons, All-get_or, All-head, All-nil, All-weaker}
 use Rattle.sim_game.specs.declared.Side.{Side}
 use Rattle.sim_game.specs.declared.Side.TheVariants.{One, Two}
 use Rattle.sim_game.specs.declared.TheConstants.{MOST_TURNS}
@@ -37,6 +37,7 @@ use Rattle.fields.specs.declared.ask.StageMethod.TheVariants.{Regret, Linear}
 use Rattle.fields.specs.declared.ask.StageMethod.TheVariants as methods
 use Rattle.lazy_workers.specs.Solvers.{solver_kind}
 use Rattle.lazy_workers.specs.Workers.{Rows, KnowsEach, IsMetKey, IsFinishedKey, AreKeysOf, AreOwedTo, IsDueTo, HaveFound}
+use Rattle.lazy_workers.specs.declared.budgets.Begun.{Begun}
 use Rattle.lazy_workers.specs.Keeping.{HasLimit, AreBudgets, oracle_turns, owed_turns}
 use Rattle.lazy_workers.specs.Searched.{IsFar, HasRoom, HasVisits, IsPureClose, TooFewAfter, IsSearched}
 
@@ -96,9 +97,10 @@ module _ {S : Type 0} (m : GameModel S) (game : IsGame m) where
     keys_few most has = has.few (length keys) (λ i. (known i).0) (λ i l. ((known i).1 l).0)
         (λ i j l h e. apart i j l h (sym ((known i).1 (omega arith)).1 ∙ ap m.key e ∙ ((known j).1 h).1))
 
-  module _ {G N : Type 0} (ask : Ask) (before : ℕ) (start last : WorkView G N) (end : SearchEnd)
+  module _ {G N : Type 0} (ask : Ask) (before : Begun) (start last : WorkView G N) (end : SearchEnd)
       (rows : last.board.rows ≡ ask.rows) (total : last.board.total ≡ ask.weight) (weight : 1 ≤ ask.weight) (goes_on : 1 ≤ m.rank m.root)
-      (none : start.settled ≡ record { keys = []; was_full = false }) (limit : start.turns.limit ≡ ask.turns) (begun : start.turns.spent ≤ before) (inside : start.turns.spent ≤ start.turns.limit)
+      (none : start.settled ≡ record { keys = []; was_full = false }) (limit : HasLimit ask before.may_stop start.turns) (begun : start.turns.spent ≤ before.spent)
+      (inside : start.turns.spent ≤ start.turns.limit)
       (worked : IsWorked m m.root start last) (ends : Ends m m.root ask.gap last end) (takes : AreTaken m ask end start last) where
     abbrev has_row : Rows
     has_row row key = last.board.key_at row ≡ Some key
@@ -122,11 +124,9 @@ module _ {S : Type 0} (m : GameModel S) (game : IsGame m) where
     -- where no turn was spent, what was posted over no entries is pure
     pub pure_alone : start.board.entries ≡ [] → last.turns.spent ≡ 0 → All (IsPureEntry m ask.weight) last.board.entries
     pure_alone none unspent =
-        let same_limit : last.turns.limit ≡ start.turns.limit = worked.turns.limit in
         let more = worked.turns.rises in
         let spent : last.turns.spent ≡ start.turns.spent = omega arith in
-        let same : last.turns ≡ start.turns = λ i. record { limit = same_limit i; spent = spent i } in
-        let grows = worked.pure_alone same in
+        let grows = worked.pure_alone spent in
         let joins : last.board.entries ≡ grows.more = grows.joins ∙ ap (λ (l : List Entry). l ++ grows.more) none in
         let weight_is : start.board.total ≡ ask.weight = sym worked.board.later.total ∙ total in
         subst (All (IsPureEntry m ask.weight)) (sym joins) (subst (λ (w : ℕ). All (IsPureEntry m w) grows.more) weight_is grows.each)
@@ -137,7 +137,7 @@ module _ {S : Type 0} (m : GameModel S) (game : IsGame m) where
     -- bounds further apart than was asked and than the resolution, and no full board
     module _ (far : IsFar m ask (known_bound m last.board Two m.root -ℤ known_bound m last.board One m.root)) where
       spent_by : (e : SearchEnd) → (e ≡ Full → ⊥) → Ends m m.root ask.gap last e → AreTaken m ask e start last
-          → (last.turns.spent ≡ ask.turns) × TooFewAfter before m ask × IsDueTo m ask before last.board.seen has_row
+          → (before.may_stop ≡ false → last.turns.spent ≡ ask.turns) × (last.turns.spent ≡ ask.turns → TooFewAfter before.spent m ask × IsDueTo m ask before last.board.seen has_row)
       spent_by Reached not ends takes =
           let asked = far.asked in let near : IsWithin m last.board m.root ask.gap = ends goes_on in absurd (too_near _ _ _ near asked)
       spent_by Settled not ends takes =
@@ -145,18 +145,18 @@ module _ {S : Type 0} (m : GameModel S) (game : IsGame m) where
           let near : IsWithin m last.board m.root (pos (rank_gap m stage.0 (m.rank m.root))) = ends.2 stage.0 (subst (λ (w : ℕ). IsStageGap m w stage.0) (sym total) stage.1) in
           let beyond = far.resolution (rank_gap m stage.0 (m.rank m.root)) (record { gap = stage.0; is_gap = stage.1; sums = refl }) in absurd (too_near _ _ _ near beyond)
       spent_by Spent not ends takes =
-          let last_limit : last.turns.limit ≡ ask.turns = worked.turns.limit ∙ limit in
           let in_limit = within in
-          let none_left = ends.2 in
-          let all : last.turns.spent ≡ ask.turns = omega arith in
-          (all, too_few all takes, by all takes last.settled.was_full refl) where
+          let none_left = ends.2 in (
+            λ no. let last_limit : last.turns.limit ≡ ask.turns = worked.turns.limit.whole (limit.may ∙ no) ∙ limit.whole no in omega arith,
+            λ all. (too_few all takes, by all takes last.settled.was_full refl),
+          ) where
             taken : last.turns.spent ≡ ask.turns → HasTaken m m.root Spent start last → last.settled.was_full ≡ false
-                → ask.turns ≤ before + growth_turns m * (length last.settled.keys + m.rank m.root)
+                → ask.turns ≤ before.spent + growth_turns m * (length last.settled.keys + m.rank m.root)
             taken all takes quiet =
                 let so : TakesTurns (growth_turns m) (m.rank m.root) start.worker last.worker =
                 ⊎_elim (λ (a : TakesTurns (growth_turns m) (m.rank m.root) start.worker last.worker). a)
                 (λ (b : (left_of last.turns ≡ 0) × TakesTurns (growth_turns m) (m.rank m.root) start.worker last.worker). b.1) (takes.unless_full quiet) in
-                turns_from (growth_turns m) last.turns.spent start.turns.spent before ask.turns (length last.settled.keys) (length start.settled.keys) (m.rank m.root) so begun all
+                turns_from (growth_turns m) last.turns.spent start.turns.spent before.spent ask.turns (length last.settled.keys) (length start.settled.keys) (m.rank m.root) so begun all
 
             met : (is_close : Bool) (key : ℕ) → IsFinished m is_close last.board (1 + MOST_TURNS) key → IsMetKey m has_row key
             met is_close key f = record { named = record { state = f.state; reachable = f.reachable; goes_on = f.goes_on; is_key = f.is_key }; row = f.row; has_row = f.held }
@@ -178,9 +178,9 @@ module _ {S : Type 0} (m : GameModel S) (game : IsGame m) where
 
             owed : last.turns.spent ≡ ask.turns → AreTaken m ask Spent start last → last.settled.was_full ≡ false → AreOwedTo m ask before last.board.seen has_row
             owed all takes quiet =
-                let so : (stages : StageMethod) (met finished : ℕ) → ask.stages ≡ stages → ask.turns ≤ before + owed_turns m stages met finished
-                → ask.turns ≤ before + owed_turns m ask.stages met finished = λ stages met finished is few.
-                subst (λ (x : StageMethod). ask.turns ≤ before + owed_turns m x met finished) (sym is) few in
+                let so : (stages : StageMethod) (met finished : ℕ) → ask.stages ≡ stages → ask.turns ≤ before.spent + owed_turns m stages met finished
+                → ask.turns ≤ before.spent + owed_turns m ask.stages met finished = λ stages met finished is few.
+                subst (λ (x : StageMethod). ask.turns ≤ before.spent + owed_turns m x met finished) (sym is) few in
                 ⊎_elim
                 (λ (a : (ask.stages ≡ Regret) × HasTaken m m.root Spent start last). record {
                   met = last.settled.keys;
@@ -200,21 +200,22 @@ module _ {S : Type 0} (m : GameModel S) (game : IsGame m) where
                 })
                 takes
 
-            too_few : last.turns.spent ≡ ask.turns → AreTaken m ask Spent start last → TooFewAfter before m ask
+            too_few : last.turns.spent ≡ ask.turns → AreTaken m ask Spent start last → TooFewAfter before.spent m ask
             too_few all takes n has few =
                 let wide : HasRoom m ask = record { few = λ count states reach apart. let less = has.few count states reach apart in omega arith } in
                 let it = owed all takes (room wide) in
                 let met_few = keys_few it.met it.are_met.apart (All-weaker (IsMetKey m has_row) (IsInnerKey m) (λ key f. f.named) it.met it.are_met.each) n has in
                 let finished_few = keys_few it.finished it.are_finished.apart
                 (All-weaker (IsFinishedKey m ask last.board.seen has_row) (IsInnerKey m) (λ key f. f.met.named) it.finished it.are_finished.each) n has in
-                owed_below m game ask.stages before ask.turns (length it.met) (length it.finished) n met_few finished_few it.few
+                owed_below m game ask.stages before.spent ask.turns (length it.met) (length it.finished) n met_few finished_few it.few
 
             by : last.turns.spent ≡ ask.turns → AreTaken m ask Spent start last → (b : Bool) → last.settled.was_full ≡ b → KnowsEach ask.rows has_row ⊎ AreOwedTo m ask before last.board.seen has_row
             by all takes true e = inl (full_board e).0
             by all takes false e = inr (owed all takes e)
       spent_by Full not ends takes = absurd (not refl)
 
-      all_spent : (end ≡ Full → ⊥) → (last.turns.spent ≡ ask.turns) × TooFewAfter before m ask × IsDueTo m ask before last.board.seen has_row
+      all_spent : (end ≡ Full → ⊥)
+          → (before.may_stop ≡ false → last.turns.spent ≡ ask.turns) × (last.turns.spent ≡ ask.turns → TooFewAfter before.spent m ask × IsDueTo m ask before last.board.seen has_row)
       all_spent not = spent_by end not ends takes
 
     -- visits for the whole tree, and a row for each state
@@ -233,17 +234,22 @@ module _ {S : Type 0} (m : GameModel S) (game : IsGame m) where
 
       pub found : HaveFound m ask before last.board.seen (λ row key. last.board.key_at row ≡ Some key) (end ≡ Full) (last.turns ∷ [])
       found = record {
-        within = one (HasLimit ask) (let same = worked.turns.limit ∙ limit in record { limit = same; spent = subst (λ (n : ℕ). last.turns.spent ≤ n) same within });
+        within = one (HasLimit ask before.may_stop) (record {
+          may = worked.turns.limit.may_stop ∙ limit.may;
+          no_more = let now = worked.turns.limit.no_more in let first = limit.no_more in omega arith;
+          whole = λ no. worked.turns.limit.whole (limit.may ∙ no) ∙ limit.whole no;
+          spent = within;
+        });
         full = λ e. full_board (subst (Ends m m.root ask.gap last) e ends).0;
         rowed = λ not _. row not;
-        all_spent = λ not far. one (λ t. t.spent ≡ ask.turns) (all_spent far not).0;
-        due = λ not far _. let it = all_spent far not in (it.1, it.2);
+        all_spent = λ not far no. one (λ t. t.spent ≡ ask.turns) ((all_spent far not).0 no);
+        due = λ not far all _. (all_spent far not).1 (All-head (λ t. t.spent ≡ ask.turns) last.turns [] all);
         pure = λ has many _ side. pure (whole many) (room has) side;
-        at_once = λ has many near. one (λ t. t.spent ≤ before) (subst (λ (t : Budget). t.spent ≤ before) (sym (at_once (whole many) (room has) near).1) begun);
+        at_once = λ has many near. one (λ t. t.spent ≤ before.spent) (subst (λ (t : Budget). t.spent ≤ before.spent) (sym (at_once (whole many) (room has) near).1) begun);
       }
 
 -- an end as root needs no search
-pub nothing_searched : {S : Type 0} (m : GameModel S) → IsGame m → (ask : Ask) (before : ℕ) → IsEnd m m.root → pos 0 ≤ℤ ask.gap → (turns : List Budget)
+pub nothing_searched : {S : Type 0} (m : GameModel S) → IsGame m → (ask : Ask) (before : Begun) → IsEnd m m.root → pos 0 ≤ℤ ask.gap → (turns : List Budget)
     → AreBudgets ask before turns → IsSearched m ask before [] [] turns false
 nothing_searched m game ask before end low turns budgets = record {
   closed = All-nil _;
@@ -257,8 +263,8 @@ nothing_searched m game ask before end low turns budgets = record {
     within = budgets.each;
     full = λ e. absurd (cc);
     rowed = λ _ some goes_on. absurd (omega arith);
-    all_spent = λ _ far. absurd (near far);
-    due = λ _ far some. absurd (near far);
+    all_spent = λ _ far _. absurd (near far);
+    due = λ _ far _ some. absurd (near far);
     pure = λ has many some side. rw (serial_end m game side m.root end, bound side) (looser_refl side (end_bound m m.root));
     at_once = λ has many close. budgets.begun;
   };

@@ -1,5 +1,5 @@
 -- What is found of a game.
-use Rattle.std.specs.Prelude.{◌≡◌, ℕ, ◌<◌, ◌≤◌, ℤ, pos, ◌-ℤ◌, ◌≤ℤ◌, ◌<ℤ◌, true, false, unsigned_abs, List, length, All, Contains}
+use Rattle.std.specs.Prelude.{◌≡◌, ℕ, ◌<◌, ◌≤◌, ℤ, pos, ◌-ℤ◌, ◌≤ℤ◌, ◌<ℤ◌, Bool, true, false, unsigned_abs, List, length, All, Contains}
 use Rattle.sim_game.specs.declared.Side.{Side}
 use Rattle.sim_game.specs.declared.Side.TheVariants.{One, Two}
 use Rattle.sim_game.specs.Model.{GameModel}
@@ -13,7 +13,8 @@ use Rattle.fields.specs.declared.ask.Ask.{Ask}
 use Rattle.shared_board.specs.Closing.{HasKey, kept_bound}
 use Rattle.shared_board.specs.declared.close.Kept.{Kept}
 use Rattle.lazy_workers.specs.declared.summary.Found.{Found}
-use Rattle.lazy_workers.specs.Keeping.{HasLimit, IsPureRow, IsSheetRowKept, AreOwed, AreRows}
+use Rattle.lazy_workers.specs.declared.budgets.Begun.{Begun}
+use Rattle.lazy_workers.specs.Keeping.{HasLimit, AreAllSpent, begun_whole, IsPureRow, IsSheetRowKept, AreOwed, AreRows}
 use Rattle.lazy_workers.specs.Searched.{HasRoom, HasVisits, IsPureClose, TooFewAfter, TooFewTurns}
 
 abbrev pub found_gap : Found → ℤ
@@ -47,38 +48,39 @@ module _ {S : Type 0} (m : GameModel S) (ask : Ask) where
   abbrev pub IsIdle : Found → Type 0
   IsIdle x = All (λ t. t.spent ≡ 0) x.turns
 
-  -- all turns are spent, and they are too few for the game
-  pub record AreSpent (Few : Type 0) (x : Found) : Type 0 where
-    pub all : All (λ t. t.spent ≡ ask.turns) x.turns
-    pub too_few : Few
+  -- all turns are spent, unless some may be given up; and where all are, they are too few for the game
+  pub record AreSpent (may_stop : Bool) (Few : Type 0) (x : Found) : Type 0 where
+    pub all : may_stop ≡ false → AreAllSpent ask x.turns
+    pub too_few : AreAllSpent ask x.turns → Few
 
   -- a plan of each player, and the turns of each worker, no more than so many of which were spent before
-  pub record IsFoundAfter (before : ℕ) (Few : Type 0) (x : Found) : Type 0 where
+  pub record IsFoundAfter (before : Begun) (Few : Type 0) (x : Found) : Type 0 where
     pub one : IsFoundPlan (IsIdle x) One x.one x.lower
     pub two : IsFoundPlan (IsIdle x) Two x.two x.upper
     pub resolution : (n : ℕ) × (x.resolution ≡ pos n) × IsResolution m ask.weight n
     pub resolution_high : x.resolution ≤ℤ pos 99999999999
     pub workers : length x.turns ≡ ask.workers
-    pub within : All (HasLimit ask) x.turns
+    pub within : All (HasLimit ask before.may_stop) x.turns
     -- where pure plans bring the bounds as close as was asked, no turn is spent
-    pub at_once : HasRoom m ask → HasVisits m ask → IsPureClose m ask → All (λ t. t.spent ≤ before) x.turns
+    pub at_once : HasRoom m ask → HasVisits m ask → IsPureClose m ask → All (λ t. t.spent ≤ before.spent) x.turns
     -- a full board is one of a game that has more states than it had rows
     pub full : x.was_full ≡ true → HasRoom m ask → ⊥
     -- what a wide gap is owed to where no search met a full board
-    pub spent : x.was_full ≡ false → IsGapWide ask x → AreSpent Few x
+    pub spent : x.was_full ≡ false → IsGapWide ask x → AreSpent before.may_stop Few x
 
-  -- what is found of the game by the method that is asked
-  abbrev pub IsFoundGame : Found → Type 0
-  IsFoundGame x = IsFoundAfter 0 (TooFewTurns m ask) x
+  -- what is found of the game by the method that is asked, by a search that may be stopped or not
+  abbrev pub IsFoundGame : Bool → Found → Type 0
+  IsFoundGame may_stop x = IsFoundAfter (begun_whole may_stop) (TooFewTurns m ask) x
 
   -- what is found by double oracle, with what the closed board shows
-  pub record IsFoundFor (before : ℕ) (x : Found) : Type 0 where
-    pub game : IsFoundAfter before (TooFewAfter before m ask) x
+  pub record IsFoundFor (before : Begun) (x : Found) : Type 0 where
+    pub game : IsFoundAfter before (TooFewAfter before.spent m ask) x
     pub one_kept : IsPlanKept m One x.kept x.one x.lower
     pub two_kept : IsPlanKept m Two x.kept x.two x.upper
     pub rows : AreRows m ask.rows x.kept
     -- with a row left on the board, the root has one, and the turns that a wide gap is owed to are owed to rows
     pub rooted : 1 ≤ m.rank m.root → length x.kept < ask.rows → HasKey x.kept (m.key m.root)
-    pub owed : x.was_full ≡ false → IsGapWide ask x → length x.kept < ask.rows → AreOwed m ask before x.resolution x.kept
+    pub owed : x.was_full ≡ false → IsGapWide ask x → AreAllSpent ask x.turns → length x.kept < ask.rows
+        → AreOwed m ask before.spent x.resolution x.kept
     -- a full board leaves no row
     pub full : x.was_full ≡ true → length x.kept ≡ ask.rows

@@ -1,5 +1,5 @@
 -- The rows of the closed board, and the finished states among them.
-use Rattle.std.specs.Prelude.{◌≡◌, ℕ, ◌+◌, ◌*◌, ◌≤◌, ℤ, pos, ◌-ℤ◌, ◌*ℤ◌, ◌≤ℤ◌, List, [], length, All, Contains}
+use Rattle.std.specs.Prelude.{◌≡◌, ℕ, ◌+◌, ◌*◌, ◌≤◌, ℤ, pos, ◌-ℤ◌, ◌*ℤ◌, ◌≤ℤ◌, Bool, false, List, [], length, All, Contains}
 use Rattle.sim_game.specs.Model.{GameModel, IsEnd}
 use Rattle.sim_game.specs.Sides.{better, state_bound}
 use Rattle.bounds_board.specs.Views.{IsInnerKey, IsEnclosure}
@@ -14,6 +14,7 @@ use Rattle.fields.specs.declared.ask.Ask.{Ask}
 use Rattle.fields.specs.declared.ask.StageMethod.{StageMethod}
 use Rattle.fields.specs.declared.ask.StageMethod.TheVariants.{Regret, Linear}
 use Rattle.oracle_search.specs.Searches.{growth_turns}
+use Rattle.lazy_workers.specs.declared.budgets.Begun.{Begun}
 
 -- ---- turns
 -- how many turns double oracle may take at a state: with regret matching as many as a restricted game that grows, with linear stages one in each of
@@ -29,16 +30,29 @@ abbrev pub owed_turns : {S : Type 0} → GameModel S → StageMethod → ℕ →
 owed_turns m Regret met finished = growth_turns m * (finished + m.rank m.root)
 owed_turns m Linear met finished = 2 * met + finished
 
--- the turns are those asked, and no more of them were spent
-pub record HasLimit (ask : Ask) (t : Budget) : Type 0 where
-  pub limit : t.limit ≡ ask.turns
-  pub spent : t.spent ≤ ask.turns
+-- the turns are those asked, but for some that were given up where they may be, and no more were spent
+pub record HasLimit (ask : Ask) (may_stop : Bool) (t : Budget) : Type 0 where
+  pub may : t.may_stop ≡ may_stop
+  pub no_more : t.limit ≤ ask.turns
+  pub whole : may_stop ≡ false → t.limit ≡ ask.turns
+  pub spent : t.spent ≤ t.limit
 
 -- a budget for each worker, with those asked, of which no more than so many were spent before
-pub record AreBudgets (ask : Ask) (before : ℕ) (turns : List Budget) : Type 0 where
+pub record AreBudgets (ask : Ask) (before : Begun) (turns : List Budget) : Type 0 where
   pub count : length turns ≡ ask.workers
-  pub each : All (HasLimit ask) turns
-  pub begun : All (λ t. t.spent ≤ before) turns
+  pub each : All (HasLimit ask before.may_stop) turns
+  pub begun : All (λ t. t.spent ≤ before.spent) turns
+
+-- what budgets begin with of which none was spent before, and those of which the first worker has spent some
+abbrev pub begun_whole : Bool → Begun
+begun_whole may_stop = record { spent = 0; may_stop = may_stop }
+
+abbrev pub begun_by : Budget → Begun
+begun_by first = record { spent = first.spent; may_stop = first.may_stop }
+
+-- each worker has spent all the turns that were asked
+abbrev pub AreAllSpent : Ask → List Budget → Type 0
+AreAllSpent ask turns = All (λ t. t.spent ≡ ask.turns) turns
 
 -- ---- rows
 -- a row of the sheet is kept: its key has a row, with its bound on its side
@@ -71,7 +85,8 @@ module _ {S : Type 0} (m : GameModel S) where
     pub named : IsInnerKey m x.key
     pub close : (pos (m.rank m.root) *ℤ known_gap x named.state) ≤ℤ (pos (m.rank named.state) *ℤ resolution)
 
-  -- the turns, but for those that were spent before, are owed to rows of states that were met and to rows of finished ones
+  -- the turns, but for those that were spent before, are owed to rows of states that were met and to rows of finished ones,
+  -- with regret matching also to the states on the way to the root
   pub record AreOwed (ask : Ask) (before : ℕ) (resolution : ℤ) (kept : List Kept) : Type 0 where
     pub met : List Kept
     pub are_met : AreAmong kept met

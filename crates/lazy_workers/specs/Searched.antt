@@ -1,5 +1,5 @@
 -- What all workers together have found of a game.
-use Rattle.std.specs.Prelude.{◌≡◌, ℕ, ◌+◌, ◌*◌, ◌<◌, ◌≤◌, ℤ, pos, ◌+ℤ◌, ◌-ℤ◌, ◌≤ℤ◌, ◌<ℤ◌, Bool, true, Option, Some, List, length, All}
+use Rattle.std.specs.Prelude.{◌≡◌, ℕ, ◌+◌, ◌*◌, ◌<◌, ◌≤◌, ℤ, pos, ◌+ℤ◌, ◌-ℤ◌, ◌≤ℤ◌, ◌<ℤ◌, Bool, true, false, Option, Some, List, length, All}
 use Rattle.sim_game.specs.declared.Side.{Side}
 use Rattle.sim_game.specs.declared.Side.TheVariants.{One, Two}
 use Rattle.sim_game.specs.Model.{GameModel, HasAtMost}
@@ -16,7 +16,8 @@ use Rattle.fields.specs.declared.ask.Ask.{Ask}
 use Rattle.fields.specs.declared.ask.StageMethod.{StageMethod}
 use Rattle.fields.specs.declared.ask.SearchMethod.{SearchMethod}
 use Rattle.fields.specs.declared.ask.SearchMethod.TheVariants.{Oracle, Induction}
-use Rattle.lazy_workers.specs.Keeping.{HasLimit, oracle_turns, AreOwed, AreRows}
+use Rattle.lazy_workers.specs.declared.budgets.Begun.{Begun}
+use Rattle.lazy_workers.specs.Keeping.{HasLimit, AreAllSpent, oracle_turns, AreOwed, AreRows}
 
 -- each entry's key is that of one of so many rows
 pub record HasKeysIn (rows : ℕ) (entries : List Entry) : Type 0 where
@@ -58,17 +59,18 @@ TooFewTurns m ask = (n : ℕ) → HasAtMost m n → n ≤ ask.rows
 -- what searches of the root have found together, by the bounds that are known of it: the turns of each, of which no more
 -- than so many were spent before; what a search
 -- that met a full board shows of it; what is due where none did and all turns were spent; that the root has a row
-pub record HasFound {S : Type 0} (m : GameModel S) (ask : Ask) (before : ℕ) (bound : Side → ℤ) (IsFull IsDue HasRow Met : Type 0)
+pub record HasFound {S : Type 0} (m : GameModel S) (ask : Ask) (before : Begun) (bound : Side → ℤ) (IsFull IsDue HasRow Met : Type 0)
     (turns : List Budget) : Type 0 where
-  pub within : All (HasLimit ask) turns
+  pub within : All (HasLimit ask before.may_stop) turns
   pub full : Met → IsFull × (HasRoom m ask → ⊥)
   pub rowed : (Met → ⊥) → 1 ≤ length turns → HasRow
-  -- as long as the bounds are far apart, all turns were spent
-  pub all_spent : (Met → ⊥) → IsFar m ask (bound Two -ℤ bound One) → All (λ t. t.spent ≡ ask.turns) turns
-  pub due : (Met → ⊥) → IsFar m ask (bound Two -ℤ bound One) → 1 ≤ length turns → TooFewAfter before m ask × IsDue
+  -- as long as the bounds are far apart, all turns were spent, unless some may be given up
+  pub all_spent : (Met → ⊥) → IsFar m ask (bound Two -ℤ bound One) → before.may_stop ≡ false → AreAllSpent ask turns
+  pub due : (Met → ⊥) → IsFar m ask (bound Two -ℤ bound One) → AreAllSpent ask turns → 1 ≤ length turns
+      → TooFewAfter before.spent m ask × IsDue
   pub pure : HasRoom m ask → HasVisits m ask → 1 ≤ length turns
       → (side : Side) → IsNoTighter side (serial_bound m side m.root) (bound side)
-  pub at_once : HasRoom m ask → HasVisits m ask → IsPureClose m ask → All (λ t. t.spent ≤ before) turns
+  pub at_once : HasRoom m ask → HasVisits m ask → IsPureClose m ask → All (λ t. t.spent ≤ before.spent) turns
 
 -- with a row left on the board, the turns are owed to rows that are kept
 abbrev pub IsOwed : {S : Type 0} → GameModel S → Ask → ℕ → List Kept → Type 0
@@ -80,7 +82,7 @@ IsRooted m kept = 1 ≤ m.rank m.root → HasKey kept (m.key m.root)
 
 -- the entries of all workers, the rows of the closed board, the turns of each worker, and whether a search of one ended
 -- at a full board
-pub record IsSearched {S : Type 0} (m : GameModel S) (ask : Ask) (before : ℕ) (entries : List Entry) (kept : List Kept)
+pub record IsSearched {S : Type 0} (m : GameModel S) (ask : Ask) (before : Begun) (entries : List Entry) (kept : List Kept)
     (turns : List Budget) (was_full : Bool) : Type 0 where
   pub closed : IsClosed m ask.weight entries
   pub held : HasKeysIn ask.rows entries
@@ -88,12 +90,12 @@ pub record IsSearched {S : Type 0} (m : GameModel S) (ask : Ask) (before : ℕ) 
   pub entered : All (λ e. HasKey kept e.key) entries
   pub best : All (IsKeptRow m entries) kept
   pub workers : length turns ≡ ask.workers
-  pub found : HasFound m ask before (λ side. book_bound m entries side m.root) (length kept ≡ ask.rows) (IsOwed m ask before kept)
+  pub found : HasFound m ask before (λ side. book_bound m entries side m.root) (length kept ≡ ask.rows) (IsOwed m ask before.spent kept)
       (IsRooted m kept) (was_full ≡ true) turns
   -- where no turn was spent, only pure plans were posted
   pub alone : All (λ t. t.spent ≡ 0) turns → All (IsPureEntry m ask.weight) entries
 
 -- what is found where the one is asked answers the other too
 abbrev pub AnswersToo : {S : Type 0} → GameModel S → Ask → Ask → Type 0
-AnswersToo m ask other = (before : ℕ) (entries : List Entry) (kept : List Kept) (turns : List Budget) (was_full : Bool)
+AnswersToo m ask other = (before : Begun) (entries : List Entry) (kept : List Kept) (turns : List Budget) (was_full : Bool)
     → IsSearched m ask before entries kept turns was_full → IsSearched m other before entries kept turns was_full

@@ -1,5 +1,5 @@
 -- What each worker begins with, and what it leaves.
-use Rattle.std.specs.Prelude.{◌≡◌, ◌⊎◌, ℕ, ◌+◌, ◌*◌, ◌<◌, ◌≤◌, ℤ, pos, ◌+ℤ◌, ◌≤ℤ◌, true, false, List, [], ◌∷◌, length, All}
+use Rattle.std.specs.Prelude.{◌≡◌, ◌⊎◌, ℕ, ◌+◌, ◌<◌, ◌≤◌, ℤ, pos, ◌+ℤ◌, ◌≤ℤ◌, true, false, List, [], ◌∷◌, length, All}
 use Rattle.sim_game.specs.declared.Side.{Side}
 use Rattle.sim_game.specs.declared.Side.TheVariants.{One, Two}
 use Rattle.sim_game.specs.Model.{GameModel}
@@ -20,6 +20,7 @@ use Rattle.oracle_search.specs.declared.ends.SearchEnd.TheVariants.{Full}
 use Rattle.oracle_search.specs.Finished.{AreApart, rank_gap}
 use Rattle.lazy_workers.specs.declared.jobs.Job.{Job}
 use Rattle.lazy_workers.specs.declared.jobs.Done.{Done}
+use Rattle.lazy_workers.specs.declared.budgets.Begun.{Begun}
 use Rattle.lazy_workers.specs.Keeping.{HasLimit, owed_turns}
 use Rattle.lazy_workers.specs.Searched.{HasFound}
 
@@ -71,7 +72,7 @@ pub record AreKeysOf (Kind : ℕ → Type 0) (keys : List ℕ) : Type 0 where
   pub apart : AreApart keys
   pub each : All Kind keys
 
-module _ {S : Type 0} (m : GameModel S) (ask : Ask) (before : ℕ) where
+module _ {S : Type 0} (m : GameModel S) (ask : Ask) (before : Begun) where
   -- the turns of a worker, but for those that were spent before, are owed to states that it has met and to states that it
   -- has finished
   pub record AreOwedTo (seen : Side → ℕ → ℤ) (known : Rows) : Type 0 where
@@ -79,7 +80,7 @@ module _ {S : Type 0} (m : GameModel S) (ask : Ask) (before : ℕ) where
     pub are_met : AreKeysOf (IsMetKey m known) met
     pub finished : List ℕ
     pub are_finished : AreKeysOf (IsFinishedKey m ask seen known) finished
-    pub few : ask.turns ≤ before + owed_turns m ask.stages (length met) (length finished)
+    pub few : ask.turns ≤ before.spent + owed_turns m ask.stages (length met) (length finished)
 
   -- what is due where all turns were spent: the turns are owed to such states, unless a key of each row is known
   abbrev pub IsDueTo : (Side → ℕ → ℤ) → Rows → Type 0
@@ -105,13 +106,13 @@ module _ {S G : Type 0} (model : G → GameModel S) where
     pub goes_on : 1 ≤ (model g).rank (model g).root
 
   -- a pass without entries, and turns of which no more than so many were spent
-  pub record IsJob (b : BoardValue G) (ask : Ask) (before : ℕ) (job : Job G) : Type 0 where
+  pub record IsJob (b : BoardValue G) (ask : Ask) (before : Begun) (job : Job G) : Type 0 where
     pub pass : IsWorkerPass model b job.pass
     pub none : (pass_of job.pass).entries ≡ []
-    pub limit : HasLimit ask job.turns
-    pub begun : job.turns.spent ≤ before
+    pub limit : HasLimit ask before.may_stop job.turns
+    pub begun : job.turns.spent ≤ before.spent
 
-  pub record IsJobDone (g : G) (b : BoardValue G) (ask : Ask) (before : ℕ) (d : Done G) : Type 0 where
+  pub record IsJobDone (g : G) (b : BoardValue G) (ask : Ask) (before : Begun) (d : Done G) : Type 0 where
     pub pass : IsWorkerPass model b d.pass
     pub found : HasView (model g) ask before d.pass.seat.me.0 (d.end ≡ Full) (d.turns ∷ [])
     pub alone : d.turns.spent ≡ 0 → All (IsPureEntry (model g) ask.weight) (pass_of d.pass).entries

@@ -8,7 +8,7 @@ ghost use Rattle.lazy_workers.specs.Solvers.{solver_kind};
 ghost use Rattle.lazy_workers.specs.Keeping.{AreBudgets};
 ghost use Rattle.lazy_workers.specs.Workers.{IsBoardFor, IsLead, IsJob, IsJobDone, IsNoLooser, HasView};
 
-use crate::budgets::Budgets;
+use crate::budgets::{Begun, Budgets};
 use fields::{Ask, StageMethod};
 use matrix_game::{SolverKind, Turns};
 use oracle_search::{Gate, MemoryLimits, SearchEnd, Setup, Worker, search};
@@ -44,12 +44,12 @@ pub(crate) fn split_all<G: Game>(
     requires ours { IsPassOf board.now lead.old }
     requires lead { IsLead lead.old.view 1 1 }
     requires few { ask.now.workers ≤ 16 }
-    requires turns { AreBudgets ask.now budgets.most budgets.turns.items }
+    requires turns { AreBudgets ask.now budgets.begun budgets.turns.items }
     ensures ours { IfOk result (λ _. IsPassOf board.now lead.new) }
     ensures lead { IfOk result (λ _. IsLead lead.new.view (1 + ask.now.workers) 1) }
     ensures entries { IfOk result (λ _. lead.new.entries ≡ lead.old.entries) }
     ensures count { IfOk result (λ jobs. length jobs.items ≡ ask.now.workers) }
-    ensures jobs { IfOk result (λ jobs. All (IsJob G.model board.now ask.now budgets.most) jobs.items) }
+    ensures jobs { IfOk result (λ jobs. All (IsJob G.model board.now ask.now budgets.begun) jobs.items) }
 {
     let mut turns = budgets.turns;
     let mut jobs = Vec::with_capacity(alloc, ask.workers as usize)?;
@@ -86,8 +86,8 @@ fn limits_for(workers: u32, stages: StageMethod) -> MemoryLimits
     }
 }
 
-/// Searches the root, with turns, visits, finished states and memories of the worker's own. No more than `most` turns were
-/// spent before; the number stands in the contract alone.
+/// Searches the root, with turns, visits, finished states and memories of the worker's own. What the
+/// budgets began with stands in the contract alone.
 pub(crate) fn work<G: Game, T: Gate>(
     alloc: Global,
     g: G,
@@ -95,11 +95,11 @@ pub(crate) fn work<G: Game, T: Gate>(
     ask: &Ask,
     gate: &T,
     job: Job<G>,
-    most: u64,
+    begun: Begun,
 ) -> Result<Done<G>, NoMemory>
     requires board { IsBoardFor G.model g board.now ask.now }
-    requires job { IsJob G.model board.now ask.now most job }
-    ensures { IfOk result (IsJobDone G.model g board.now ask.now most) }
+    requires job { IsJob G.model board.now ask.now begun job }
+    ensures { IfOk result (IsJobDone G.model g board.now ask.now begun) }
 {
     let Job {
         pass,
@@ -133,12 +133,12 @@ pub(crate) fn join_all<G: Game>(
     lead: &mut Pass<G>,
     mut found: Vec<Result<Done<G>, NoMemory>>,
     turns: &mut Vec<Turns>,
-    most: u64,
+    begun: Begun,
 ) -> Result<bool, NoMemory>
     requires board { IsBoardFor G.model g board.now ask.now }
     requires ours { IsPassOf board.now lead.old }
     requires lead { lead.old.view.lead ≡ true }
-    requires found { All (λ r. IfOk r (IsJobDone G.model g board.now ask.now most)) found.items }
+    requires found { All (λ r. IfOk r (IsJobDone G.model g board.now ask.now begun)) found.items }
     requires none { turns.old.items ≡ [] }
     requires entries { lead.old.entries ≡ [] }
     ensures ours { IfOk result (λ _. IsPassOf board.now lead.new) }
@@ -146,7 +146,7 @@ pub(crate) fn join_all<G: Game>(
         (length lead.old.view.tickets + length found.items)) }
     ensures count { IfOk result (λ _. length turns.new.items ≡ length found.items) }
     ensures joined { IfOk result (λ was_full.
-        HasView (G.model g) ask.now most lead.new.view (was_full ≡ true) turns.new.items) }
+        HasView (G.model g) ask.now begun lead.new.view (was_full ≡ true) turns.new.items) }
     ensures alone { IfOk result (λ _. All (λ t. t.spent ≡ 0) turns.new.items
         → All (IsPureEntry (G.model g) ask.now.weight) lead.new.entries) }
     // Nothing that a worker has seen at the root is forgotten.

@@ -6,6 +6,6 @@ mod jobs;
 mod summary;
 mod workers;
 
-pub use budgets::Budgets;
+pub use budgets::{Begun, Budgets};
 pub use summary::Found;
 pub use workers::{find, find_alone};

@@ -5,6 +5,7 @@ ghost use Rattle.fields.specs.Ranges.{IsAskInRange};
 ghost use Rattle.lazy_workers.specs.Findings.{IsFoundFor};
 ghost use Rattle.lazy_workers.specs.Searched.{IsSearched};
 
+use crate::budgets::Begun;
 use fields::Ask;
 use matrix_game::Turns;
 use plan_book::{Book, Sheet, bound_of};
@@ -38,18 +39,18 @@ pub(crate) struct Gathered {
     pub was_full: bool,
 }
 
-/// The plans of the best entries of the book. No more than `most` turns of a worker were spent before.
+/// The plans of the best entries of the book. What the budgets began with stands in the contract alone.
 pub(crate) fn found_in<G: Game>(
     g: G,
     ask: &Ask,
     gathered: Gathered,
-    most: u64,
+    begun: Begun,
 ) -> Result<Found, NoMemory>
     requires ask { IsAskInRange ask.now }
     requires total { gathered.book.total ≡ ask.now.weight }
-    requires searched { IsSearched (G.model g) ask.now most
+    requires searched { IsSearched (G.model g) ask.now begun
         gathered.book.entries gathered.kept gathered.turns gathered.was_full }
-    ensures { IfOk result (IsFoundFor (G.model g) ask.now most) }
+    ensures { IfOk result (IsFoundFor (G.model g) ask.now begun) }
 {
     let one = gathered.book.sheet(g, Side::One)?;
     let two = gathered.book.sheet(g, Side::Two)?;

@@ -1,17 +1,18 @@
 //! The search of a whole game.
 
-ghost use Rattle.std.specs.Prelude.{◌≡◌, ◌+◌, ◌≤◌, ℕ, List, [], length, All, IfOk};
+ghost use Rattle.std.specs.Prelude.{◌≡◌, ◌+◌, ◌≤◌, List, [], length, All, IfOk};
 ghost use Rattle.sim_game.specs.Resolution.{IsFineWeight};
 ghost use Rattle.matrix_game.specs.Budget.{Budget};
 ghost use Rattle.fields.specs.Ranges.{IsAskInRange};
 ghost use Rattle.plan_book.specs.Books.{book_bound};
 ghost use Rattle.shared_board.specs.Values.{IsPassOf};
+ghost use Rattle.lazy_workers.specs.declared.budgets.Begun.{Begun};
 ghost use Rattle.lazy_workers.specs.Findings.{IsFoundFor};
 ghost use Rattle.lazy_workers.specs.Keeping.{AreBudgets};
 ghost use Rattle.lazy_workers.specs.Searched.{AnswersToo, IsSearched};
 ghost use Rattle.lazy_workers.specs.Workers.{IsBoardFor, IsLead, IsJob, IsJobDone, IsNoLooser};
 
-use crate::budgets::Budgets;
+use crate::budgets::{Begun, Budgets};
 use crate::jobs::{Done, Job, join_all, split_all, work};
 use crate::summary::{Found, Gathered, found_in};
 use fields::Ask;
@@ -38,10 +39,10 @@ where
     G::State: Send + Sync,
     requires ask { IsAskInRange ask.now }
     requires fine { IsFineWeight (G.model g) ask.now.weight }
-    requires turns { AreBudgets ask.now budgets.most budgets.turns.items }
-    ensures { IfOk result (IsFoundFor (G.model g) ask.now budgets.most) }
+    requires turns { AreBudgets ask.now budgets.begun budgets.turns.items }
+    ensures { IfOk result (IsFoundFor (G.model g) ask.now budgets.begun) }
 {
-    let most = budgets.most;
+    let begun = budgets.begun;
     let gathered = if g.rank(g.root()) == 0 {
         nothing(alloc, g, ask, budgets)?
     } else if ask.workers == 1 {
@@ -49,17 +50,17 @@ where
     } else {
         search_all(rt, alloc, g, ask, budgets, gate)?
     };
-    found_in(g, ask, gathered, most)
+    found_in(g, ask, gathered, begun)
 }
 
 /// What is found where the root is an end: it needs no search.
 fn nothing<G: Game>(alloc: Global, g: G, ask: &Ask, budgets: Budgets) -> Result<Gathered, NoMemory>
     requires ask { IsAskInRange ask.now }
-    requires turns { AreBudgets ask.now budgets.most budgets.turns.items }
+    requires turns { AreBudgets ask.now budgets.begun budgets.turns.items }
     requires end { (G.model g).rank (G.model g).root ≡ 0 }
     ensures total { IfOk result (λ found. found.book.total ≡ ask.now.weight) }
     ensures searched { IfOk result (λ found.
-        IsSearched (G.model g) ask.now budgets.most found.book.entries found.kept found.turns found.was_full) }
+        IsSearched (G.model g) ask.now budgets.begun found.book.entries found.kept found.turns found.was_full) }
 {
     Ok(Gathered {
         book: Book::new(alloc, ask.weight),
@@ -83,12 +84,12 @@ where
     requires ask { IsAskInRange ask.now }
     requires fine { IsFineWeight (G.model g) ask.now.weight }
     requires goes_on { 1 ≤ (G.model g).rank (G.model g).root }
-    requires turns { AreBudgets ask.now budgets.most budgets.turns.items }
+    requires turns { AreBudgets ask.now budgets.begun budgets.turns.items }
     ensures total { IfOk result (λ found. found.book.total ≡ ask.now.weight) }
     ensures searched { IfOk result (λ found.
-        IsSearched (G.model g) ask.now budgets.most found.book.entries found.kept found.turns found.was_full) }
+        IsSearched (G.model g) ask.now budgets.begun found.book.entries found.kept found.turns found.was_full) }
 {
-    let most = budgets.most;
+    let begun = budgets.begun;
     let enough = with_rows_for(g, ask);
     let (board, mut lead) = Board::create(alloc, g, enough.rows, enough.weight)?;
     let jobs = split_all(alloc, &board, &mut lead, &enough, budgets)?;
@@ -97,11 +98,11 @@ where
         rt,
         jobs,
         &|job: Job<G>| -> Result<Done<G>, NoMemory>
-            requires { IsBoardFor G.model g shared.now enough × IsJob G.model shared.now enough most job }
-            ensures { IfOk result (IsJobDone G.model g shared.entry.now enough most) }
-        { work(alloc, g, shared, &enough, gate, job, most) },
+            requires { IsBoardFor G.model g shared.now enough × IsJob G.model shared.now enough begun job }
+            ensures { IfOk result (IsJobDone G.model g shared.entry.now enough begun) }
+        { work(alloc, g, shared, &enough, gate, job, begun) },
     )?;
-    gather(alloc, g, board, &enough, lead, done, most)
+    gather(alloc, g, board, &enough, lead, done, begun)
 }
 
 /// What is asked, of a board of no more rows than the game has states and one or two that stay free, so that it is never
@@ -111,7 +112,8 @@ fn with_rows_for<G: Game>(g: G, ask: &Ask) -> Ask
     requires { IsAskInRange ask.now }
     ensures same { AnswersToo (G.model g) result ask.now }
     ensures weight { result.weight ≡ ask.now.weight }
-    ensures turns { (most : ℕ) (turns : List Budget) → AreBudgets ask.now most turns → AreBudgets result most turns }
+    ensures turns { (begun : Begun) (turns : List Budget) → AreBudgets ask.now begun turns
+        → AreBudgets result begun turns }
     ensures in_range { IsAskInRange result }
 {
     let most = g.most_states();
@@ -133,16 +135,16 @@ pub fn find_alone<G: Game, T: Gate>(
 ) -> Result<Found, NoMemory>
     requires ask { IsAskInRange ask.now }
     requires fine { IsFineWeight (G.model g) ask.now.weight }
-    requires turns { AreBudgets ask.now budgets.most budgets.turns.items }
-    ensures { IfOk result (IsFoundFor (G.model g) ask.now budgets.most) }
+    requires turns { AreBudgets ask.now budgets.begun budgets.turns.items }
+    ensures { IfOk result (IsFoundFor (G.model g) ask.now budgets.begun) }
 {
-    let most = budgets.most;
+    let begun = budgets.begun;
     let gathered = if g.rank(g.root()) == 0 {
         nothing(alloc, g, ask, budgets)?
     } else {
         search_alone(alloc, g, ask, budgets, gate)?
     };
-    found_in(g, ask, gathered, most)
+    found_in(g, ask, gathered, begun)
 }
 
 /// What all workers find on one board, one after the other.
@@ -156,17 +158,17 @@ fn search_alone<G: Game, T: Gate>(
     requires ask { IsAskInRange ask.now }
     requires fine { IsFineWeight (G.model g) ask.now.weight }
     requires goes_on { 1 ≤ (G.model g).rank (G.model g).root }
-    requires turns { AreBudgets ask.now budgets.most budgets.turns.items }
+    requires turns { AreBudgets ask.now budgets.begun budgets.turns.items }
     ensures total { IfOk result (λ found. found.book.total ≡ ask.now.weight) }
     ensures searched { IfOk result (λ found.
-        IsSearched (G.model g) ask.now budgets.most found.book.entries found.kept found.turns found.was_full) }
+        IsSearched (G.model g) ask.now budgets.begun found.book.entries found.kept found.turns found.was_full) }
 {
-    let most = budgets.most;
+    let begun = budgets.begun;
     let enough = with_rows_for(g, ask);
     let (board, mut lead) = Board::create(alloc, g, enough.rows, enough.weight)?;
     let jobs = split_all(alloc, &board, &mut lead, &enough, budgets)?;
-    let done = work_all(alloc, g, &board, &enough, gate, jobs, most)?;
-    gather(alloc, g, board, &enough, lead, done, most)
+    let done = work_all(alloc, g, &board, &enough, gate, jobs, begun)?;
+    gather(alloc, g, board, &enough, lead, done, begun)
 }
 
 /// Does the work of each job, that of the last first, and stops at want of memory.
@@ -177,18 +179,18 @@ fn work_all<G: Game, T: Gate>(
     ask: &Ask,
     gate: &T,
     mut jobs: Vec<Job<G>>,
-    most: u64,
+    begun: Begun,
 ) -> Result<Vec<Result<Done<G>, NoMemory>>, NoMemory>
     requires board { IsBoardFor G.model g board.now ask.now }
-    requires jobs { All (IsJob G.model board.now ask.now most) jobs.items }
+    requires jobs { All (IsJob G.model board.now ask.now begun) jobs.items }
     ensures count { IfOk result (λ found. length found.items ≡ length jobs.items) }
-    ensures done { IfOk result (λ found. All (λ r. IfOk r (IsJobDone G.model g board.now ask.now most)) found.items) }
+    ensures done { IfOk result (λ found. All (λ r. IfOk r (IsJobDone G.model g board.now ask.now begun)) found.items) }
 {
     match jobs.pop() {
         None => Ok(Vec::new(alloc)),
         Some(job) => {
-            let done = work(alloc, g, board, ask, gate, job, most)?;
-            let mut all = work_all(alloc, g, board, ask, gate, jobs, most)?;
+            let done = work(alloc, g, board, ask, gate, job, begun)?;
+            let mut all = work_all(alloc, g, board, ask, gate, jobs, begun)?;
             all.push(Ok(done))?;
             Ok(all)
         }
@@ -203,23 +205,23 @@ fn gather<G: Game>(
     ask: &Ask,
     mut lead: Pass<G>,
     found: Vec<Result<Done<G>, NoMemory>>,
-    most: u64,
+    begun: Begun,
 ) -> Result<Gathered, NoMemory>
     requires board { IsBoardFor G.model g board ask.now }
     requires ours { IsPassOf board lead }
     requires lead { IsLead lead.view (1 + ask.now.workers) 1 }
-    requires found { All (λ r. IfOk r (IsJobDone G.model g board ask.now most)) found.items }
+    requires found { All (λ r. IfOk r (IsJobDone G.model g board ask.now begun)) found.items }
     requires count { length found.items ≡ ask.now.workers }
     requires entries { lead.entries ≡ [] }
     ensures total { IfOk result (λ found. found.book.total ≡ ask.now.weight) }
     ensures searched { IfOk result (λ found.
-        IsSearched (G.model g) ask.now most found.book.entries found.kept found.turns found.was_full) }
+        IsSearched (G.model g) ask.now begun found.book.entries found.kept found.turns found.was_full) }
     // Nothing that a worker has seen at the root is forgotten.
     ensures tight { IfOk result (λ all. All (λ r. IfOk r (IsNoLooser G.model g
         (λ side. book_bound (G.model g) all.book.entries side (G.model g).root))) found.items) }
 {
     let mut turns = Vec::with_capacity(alloc, ask.workers as usize)?;
-    let was_full = join_all(g, &board, ask, &mut lead, found, &mut turns, most)?;
+    let was_full = join_all(g, &board, ask, &mut lead, found, &mut turns, begun)?;
     match board.close(lead) {
         Ok(closed) => Ok(Gathered {
             book: closed.book,

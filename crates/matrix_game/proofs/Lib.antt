@@ -9,6 +9,7 @@ pub mod Loop
 pub mod Stages
 pub mod ShiftLemmas
 pub mod HeightLemmas
+pub mod BudgetLemmas
 mod Rows
 pub mod MemoryLemmas
 pub mod LaneLemmas

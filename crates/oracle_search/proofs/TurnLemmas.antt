@@ -96,7 +96,7 @@ module _ {S G N : Type 0} {m : GameModel S} {s : S} {limit : ℕ} {v w : WorkVie
         let count = length-append v.settled.keys worked.settled.added.more in
         let keys : each * length w.settled.keys ≡ each * (length v.settled.keys + length worked.settled.added.more) =
         ap (λ (n : ℕ). each * n) (ap (λ (l : List ℕ). length l) worked.settled.added.joins ∙ count) in
-        let left : left_of v.turns ≡ 0 → left_of w.turns ≡ 0 = λ e. let same = worked.turns.none e in let same_limit = worked.turns.limit in omega arith in
+        let left : left_of v.turns ≡ 0 → left_of w.turns ≡ 0 = λ e. let same = worked.turns.none e in let no_more = worked.turns.limit.no_more in omega arith in
         ⊎_elim
         (λ (a : v.turns.spent + each * length u.settled.keys + spare ≤ u.turns.spent + each * length v.settled.keys + turns). ⊎_elim
         (λ (b : TakesTurns each states v.worker w.worker). inl (omega arith))

@@ -14,7 +14,8 @@ use Rattle.sim_game.proofs.SideLemmas.{looser_trans}
 use Rattle.plan_book.specs.Books.{Grows}
 use Rattle.plan_book.specs.Entries.{IsLawfulEntry}
 use Rattle.plan_book.specs.Serial.{serial_bound}
-use Rattle.matrix_game.specs.Budget.{Budget, left_of, after_one_turn}
+use Rattle.matrix_game.specs.Budget.{Budget, left_of, after_one_turn, IsSameBudget, HasGivenUp}
+use Rattle.matrix_game.proofs.BudgetLemmas.{same_budget, budget_after, one_turn_later}
 use Rattle.bounds_board.specs.Views.{BoardView, IsLater, IsFull, known_bound}
 use Rattle.bounds_board.proofs.FullLemmas.{full_later, full_weaker}
 use Rattle.bounds_board.proofs.KnownLemmas.{known_later}
@@ -32,7 +33,7 @@ use Rattle.oracle_search.specs.declared.ends.Stop.{Stop}
 use Rattle.oracle_search.specs.declared.ends.Stop.TheVariants as stops
 use Rattle.oracle_search.specs.Finished.{AreFinished, AreAdded, IsWithin, IsBeyond, IsClose, IsLeftBelow, left_gap}
 use Rattle.oracle_search.specs.Searches.{IsBetter, HasTurned, HasKept, IsAtRow, IsAtChildren, IsBoardFull, IsWorkedBelow, IsWorked, IsStop, HasVisitsBelow, IsPureTight, IsPureWithin, IsAhead, BoundsByPure}
-use Rattle.oracle_search.specs.Workers.{WorkerView, WorkView, at_work, with_full, with_key, without_full, without_searches}
+use Rattle.oracle_search.specs.Workers.{WorkerView, WorkView, HasAsked, at_work, with_full, with_key, without_full, without_searches}
 use Rattle.oracle_search.proofs.BetterLemmas.{grows_weaker, better_trans, better_serial}
 use Rattle.oracle_search.proofs.KeyLemmas.{finished_none, finished_later, finished_more, added_none, added_wider, added_after, added_more}
 
@@ -52,12 +53,12 @@ visited_counts side most x y c = record { limit = c.limit; rises = each side c }
   each Two c Two = c.rises
 
 turned_none : (t : Budget) → HasTurned t t
-turned_none t = record { limit = refl; rises = omega arith; within = λ h. h; none = λ _. refl }
+turned_none t = record { limit = same_budget t; rises = omega arith; within = λ h. h; none = λ _. refl }
 
 turned_after : (t u v : Budget) → HasTurned t u → HasTurned u v → HasTurned t v
 turned_after t u v p q =
-    let left : left_of t ≡ 0 → left_of u ≡ 0 = λ e. let same = p.none e in let limit = p.limit in omega arith in
-    record { limit = q.limit ∙ p.limit; rises = omega (arith, p.rises, q.rises); within = λ h. q.within (p.within h); none = λ e. q.none (left e) ∙ p.none e }
+    let left : left_of t ≡ 0 → left_of u ≡ 0 = λ e. let same = p.none e in let limit = p.limit.no_more in omega arith in
+    record { limit = budget_after p.limit q.limit; rises = omega (arith, p.rises, q.rises); within = λ h. q.within (p.within h); none = λ e. q.none (left e) ∙ p.none e }
 
 -- a turn was taken, or none was
 turned_step : (old new : Budget) → (left_of old ≡ 0 → new ≡ old) → (new ≡ old) ⊎ (new ≡ after_one_turn old) → HasTurned old new
@@ -70,18 +71,37 @@ turned_step old new none one = ⊎_elim
     (λ (l : old.spent < old.limit). omega arith)
     (λ (g : old.limit ≤ old.spent). let same = ap (λ (t : Budget). t.spent) (none (omega arith)) in absurd (omega arith))
     (cases_lt old.spent old.limit) in
-    record { limit = limit; rises = omega arith; within = λ h. omega (arith, some h); none = λ e. ap (λ (t : Budget). t.spent) (none e) })
+    record {
+      limit = subst (IsSameBudget old) (sym b) (one_turn_later old);
+      rises = omega arith;
+      within = λ h. omega (arith, some h);
+      none = λ e. ap (λ (t : Budget). t.spent) (none e);
+    })
     one
 
+-- no turn was taken, and those that were left may have been given up
+pub turned_asked : (old new : Budget) → (new ≡ old) ⊎ HasGivenUp old new → HasTurned old new × (new.spent ≡ old.spent)
+turned_asked old new asked = ⊎_elim
+    (λ (a : new ≡ old). rw a (turned_none old, refl))
+    (λ (b : HasGivenUp old new).
+    let spent = b.spent in let none = b.none_left in
+    (record { limit = b.same; rises = omega arith; within = λ h. omega arith; none = λ _. spent }, spent))
+    asked
+
+-- a turn that was taken after that was left before
+pub turn_asked : (old asked new : Budget) → (asked ≡ old) ⊎ HasGivenUp old asked → 1 ≤ left_of asked → new ≡ after_one_turn asked → (1 ≤ left_of old) × (new ≡ after_one_turn old)
+turn_asked old asked new a left one = ⊎_elim
+    (λ (same : asked ≡ old). (rw same at left, one ∙ ap after_one_turn same))
+    (λ (b : HasGivenUp old asked). let none = b.none_left in absurd (omega arith))
+    a
+
+-- where none was spent, none was taken
+not_taken : (old new : Budget) → (new ≡ old) ⊎ (new ≡ after_one_turn old) → new.spent ≡ old.spent → new ≡ old
+not_taken old new one same = ⊎_elim (λ a. a) (λ b. let more : new.spent ≡ old.spent + 1 = ap (λ (t : Budget). t.spent) b in absurd (omega arith)) one
+
 -- where both parts together take no turn, neither does
-same_turns : (t u v : Budget) → HasTurned t u → HasTurned u v → v ≡ t → (u ≡ t) × (v ≡ u)
-same_turns t u v p q e =
-    let all : v.spent ≡ t.spent = ap (λ (b : Budget). b.spent) e in
-    let first = p.rises in let last = q.rises in
-    let spent : u.spent ≡ t.spent = omega arith in
-    let limit = p.limit in
-    let same : u ≡ t = λ i. record { limit = limit i; spent = spent i } in
-    (same, e ∙ sym same)
+same_turns : (t u v : Budget) → HasTurned t u → HasTurned u v → v.spent ≡ t.spent → (u.spent ≡ t.spent) × (v.spent ≡ u.spent)
+same_turns t u v p q e = let first = p.rises in let last = q.rises in (omega arith, omega arith)
 
 -- ---- one part after another
 module _ {S G N : Type 0} (m : GameModel S) where
@@ -101,7 +121,7 @@ module _ {S G N : Type 0} {m : GameModel S} {s : S} {limit : ℕ} where
   worked_by : (old new : WorkView G N) → IsBetter m old.board.total old.board new.board → HasTurned old.turns new.turns → HasCounted old.visits new.visits → new.linear ≡ old.linear
       → new.settled.keys ≡ old.settled.keys → (old.settled.was_full ≡ true → new.settled.was_full ≡ true)
       → HasKept m old → AreRemembered m new.board new.searches → (new.settled.was_full ≡ true → old.settled.was_full ≡ true ⊎ IsBoardFull m s new.board)
-      → (new.turns ≡ old.turns → Grows (IsPureEntry m old.board.total) old.board.entries new.board.entries) → IsWorkedBelow m s limit old new
+      → (new.turns.spent ≡ old.turns.spent → Grows (IsPureEntry m old.board.total) old.board.entries new.board.entries) → IsWorkedBelow m s limit old new
   worked_by old new better turned visited linear same full kept remembered cause pure = record {
     board = better;
     turns = turned;
@@ -184,7 +204,17 @@ module _ {S G N : Type 0} {m : GameModel S} {s : S} {limit : ℕ} where
   worked_turn {v} {b} {w} {new} kept later posted none one unposted is = subst (λ (x : WorkerView). IsWorkedBelow m s limit (at_work v w) (at_work b x)) (sym is)
       (worked_by (at_work v w) (at_work b (record w { turns = new.turns })) (record { later = later; posted = posted })
       (turned_step w.turns new.turns none one) (visited_none w.visits) refl refl (λ e. e) kept (remembered_later later kept.remembered) (λ e. inl e)
-      (λ e. grows_none (IsPureEntry m v.total) v.entries b.entries (unposted e)))
+      (λ e. grows_none (IsPureEntry m v.total) v.entries b.entries (unposted (not_taken w.turns new.turns one e))))
+
+  -- the gate was asked
+  pub worked_asked : {u : WorkView G N} {v : BoardView G N} {w new : WorkerView} → IsWorkedBelow m s limit u (at_work v w) → HasAsked w new → IsWorkedBelow m s limit u (at_work v new)
+  worked_asked {u} {v} {w} {new} p asked =
+      let turned = turned_asked w.turns new.turns asked.turns in
+      subst (λ (x : WorkerView). IsWorkedBelow m s limit u (at_work v x)) (sym asked.same) (worked_after p
+      (worked_by (at_work v w) (at_work v (record w { turns = new.turns }))
+      (record { later = later_refl v; posted = grows_none (IsLawfulEntry m v.total) v.entries v.entries refl })
+      turned.0 (visited_none w.visits) refl refl (λ e. e) p.kept p.kept.remembered (λ e. inl e)
+      (λ _. grows_none (IsPureEntry m v.total) v.entries v.entries refl)))
 
   -- a serial search
   pub worked_serial : {v b : BoardView G N} {w new : WorkerView} (side : Side) (most : ℕ) → HasKept m (at_work v w) → IsSerialKept m side most v b w.visits new.visits

@@ -7,7 +7,7 @@ use Rattle.sim_game.specs.Sides.{IsNoTighter}
 use Rattle.plan_book.specs.Entries.{IsLawfulEntry}
 use Rattle.plan_book.specs.Books.{Grows}
 use Rattle.plan_book.specs.Serial.{serial_bound, tree_size}
-use Rattle.matrix_game.specs.Budget.{Budget, left_of, after_one_turn}
+use Rattle.matrix_game.specs.Budget.{Budget, left_of, after_one_turn, IsSameBudget}
 use Rattle.bounds_board.specs.Views.{BoardView, IsLater, WasFull, known_bound}
 use Rattle.serial_ab.specs.Counts.{VisitsView, HasCounted, left_on}
 use Rattle.serial_ab.specs.Searches.{IsPureEntry}
@@ -28,9 +28,9 @@ pub record IsBetter {S G N : Type 0} (m : GameModel S) (total : ℕ) (old new : 
   pub later : IsLater old new
   pub posted : Grows (IsLawfulEntry m total) old.entries new.entries
 
--- turns were taken, with the same limit and within it, and none where none was left
+-- turns were taken, within the limit, and none where none was left; those that are left were given up at most where they may be
 pub record HasTurned (old new : Budget) : Type 0 where
-  pub limit : new.limit ≡ old.limit
+  pub limit : IsSameBudget old new
   pub rises : old.spent ≤ new.spent
   pub within : old.spent ≤ old.limit → new.spent ≤ new.limit
   pub none : left_of old ≡ 0 → new.spent ≡ old.spent
@@ -73,7 +73,7 @@ pub record IsWorkedBelow {S G N : Type 0} (m : GameModel S) (s : S) (limit : ℕ
   pub kept : HasKept m new
   pub cause : new.settled.was_full ≡ true → old.settled.was_full ≡ true ⊎ IsBoardFull m s new.board
   -- where it takes no turn, it posts pure plans alone
-  pub pure_alone : new.turns ≡ old.turns → Grows (IsPureEntry m old.board.total) old.board.entries new.board.entries
+  pub pure_alone : new.turns.spent ≡ old.turns.spent → Grows (IsPureEntry m old.board.total) old.board.entries new.board.entries
 
 abbrev pub IsWorked : {S G N : Type 0} → GameModel S → S → WorkView G N → WorkView G N → Type 0
 IsWorked m s old new = IsWorkedBelow m s (m.rank s) old new

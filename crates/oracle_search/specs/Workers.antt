@@ -1,8 +1,8 @@
 -- What a worker has left, and what it has done.
-use Rattle.std.specs.Prelude.{ℕ, Bool, List, true, false, [], ◌∷◌, ◌++◌}
+use Rattle.std.specs.Prelude.{◌≡◌, ◌⊎◌, ℕ, Bool, List, true, false, [], ◌∷◌, ◌++◌}
 use Rattle.matrix_game.specs.declared.solver.StageSolver.{StageSolver}
 use Rattle.matrix_game.specs.declared.solver.StageSolver.TheVariants as solvers
-use Rattle.matrix_game.specs.Budget.{Budget}
+use Rattle.matrix_game.specs.Budget.{Budget, HasGivenUp}
 use Rattle.serial_ab.specs.Counts.{VisitsView}
 use Rattle.serial_ab.specs.Tables.{TableView}
 use Rattle.bounds_board.specs.Views.{BoardView}
@@ -43,6 +43,11 @@ with_swept w key = record w { swept = w.swept ++ key ∷ [] }
 -- with no search in its table
 abbrev pub without_searches : WorkerView → WorkerView
 without_searches w = record w { searches = record w.searches { stored = [] } }
+
+-- after the gate was asked: the same, or with no turn left
+pub record HasAsked (old new : WorkerView) : Type 0 where
+  pub same : new ≡ record old { turns = new.turns }
+  pub turns : (new.turns ≡ old.turns) ⊎ HasGivenUp old.turns new.turns
 
 -- a worker and the board that it works on
 pub record WorkView (G N : Type 0) : Type 0 where

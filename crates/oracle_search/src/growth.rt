@@ -127,7 +127,7 @@ pub(crate) fn grow<G: Game, B: Bounds<G>, T: Gate>(
     }
 }
 
-/// A step of the restricted game, told to the gate before.
+/// A step of the restricted game, if the gate lets the search go on.
 pub(crate) fn take_turn<G: Game, B: Bounds<G>, T: Gate>(
     setup: &Setup<'_, G, T>,
     s: G::State,
@@ -152,10 +152,10 @@ pub(crate) fn take_turn<G: Game, B: Bounds<G>, T: Gate>(
     ensures all { HoldsAll growth.old.held → IfOk result (λ end. IsGrown end → ⊥) }
     ensures turn { IfOk result (λ _. HasTurn worker.old.turns worker.new.turns) }
     ensures spent { result ≡ Err StepFault.Spent
-        → (left_of worker.old.turns ≡ 0) × (worker.new.turns ≡ worker.old.turns) }
+        → (left_of worker.new.turns ≡ 0) × (worker.new.turns.spent ≡ worker.old.turns.spent) }
     ensures full { result ≡ Err StepFault.Full → IsBoardFull (G.model setup.now.game) s (B.view board.new) }
 {
-    setup.gate.at_turn(setup.worker, worker.turns().spent());
+    worker.ask(setup);
     growth.held.step(
         setup.game,
         Node { state: s, row },
@@ -166,7 +166,7 @@ pub(crate) fn take_turn<G: Game, B: Bounds<G>, T: Gate>(
     )
 }
 
-/// A step over numbers that were read, told to the gate before. A turn is left.
+/// A step over numbers that were read. A turn is left.
 pub(crate) fn take_turn_over<G: Game, B: Bounds<G>, T: Gate>(
     setup: &Setup<'_, G, T>,
     node: Node<G::State>,
@@ -189,7 +189,6 @@ pub(crate) fn take_turn_over<G: Game, B: Bounds<G>, T: Gate>(
     ensures all { HoldsAll held.old → IfOk result (λ end. IsGrown end → ⊥) }
     ensures turn { IfOk result (λ _. HasTurn worker.old.turns worker.new.turns) }
 {
-    setup.gate.at_turn(setup.worker, worker.turns().spent());
     held.step_over(
         setup.game,
         node,

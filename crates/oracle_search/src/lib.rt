@@ -15,6 +15,6 @@ mod worker;
 
 pub use ends::SearchEnd;
 pub use finished::Settled;
-pub use gate::{Gate, OpenGate};
+pub use gate::{Gate, OpenGate, Signal};
 pub use state::search;
 pub use worker::{MemoryLimits, Setup, Worker};

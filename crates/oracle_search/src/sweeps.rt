@@ -65,8 +65,8 @@ pub(crate) fn sweep_state<G: Game, B: Bounds<G>, T: Gate>(
 }
 
 /// Posts the best pure plans of both sides over the states after all moves, which are done, where these bring the gap to
-/// what the sweep wants, and takes a turn otherwise. The children are read into lists of the buffers, which come back
-/// unless memory runs out.
+/// what the sweep wants, and takes a turn otherwise, if the gate lets the search go on. The children are read into lists of
+/// the buffers, which come back unless memory runs out.
 fn close_in<G: Game, B: Bounds<G>, T: Gate>(
     setup: &Setup<'_, G, T>,
     sweep: &Sweep,
@@ -112,6 +112,7 @@ fn close_in<G: Game, B: Bounds<G>, T: Gate>(
         numbers.give_back(buffers);
         return Ok(None);
     }
+    worker.ask(setup);
     if worker.turns().left() == 0 {
         numbers.give_back(buffers);
         return Ok(Some(Stop::Spent));

@@ -7,10 +7,10 @@ ghost use Rattle.matrix_game.specs.Budget.{left_of};
 ghost use Rattle.matrix_game.specs.Solvers.{solver_of};
 ghost use Rattle.restricted_game.specs.Children.{HasNoRows};
 ghost use Rattle.oracle_search.specs.Workers.{is_linear, with_swept, with_key, with_full};
-ghost use Rattle.oracle_search.specs.Workers.{without_full, without_searches};
+ghost use Rattle.oracle_search.specs.Workers.{without_full, without_searches, HasAsked};
 
 use crate::finished::Settled;
-use crate::gate::Gate;
+use crate::gate::{Gate, Signal};
 use indexmap::IndexSet;
 use matrix_game::{SolverKind, StageSolver, Turns};
 use restricted_game::{ChildRows, StageBuffers};
@@ -132,6 +132,18 @@ impl Worker {
         ensures { result ≡ self.turns }
     {
         self.turns
+    }
+
+    /// Tells the gate of a turn to come, and asks it whether to go on. Where it says no, the turns that are left are given
+    /// up, if they may be.
+    pub(crate) fn ask<G: Game, T: Gate>(&mut self, setup: &Setup<'_, G, T>)
+        ensures { HasAsked self.old self.new }
+    {
+        setup.gate.at_turn(setup.worker, self.turns.spent());
+        match setup.gate.signal() {
+            Signal::GoOn => {}
+            Signal::Stop => self.turns.stop(),
+        }
     }
 
     pub(crate) fn has(&self, key: u64) -> bool

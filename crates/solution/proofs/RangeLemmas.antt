@@ -16,7 +16,7 @@ use Rattle.sim_game.specs.declared.Limits.{Limits}
 use Rattle.sim_game.specs.declared.Limits.TheVariants.{Narrow, Wide}
 use Rattle.fields.specs.Positions.{kind_of, is_narrow}
 use Rattle.certificate.specs.declared.report.Report.{Report}
-use Rattle.certificate.specs.Versions.{newest_version, game_version, limits_of, most_rows, most_moves, is_long, needs_newest, version_of}
+use Rattle.certificate.specs.Versions.{newest_version, game_version, limits_of, most_rows, most_moves, is_long, is_older, needs_newest, version_of}
 use Rattle.certificate.specs.Ranges.{IsRowInRange, IsSheetInRange}
 use Rattle.lazy_workers.proofs.SummaryLemmas.{abs_small, scaled_low, scaled_high}
 
@@ -45,9 +45,9 @@ within_version most n version true wider wide narrow = wide
 within_version most n version false wider wide narrow = wider (limits_of version) (narrow refl)
 
 -- a report that does not need it is of a position within the narrow limits, with short sheets
-needs_none : (narrow one two : Bool) → (not narrow || (one || two)) ≡ false → (narrow ≡ true) × (one ≡ false) × (two ≡ false)
-needs_none true false false e = (refl, refl, refl)
-needs_none narrow one two e = absurd (cc)
+needs_none : (narrow one two older : Bool) → (not narrow || (one || (two || not older))) ≡ false → (narrow ≡ true) × (one ≡ false) × (two ≡ false)
+needs_none true false false older e = (refl, refl, refl)
+needs_none narrow one two older e = absurd (cc)
 
 module _ (r : Report) where
   pub rows_in : (sheet : Sheet) → length sheet.rows ≤ most_rows Wide → (needs_newest r ≡ false → is_long sheet ≡ false)
@@ -57,13 +57,13 @@ module _ (r : Report) where
 
   pub moves_in : (width : ℕ) → width ≤ most_moves Wide → (is_narrow r.position ≡ true → width ≤ most_moves Narrow) → width ≤ most_moves (limits_of (version_of r))
   moves_in width wide narrow = within_version most_moves width (game_version (kind_of r.position)) (needs_newest r) (λ limits. moves_few limits width) wide
-      (λ none. narrow (needs_none (is_narrow r.position) (is_long r.one) (is_long r.two) none).0)
+      (λ none. narrow (needs_none (is_narrow r.position) (is_long r.one) (is_long r.two) (is_older r.outcome) none).0)
 
   pub short_one : needs_newest r ≡ false → is_long r.one ≡ false
-  short_one none = (needs_none (is_narrow r.position) (is_long r.one) (is_long r.two) none).1
+  short_one none = (needs_none (is_narrow r.position) (is_long r.one) (is_long r.two) (is_older r.outcome) none).1
 
   pub short_two : needs_newest r ≡ false → is_long r.two ≡ false
-  short_two none = (needs_none (is_narrow r.position) (is_long r.one) (is_long r.two) none).2
+  short_two none = (needs_none (is_narrow r.position) (is_long r.one) (is_long r.two) (is_older r.outcome) none).2
 
 module _ {S : Type 0} (m : GameModel S) (game : IsGame m) where
   row_in_range : (side : Side) (total : ℕ) (rows : List SheetRow) (r : SheetRow) → total ≤ 1048576 → IsLawfulRow m side total rows r → IsRowInRange r

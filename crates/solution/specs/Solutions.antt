@@ -1,5 +1,5 @@
 -- What a report says of a game.
-use Rattle.std.specs.Prelude.{◌≡◌, ℕ, ◌<◌, ◌≤◌, true, pos, ◌≤ℤ◌, List, length, map, All, Contains}
+use Rattle.std.specs.Prelude.{◌≡◌, ℕ, ◌<◌, ◌≤◌, Bool, true, false, pos, ◌≤ℤ◌, List, length, map, All, Contains}
 use Rattle.sim_game.specs.declared.Side.TheVariants.{One, Two}
 use Rattle.sim_game.specs.declared.Limits.TheVariants.{Narrow}
 use Rattle.sim_game.specs.Model.{GameModel}
@@ -10,7 +10,7 @@ use Rattle.plan_book.specs.Sheets.{IsLawful, plan_of, root_bound}
 use Rattle.plan_book.specs.Serial.{serial_bound}
 use Rattle.fields.specs.declared.ask.Ask.{Ask}
 use Rattle.certificate.specs.declared.report.Outcome.{Outcome}
-use Rattle.certificate.specs.declared.report.Outcome.TheVariants.{Closed, Spent, Full}
+use Rattle.certificate.specs.declared.report.Outcome.TheVariants.{Closed, Spent, Full, Stopped}
 use Rattle.fields.specs.declared.positions.PositionText.{PositionText}
 use Rattle.certificate.specs.declared.report.Report.{Report}
 use Rattle.fields.specs.Positions.{is_narrow}
@@ -22,7 +22,7 @@ use Rattle.shared_board.specs.Closing.{HasKey}
 use Rattle.matrix_game.specs.Budget.{Budget}
 use Rattle.lazy_workers.specs.declared.summary.Found.{Found}
 use Rattle.lazy_workers.specs.Findings.{found_gap}
-use Rattle.lazy_workers.specs.Keeping.{HasLimit, IsPureRow, IsSheetRowKept, AreOwed, AreRows}
+use Rattle.lazy_workers.specs.Keeping.{HasLimit, AreAllSpent, IsPureRow, IsSheetRowKept, AreOwed, AreRows}
 use Rattle.solution.specs.declared.report.Solved.{Solved}
 use Rattle.solution.specs.Outcomes.{IsOutcomeFor}
 use Rattle.lazy_workers.specs.Searched.{HasRoom, HasVisits, IsPureClose, TooFewTurns}
@@ -50,7 +50,7 @@ report_with text ask x outcome = record {
 -- what was found is reported, with the outcome of its gap
 pub record IsReportOf (text : PositionText) (ask : Ask) (x : Found) (s : Solved) : Type 0 where
   pub outcome : Outcome
-  pub is_outcome : IsOutcomeFor (found_gap x) ask.gap x.resolution x.was_full outcome
+  pub is_outcome : IsOutcomeFor (found_gap x) ask.gap x.resolution x.was_full (AreAllSpent ask x.turns) outcome
   pub is_solved : s ≡ record { report = report_with text ask x outcome; turns = x.turns; kept = x.kept }
 
 -- a game of a position within the narrow limits has no more moves of a side than these allow
@@ -65,7 +65,8 @@ pub record IsOfAsk (text : PositionText) (ask : Ask) (r : Report) : Type 0 where
   pub asked : r.asked ≡ ask.gap
   pub workers : length r.spent ≡ ask.workers
 
-pub record IsSolution {S : Type 0} (m : GameModel S) (text : PositionText) (ask : Ask) (r : Report) : Type 0 where
+-- the report is one that a search of the game may give, by a gate that may stop it or not
+pub record IsSolution {S : Type 0} (m : GameModel S) (text : PositionText) (ask : Ask) (may_stop : Bool) (r : Report) : Type 0 where
   pub of_ask : IsOfAsk text ask r
   pub in_range : IsInRange r
   pub resolution : (n : ℕ) × (r.resolution ≡ pos n) × IsResolution m ask.weight n
@@ -86,6 +87,7 @@ pub record IsSolution {S : Type 0} (m : GameModel S) (text : PositionText) (ask 
   -- what an outcome short of the resolution is owed to
   pub full : r.outcome ≡ Full → HasRoom m ask → ⊥
   pub spent : r.outcome ≡ Spent → TooFewTurns m ask
+  pub stopped : r.outcome ≡ Stopped → may_stop ≡ true
   -- with a row for each state and a visit for each node of the tree
   pub pure_lower : HasRoom m ask → HasVisits m ask → serial_bound m One m.root ≤ℤ r.lower
   pub pure_upper : HasRoom m ask → HasVisits m ask → r.upper ≤ℤ serial_bound m Two m.root
@@ -102,8 +104,8 @@ pub record IsLeft {S : Type 0} (m : GameModel S) (ask : Ask) (r : Report) (kept 
 
 -- what is told of a game: a report that is a solution, the turns of each worker, and the rows of the closed board
 pub record IsSolvedGame {S : Type 0} (m : GameModel S) (text : PositionText) (ask : Ask) (x : Solved) : Type 0 where
-  pub solution : IsSolution m text ask x.report
-  pub within : All (HasLimit ask) x.turns
+  pub solution : IsSolution m text ask false x.report
+  pub within : All (HasLimit ask false) x.turns
   -- the report tells how many of its turns each worker has spent
   pub spent : x.report.spent ≡ spent_of x.turns
   pub one_kept : All (IsSheetRowKept One x.kept) x.report.one.rows

@@ -1,9 +1,10 @@
 //! The search of a position's game, and its report.
 
-ghost use Rattle.std.specs.Prelude.{IfOk};
+ghost use Rattle.std.specs.Prelude.{false, IfOk};
 ghost use Rattle.sim_game.specs.Resolution.{IsFineWeight};
 ghost use Rattle.fields.specs.Ranges.{IsAskInRange, IsPositionInRange};
 ghost use Rattle.lazy_workers.specs.Findings.{IsFoundFor};
+ghost use Rattle.lazy_workers.specs.Keeping.{begun_whole};
 ghost use Rattle.solution.specs.Solutions.{HasWidthOf, IsSolvedGame};
 
 use crate::report::{Solved, report_of};
@@ -32,7 +33,7 @@ where
     requires width { HasWidthOf (G.model g) position }
     ensures { IfOk result (IsSolvedGame (G.model g) position ask.now) }
 {
-    let budgets = Budgets::whole(alloc, ask)?;
+    let budgets = Budgets::whole(alloc, ask, false)?;
     let found = find(rt, alloc, g, ask, budgets, gate)?;
     report_for(alloc, &g, found, position, ask)
 }
@@ -51,7 +52,7 @@ pub fn solve_alone<G: Game, T: Gate>(
     requires width { HasWidthOf (G.model g) position }
     ensures { IfOk result (IsSolvedGame (G.model g) position ask.now) }
 {
-    let budgets = Budgets::whole(alloc, ask)?;
+    let budgets = Budgets::whole(alloc, ask, false)?;
     let found = find_alone(alloc, g, ask, budgets, gate)?;
     report_for(alloc, &g, found, position, ask)
 }
@@ -67,7 +68,7 @@ fn report_for<G: Game>(
     requires ask { IsAskInRange ask.now }
     requires position { IsPositionInRange position }
     requires width { HasWidthOf (G.model g.now) position }
-    requires found { IsFoundFor (G.model g.now) ask.now 0 found }
+    requires found { IsFoundFor (G.model g.now) ask.now (begun_whole false) found }
     ensures { IfOk result (IsSolvedGame (G.model g.now) position ask.now) }
 {
     report_of(alloc, found, position, ask)

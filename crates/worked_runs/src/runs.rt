@@ -66,7 +66,7 @@ fn compare<'a, R: Threads + Abort + Sync>(
     let mut source = MemorySource::new(input, failing.0.to_vec(alloc)?);
     let room = Vec::with_capacity(alloc, 397)?;
     let mut sink = MemorySink::new(room, CHUNK, failing.1.to_vec(alloc)?);
-    let status = run(rt, alloc, &words, &mut source, &mut sink, &OpenGate);
+    let status = run(rt, alloc, &words, &mut source, &mut sink, &OpenGate, false);
     assert_eq!(rt; status, want.0, "{}", case.text);
     assert_eq!(rt; sink.written(), want.1);
     Ok(())

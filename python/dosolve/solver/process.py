@@ -1,11 +1,15 @@
 """One run of the program as a process."""
 from __future__ import annotations
 
+import math
 import os
 import subprocess
+import tempfile
 import threading
-from collections.abc import Sequence
+from collections.abc import Iterator, Sequence
+from contextlib import contextmanager
 from contextvars import ContextVar
+from pathlib import Path
 from typing import IO
 
 from ..errors import ProgramMissingError, ProgramTimeoutError
@@ -15,20 +19,51 @@ GROUP: ContextVar[int | None] = ContextVar("group", default=None)
 """The group of processes in which programs are started; None is that of this process."""
 
 
-def run(words: Sequence[str], data: bytes, follower: Follower | None,
-        timeout: float | None) -> tuple[int, str, str]:
+class Stop:
+    """What ends a search before its own end: a time, and a file, which Ctrl-C writes."""
+
+    def __init__(self, seconds: float, file: Path) -> None:
+        self.was_interrupted = False
+        self.environment = {"DOSOLVE_STOP": str(file)}
+        self._file = file
+        if seconds == 0:
+            file.touch()
+        elif not math.isinf(seconds):
+            self.environment["DOSOLVE_SECONDS"] = str(math.ceil(seconds))
+
+    @staticmethod
+    @contextmanager
+    def after(seconds: float) -> Iterator[Stop]:
+        """One that ends a search after so many seconds, which are rounded up; `inf` is never."""
+        with tempfile.TemporaryDirectory(prefix="dosolve-") as folder:
+            yield Stop(seconds, Path(folder) / "stop")
+
+    def interrupt(self) -> None:
+        """Ends the search now."""
+        self.was_interrupted = True
+        self._file.touch()
+
+
+def run(words: Sequence[str], data: bytes, follower: Follower | None, timeout: float | None,
+        stop: Stop | None = None) -> tuple[int, str, str]:
     """The status, the answer and what the program printed on standard error.
 
     Without a follower, and with DOSOLVE_PROGRESS set, standard error goes where this process's
-    goes. The program is ended with the call, whatever ends it.
+    goes. The program is ended with the call, whatever ends it; with a stop, the first Ctrl-C ends
+    the search alone, whose answer is handed back.
     """
     told: list[str] = []
     passed = follower is None and "DOSOLVE_PROGRESS" in os.environ
-    environment = os.environ | {"DOSOLVE_PROGRESS": "1"} if follower else None
+    environment = os.environ | ({"DOSOLVE_PROGRESS": "1"} if follower else {})
+    group = GROUP.get()
+    if stop is not None:
+        environment |= stop.environment
+        # Ctrl-C in a terminal goes to a whole group, and the program has to go on to its answer.
+        group = 0 if group is None else group
     try:
         process = subprocess.Popen(words, stdin=subprocess.PIPE, stdout=subprocess.PIPE,
                                    stderr=None if passed else subprocess.PIPE, env=environment,
-                                   process_group=GROUP.get())
+                                   process_group=group)
     except OSError as fault:
         raise ProgramMissingError(f"{words[0]} cannot be run: {fault}") from fault
     with process:
@@ -37,7 +72,7 @@ def run(words: Sequence[str], data: bytes, follower: Follower | None,
         listening = threading.Thread(target=_listen, args=(errors, follower, told), daemon=True)
         listening.start()
         try:
-            answer, _ = process.communicate(data, timeout)
+            answer = _answer(process, data, timeout, stop)
         except subprocess.TimeoutExpired:
             raise ProgramTimeoutError(f"{' '.join(words[1:])} took more than {timeout} "
                                       f"seconds") from None
@@ -47,6 +82,19 @@ def run(words: Sequence[str], data: bytes, follower: Follower | None,
                 process.wait()
             listening.join(1)
     return process.returncode, answer.decode("utf-8", "replace"), "\n".join(told)
+
+
+def _answer(process: subprocess.Popen[bytes], data: bytes, timeout: float | None,
+            stop: Stop | None) -> bytes:
+    """What the program prints."""
+    try:
+        answer, _ = process.communicate(data, timeout)
+    except KeyboardInterrupt:
+        if stop is None:
+            raise
+        stop.interrupt()
+        answer, _ = process.communicate()
+    return answer
 
 
 def _listen(errors: IO[bytes] | None, follower: Follower | None, told: list[str]) -> None:

@@ -13,18 +13,17 @@ from pathlib import Path
 
 from ..errors import (
     DosolveError, InputRefusedError, InvalidError, LimitReachedError, ProgramFailedError,
-    ProgramMissingError, ProgramTimeoutError, ReportRefusedError,
+    ProgramMissingError, ReportRefusedError,
 )
 from ..exact import BestResponse, expected_of, respond
-from ..games.game import SCALE, SIDES, AnyGame, Side, other, side_of
+from ..games.game import SCALE, AnyGame, Side, other, side_of
 from ..games.python_game import ALONE
 from ..limits import MOST_GAMES, MOST_SEED, WIDE
-from ..players.sheets import Sheet
 from ..positions import Position, require_position
 from ..reports import Report, explained
 from ..values import FilePath, as_field, as_number, cut, require_range, shorten
 from .library import find_library
-from .process import GROUP, run
+from .process import GROUP, Stop, run
 from .progress import Bar, Follower, Listener, Progress
 
 BLOCKS = 40
@@ -35,7 +34,6 @@ _REPOSITORY = Path(__file__).resolve().parents[3]
 _BESIDE = _REPOSITORY / "crates" / "dosolve" / "out" / "dosolve"
 _FAILURES = {6: "its standard input failed", 7: "its standard output failed",
              8: "it ran out of memory"}
-_FIRST_TURNS, _MORE_TURNS = 256, 8
 _SWEEPS = 3
 _MANY_TURNS = 10**9
 """So many turns are no limit."""
@@ -162,10 +160,11 @@ class Solver:
               progress: Listener | bool = False) -> Report:
         """The program's report on a position, whatever its outcome.
 
-        With `seconds`, the search is run with growing turns, none at first, and the best report is
-        handed back when time is up, or at Ctrl-C; each report is complete. Induction, whose bounds
-        stand at its end alone, is run with all turns then. `math.inf` goes on until the search
-        ends by itself. `progress` is a function that is called with each step
+        With `seconds`, rounded up, the search stops when time is up, or at Ctrl-C, and its report
+        has what it has found by then: the outcome is `stopped` where it has not come to its end.
+        Induction, whose bounds stand at its end alone, leaves those of pure plans then.
+        `math.inf` goes on until the search ends by itself. `progress` is a function that is called
+        with each step
         (`Progress`) about once a second, and at last with the bounds of the report; or True for a
         line on the terminal or in a notebook.
         """
@@ -187,37 +186,22 @@ class Solver:
 
     def _solve_within(self, position: Position, seconds: float, listener: Listener | None,
                       since: float) -> tuple[Report, float]:
-        """The best report, and when its search ended."""
+        """The report of a search that stops when time is up, and when it ended."""
         if not isinstance(seconds, (int, float)) or not seconds >= 0:
             raise InvalidError(f"seconds is {shorten(seconds)}, and has to be a number from 0")
-        turns = 0
-        one, two = (Sheet(position.game, side, position.weight) for side in SIDES)
-        best = Report.of(one, two, position.gap)
-        while True:
-            left = seconds - (time.monotonic() - since)
-            try:
-                if left <= 0:
-                    return _stopped(best, "time"), time.monotonic()
-                found, ended = self._solved(_step_of(position, turns), listener,
-                                            None if math.isinf(left) else left, since, best)
-            except ProgramTimeoutError:
-                return _stopped(best, "time"), time.monotonic()
-            except KeyboardInterrupt:
-                return _stopped(best, "interrupt"), time.monotonic()
-            if found.gap <= best.gap or best.is_vacuous:
-                best = found
-            if is_last(found, position):
-                return best, ended
-            more = max(_FIRST_TURNS, _MORE_TURNS * turns)
-            turns = position.turns if position.search == "induction" else min(more, position.turns)
+        with Stop.after(seconds) as stop:
+            found, ended = self._solved(position, listener, None, since, stop)
+            if found.outcome != "stopped":
+                return found, ended
+            return replace(found, stopped="interrupt" if stop.was_interrupted else "time"), ended
 
     def _solved(self, position: Position, listener: Listener | None, timeout: float | None,
-                since: float, best: Report | None = None) -> tuple[Report, float]:
+                since: float, stop: Stop | None = None) -> tuple[Report, float]:
         """The report of one run of the program, and when that ended: to read it takes time too."""
         follower = None
         if listener is not None:
-            follower = Follower(listener, since, _step(position, best, 0.0))
-        text = self._answer(["solve"], position.text(), {0, 3, 4, 5}, follower, timeout)
+            follower = Follower(listener, since, _step(position, None, 0.0))
+        text = self._answer(["solve"], position.text(), {0, 3, 4, 5}, follower, timeout, stop)
         ended = time.monotonic()
         try:
             return replace(Report.read(text, position.game), board=position.rows), ended
@@ -301,22 +285,24 @@ class Solver:
         return expected_of(report.one, report.two)
 
     def _answer(self, words: list[str], given: Report | bytes | str, good: set[int],
-                follower: Follower | None = None, timeout: float | None = None) -> str:
+                follower: Follower | None = None, timeout: float | None = None,
+                stop: Stop | None = None) -> str:
         """What the program prints with one of the good statuses; every other answer is an
         exception."""
         said = given.text() if isinstance(given, Report) else given
         if not isinstance(said, (bytes, str)):
             raise InvalidError(f"{words[0]} takes a Report or its text, not {shorten(given)}")
         data = said.encode() if isinstance(said, str) else said
-        limit = self.timeout if timeout is None else timeout
+        limit = self.timeout if timeout is None and stop is None else timeout
         # A call of the library cannot be followed, nor ended when time is up or with a sweep.
-        needs = self.program, follower, limit, GROUP.get()
+        needs = self.program, follower, limit, stop, GROUP.get()
         library = find_library() if needs == (None,) * len(needs) else None
         if library is not None:
             status, text, told = *library.answer(words, data), ""
             answer = text.decode("utf-8", "replace")
         else:
-            status, answer, told = run([find_program(self.program), *words], data, follower, limit)
+            status, answer, told = run([find_program(self.program), *words], data, follower, limit,
+                                       stop)
         if status in good:
             return answer
         raise self._refusal(words, data, status, answer.removesuffix("\n"), told)
@@ -368,21 +354,6 @@ class Solver:
                                   f"dosolve?", 0)
 
 
-def _step_of(position: Position, turns: int) -> Position:
-    """The position that a step of a search within seconds asks for. Without turns there are serial
-    searches alone, for which double oracle lists no states first, and which claim few rows."""
-    if turns or position.turns == 0:
-        return replace(position, turns=turns)
-    rows = min(position.rows, 1024 + 4 * position.visits)
-    return replace(position, turns=0, rows=rows, search="oracle")
-
-
-def is_last(report: Report, position: Position) -> bool:
-    """Whether a search within seconds ends with this report of one of its steps."""
-    more = report.turns == 0 or "turns" in report.used_up
-    return not more or report.gap <= position.gap or report.turns == position.turns
-
-
 def _step(position: Position, report: Report | None, seconds: float) -> Progress:
     """What is known of a search with this report, or with none yet."""
     count = position.game.count_states()
@@ -403,11 +374,6 @@ def _most_turns(position: Position, states: int | None) -> int | None:
         before = _SWEEPS * states if position.search == "induction" else 0
         limits.append(before + _SWEEPS * (states + position.game.root().rank))
     return position.workers * min(limits) if limits else None
-
-
-def _stopped(report: Report, what: str) -> Report:
-    """The report of a search that this ended; the same where the search was done."""
-    return report if report.gap <= report.asked else replace(report, stopped=what)
 
 
 def require_match(games: object, seed: object) -> tuple[int, int]:

@@ -14,6 +14,7 @@ from ..values import as_points
 
 _LINE = re.compile(r"worker (\d+) turns (\d+) seconds (\d+)"
                    r"(?: lower (-?\d+) upper (-?\d+) gap (\d+))?")
+_INDUCTION = re.compile(r"induction listed (\d+) valued (\d+) planned (\d+) seconds (\d+)")
 
 
 @dataclass(frozen=True)
@@ -25,6 +26,10 @@ class Progress:
     has, and `most` the most turns that the search can take; each is None where it is not known, as
     in lines that were read from a file. A search by linear stages takes at most three turns for a
     state, and none where pure plans suffice, so that it often ends long before `most`.
+
+    While an induction is under way, `listed` is how many states it has found, all of them before it
+    values the first, `valued` how many of these have a value, and `planned` how many rows of plans
+    are made; a value and a row take a turn each. Each is None where no induction is under way.
     """
 
     turns: int
@@ -33,6 +38,9 @@ class Progress:
     upper: int | None = None
     states: int | None = None
     most: int | None = None
+    listed: int | None = None
+    valued: int | None = None
+    planned: int | None = None
 
     @property
     def gap(self) -> int | None:
@@ -57,10 +65,20 @@ class Progress:
         of_most = "" if self.most is None else f" of at most {self.most}"
         states = "" if self.states is None else f" for {self.states} states"
         found = f"{self.seconds:.0f} s, {self.turns}{of_most} turns{states}"
+        if self.listed is not None:
+            return f"{self.seconds:.0f} s, {self._of_induction()}"
         if self.lower is None or self.upper is None:
             return found
         return (f"{found}, {as_points(self.lower)} to {as_points(self.upper)}, gap "
                 f"{as_points(self.upper - self.lower)}")
+
+    def _of_induction(self) -> str:
+        """The states done of how many."""
+        if not self.valued:
+            of_states = "" if self.states is None else f" of at most {self.states}"
+            return f"{self.listed}{of_states} states listed"
+        planned = f", {self.planned} rows of plans made" if self.planned else ""
+        return f"{self.valued} of {self.listed} states valued{planned}"
 
 
 @dataclass(frozen=True)
@@ -102,7 +120,7 @@ EitherListener = Callable[[Progress | PlanProgress], object]
 
 
 class _Lines:
-    """The lines that the workers of one search print, put together.
+    """The lines that the workers of one search print, and an induction before, put together.
 
     Each worker tells its own turns, and the bounds at the root as it last saw them, once it has
     seen any. All bounds are true, so the narrowest of all workers are those of the search.
@@ -116,7 +134,7 @@ class _Lines:
         """The step of a line, at these seconds or at its own; None where it is no progress."""
         found = _LINE.fullmatch(line.strip())
         if found is None:
-            return None
+            return self._take_induction(line, seconds)
         self.turns[int(found[1])] = int(found[2])
         lower, upper = self.last.lower, self.last.upper
         if found[4] is not None:
@@ -125,7 +143,19 @@ class _Lines:
             upper = told[1] if upper is None else min(told[1], upper)
         at = float(found[3]) if seconds is None else seconds
         self.last = replace(self.last, turns=sum(self.turns.values()), seconds=at, lower=lower,
-                            upper=upper)
+                            upper=upper, listed=None, valued=None, planned=None)
+        return self.last
+
+    def _take_induction(self, line: str, seconds: float | None) -> Progress | None:
+        """The step of a line of an induction, which is the first worker's; None where it is
+        none."""
+        found = _INDUCTION.fullmatch(line.strip())
+        if found is None:
+            return None
+        listed, valued, planned, at = map(int, found.groups())
+        self.turns[0] = valued + planned
+        self.last = replace(self.last, turns=sum(self.turns.values()), listed=listed, valued=valued,
+                            planned=planned, seconds=float(at) if seconds is None else seconds)
         return self.last
 
 

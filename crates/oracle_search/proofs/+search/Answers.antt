@@ -314,9 +314,9 @@ pub growth::grow-returns-in-Err-Spent-clause-ended : goal.growth::grow-returns-i
 growth::grow-returns-in-Err-Spent-clause-ended g t c =
     let goes_on = c.requires.here.has_row.goes_on in
     let spent = c.take_turn.ensures.spent (c.in-Err-Spent.is ∙ ap Err c.in-Err-Spent.field-0-is) in
-    let none = taken_by (ap (λ (b : Budget). b.spent) spent.1) (ap (λ (w : WorkerView). w.settled.keys) c.take_turn.ensures.same) in
+    let none = taken_by spent.1 (ap (λ (w : WorkerView). w.settled.keys) c.take_turn.ensures.same) in
     stopped_ended _ c.args.s goes_on _ (at_work (g.B.Bounds.view c.stopped-in-Err-Spent.new.board) c.take_turn.new.worker) c.args.target stops.Spent c.stopped-in-Err-Spent.result
-    (ap left_of spent.1 ∙ spent.0) (rw (to_z-of_z w64 c.args.target c.ranges.target) at c.stopped-in-Err-Spent.ensures.end)
+    spent.0 (rw (to_z-of_z w64 c.args.target c.ranges.target) at c.stopped-in-Err-Spent.ensures.end)
     (growing_stopped goes_on (passed g t (goal.at.growth::grow-returns-in-Err-Spent-clause-ended g t c).In-Ok-None) c.take_turn.ensures.worked none)
 
 pub growth::grow-returns-in-Err-Full-clause-worked : goal.growth::grow-returns-in-Err-Full-clause-worked

@@ -1,5 +1,4 @@
-use Rattle.std.proofs.Common.{rules, ◌≡◌, ℕ, Ok, None, sym, ap, ◌∙◌}
-use Rattle.certificate.specs.declared.report.Report.{Report}
+use Rattle.std.proofs.Common.{rules, ◌≡◌, Ok, None}
 use Rattle.certificate.specs.Reading.{named_report}
 use Rattle.certificate.specs.Versions.{limits_of, version_of}
 use Rattle.position.specs.Games.{fault_of}

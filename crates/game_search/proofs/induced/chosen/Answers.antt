@@ -1,4 +1,4 @@
-use Rattle.std.proofs.Common.{rules, ◌≡◌, ◌⊎◌, ◌≤◌, ⊎_elim, length, w64, SFits, sym, subst, arith}
+use Rattle.std.proofs.Common.{rules, ◌≡◌, ◌⊎◌, ⊎_elim, w64, SFits, sym, subst, arith}
 use Rattle.std.proofs.lemmas.Int.{to_z-of_z}
 use Rattle.sim_game.specs.Sides.{IsNoTighter}
 use Rattle.lazy_workers.specs.Findings.{IsFoundPlan}

@@ -1,6 +1,5 @@
 use Rattle.std.proofs.Common.{rules, ◌≡◌, ◌⊎◌, ⊎_elim, All, w64, SFits, sym, subst}
 use Rattle.std.proofs.lemmas.Int.{to_z-of_z}
-use Rattle.sim_game.specs.declared.Side.{Side}
 use Rattle.sim_game.specs.declared.Side.TheVariants.{One, Two}
 use Rattle.sim_game.specs.Sides.{IsNoTighter}
 use Rattle.sim_game.proofs.SideLemmas.{looser_refl}
@@ -12,7 +11,7 @@ use Rattle.game_search.proofs.search.bettered.Goals as goal
 pub returns-then-is_idle : goal.returns-then-is_idle
 returns-then-is_idle g c =
     let x = c.args.found in
-    bettered_found (g.G.Game.model c.args.g) c.args.ask.now c.args.plans c.args.most x (record { sheet = x.one; bound = x.lower }) (record { sheet = x.two; bound = x.upper })
+    bettered_found (g.G.Game.model c.args.g) c.args.ask.now c.args.plans c.args.begun x (record { sheet = x.one; bound = x.lower }) (record { sheet = x.two; bound = x.upper })
     c.requires.search c.requires.left c.requires.found c.requires.found.game.one c.requires.found.game.two (looser_refl One x.lower) (looser_refl Two x.upper)
 
 pub returns : goal.returns
@@ -38,4 +37,4 @@ returns g c =
     (λ other. subst (λ (p : Plan). IsFoundPlan m ask (IsIdle m ask x) Two p.sheet p.bound) (sym other) c.requires.found.game.two)
     either_two in
     rw (to_z-of_z w64 one.bound one_fits, to_z-of_z w64 two.bound two_fits, to_z-of_z w64 x.resolution resolution_fits)
-    (bettered_found m ask c.args.plans c.args.most x one two c.requires.search c.requires.left c.requires.found is_one is_two low high)
+    (bettered_found m ask c.args.plans c.args.begun x one two c.requires.search c.requires.left c.requires.found is_one is_two low high)

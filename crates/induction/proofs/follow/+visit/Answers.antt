@@ -53,7 +53,7 @@ returns-in_err-below-clause-err g t c =
     stopped_here m ⊥ m.key (λ key. is_some (key_place c.args.walk.now.seen key)) (length c.args.walk.now.states.items) c.requires.followed.known c.args.s
     (reached_reachable m c.args.side (planned c.args.walk.now.states.items) c.args.s c.requires.reached) c.if-is_decided.ensures
     (ap (λ (k : ℕ). is_some (key_place c.args.walk.now.seen k)) (sym c.key-key.ensures) ∙ sym c.contains.ensures ∙ c.if-contains.false)
-    _ _ e c.propose.ensures.spent (no_memory ⊥ _ e is))
+    _ _ e c.propose.ensures.spent (no_memory ⊥ (g.P.Proposer.turns c.propose.new.self) e is))
 
 pub returns-in_err-add-clause-err : goal.returns-in_err-add-clause-err
 returns-in_err-add-clause-err g t c =
@@ -62,7 +62,7 @@ returns-in_err-add-clause-err g t c =
     stopped_here m ⊥ m.key (λ key. is_some (key_place c.args.walk.now.seen key)) (length c.args.walk.now.states.items) c.requires.followed.known c.args.s
     (reached_reachable m c.args.side (planned c.args.walk.now.states.items) c.args.s c.requires.reached) c.if-is_decided.ensures
     (ap (λ (k : ℕ). is_some (key_place c.args.walk.now.seen k)) (sym c.key-key.ensures) ∙ sym c.contains.ensures ∙ c.if-contains.false)
-    _ _ e c.propose.ensures.spent (no_memory ⊥ _ e is))
+    _ _ e c.propose.ensures.spent (no_memory ⊥ (g.P.Proposer.turns c.propose.new.self) e is))
 
 pub returns-in_err-push-clause-err : goal.returns-in_err-push-clause-err
 returns-in_err-push-clause-err g t c =
@@ -71,7 +71,7 @@ returns-in_err-push-clause-err g t c =
     stopped_here m ⊥ m.key (λ key. is_some (key_place c.args.walk.now.seen key)) (length c.args.walk.now.states.items) c.requires.followed.known c.args.s
     (reached_reachable m c.args.side (planned c.args.walk.now.states.items) c.args.s c.requires.reached) c.if-is_decided.ensures
     (ap (λ (k : ℕ). is_some (key_place c.args.walk.now.seen k)) (sym c.key-key.ensures) ∙ sym c.contains.ensures ∙ c.if-contains.false)
-    _ _ e c.propose.ensures.spent (no_memory ⊥ _ e is))
+    _ _ e c.propose.ensures.spent (no_memory ⊥ (g.P.Proposer.turns c.propose.new.self) e is))
 
 pub loop-child-init : goal.loop-child-init
 loop-child-init g t c =

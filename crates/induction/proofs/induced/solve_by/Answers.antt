@@ -5,11 +5,11 @@ use Rattle.induction.proofs.SolvedLemmas.{err_solved, nothing_solved, made_solve
 use Rattle.induction.proofs.induced.solve_by.Goals as goal
 
 pub returns-in_err-known : goal.returns-in_err-known
-returns-in_err-known g c = err_solved (g.G.Game.model c.args.g) c.args.total c.args.rows _ c.from_residual.result c.args.turns.now c.from_residual.ensures.1
+returns-in_err-known g c = err_solved (g.G.Game.model c.args.g) c.args.terms.total c.args.terms.rows _ c.from_residual.result c.args.turns.now c.from_residual.ensures.1
 
 pub returns-in-Ok : goal.returns-in-Ok
 returns-in-Ok g c =
-    let m = g.G.Game.model c.args.g in let total = c.args.total in let rows = c.args.rows in
+    let m = g.G.Game.model c.args.g in let total = c.args.terms.total in let rows = c.args.terms.rows in
     let first : c.new-values.result.turns ≡ c.args.turns.now = c.new-values.ensures.turns ∙ c.replace.ensures.value in
     let v : HasValues m rows c.args.turns.now c.into_parts-known.result.1 = rw (c.new-values.ensures.rows, first, ← c.into_parts-known.ensures) at c.in_default.ensures.valued in
     let p : AreBothSheets m total rows c.into_parts-known.result.1 c.both_sheets-found.result.1 (Ok (c.in-Ok.one, c.in-Ok.two)) =
@@ -19,7 +19,7 @@ returns-in-Ok g c =
 
 pub returns : goal.returns
 returns g c =
-    let m = g.G.Game.model c.args.g in let total = c.args.total in let rows = c.args.rows in
+    let m = g.G.Game.model c.args.g in let total = c.args.terms.total in let rows = c.args.terms.rows in
     let first : c.new-values.result.turns ≡ c.args.turns.now = c.new-values.ensures.turns ∙ c.replace.ensures.value in
     let v : HasValues m rows c.args.turns.now c.into_parts-known.result.1 = rw (c.new-values.ensures.rows, first, ← c.into_parts-known.ensures) at c.in_default.ensures.valued in
     let p : AreBothSheets m total rows c.into_parts-known.result.1 c.both_sheets-found.result.1 (Err c.in-Err-found.e) =

@@ -16,9 +16,12 @@ pub returns-in_err-take_rank-clause-err : goal.returns-in_err-take_rank-clause-e
 returns-in_err-take_rank-clause-err g c =
     let m = g.G.Game.model c.args.g in
     let many = length c.in_ok-states.states.items in
+    let Many = HasUndecided m (c.args.values.now.rows + 1) in
+    let old = c.args.values.now.turns in
+    let new = c.loop-below.values.turns in
     err_is (λ e. e ≡ NoMemory) _ _ c.from_residual-in_err-take_rank.ensures.1 (λ e is.
-    stopped_at m (HasUndecided m (c.args.values.now.rows + 1)) 0 many c.args.values.now.turns c.loop-below.values.turns e (no_memory (HasUndecided m (c.args.values.now.rows + 1)) _ e is)
-    c.in_ok-states.ensures.listed.known_are.undecided (none_missing c.loop-below.missing many c.args.values.now.turns c.loop-below.values.turns c.loop-below.invariant.spent))
+    stopped_at m Many 0 many old new e (no_memory Many new e is) c.in_ok-states.ensures.listed.known_are.undecided
+    (none_missing c.loop-below.missing many old new c.loop-below.invariant.spent))
 
 pub returns-in_err-give-clause-err : goal.returns-in_err-give-clause-err
 returns-in_err-give-clause-err g c =

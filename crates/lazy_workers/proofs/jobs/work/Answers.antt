@@ -11,6 +11,7 @@ use Rattle.oracle_search.specs.Workers.{at_start, at_work, is_linear}
 use Rattle.oracle_search.specs.Searches.{IsWorked}
 use Rattle.oracle_search.proofs.WorkLemmas.{kept_none}
 use Rattle.oracle_search.specs.declared.ends.SearchEnd.TheVariants.{Full}
+use Rattle.lazy_workers.specs.Keeping.{HasLimit}
 use Rattle.lazy_workers.specs.Workers.{HaveFound, HasView, rows_of}
 use Rattle.serial_ab.specs.Searches.{IsPureEntry}
 use Rattle.lazy_workers.proofs.WorkerLemmas.{AreTaken, of_limits, found, pure_alone}
@@ -36,9 +37,9 @@ returns g c =
     let total : last.board.total ≡ ask.weight = worked.board.later.total ∙ ap (λ b. b.total) c.new-desk.ensures.board ∙ c.requires.board.total in
     let none = ap (λ w. record w.settled { was_full = false }) c.new-state.ensures in
     let turns = ap (λ w. w.turns) c.new-state.ensures in
-    let limit = ap (λ t. t.limit) turns ∙ c.requires.job.limit.limit in
-    let begun = subst (λ t. t.spent ≤ c.args.most) (sym turns) c.requires.job.begun in
-    let inside = subst (λ t. t.spent ≤ t.limit) (sym turns) (omega (arith, c.requires.job.limit.limit, c.requires.job.limit.spent)) in
+    let limit = subst (HasLimit ask c.args.begun.may_stop) (sym turns) c.requires.job.limit in
+    let begun = subst (λ t. t.spent ≤ c.args.begun.spent) (sym turns) c.requires.job.begun in
+    let inside = subst (λ t. t.spent ≤ t.limit) (sym turns) c.requires.job.limit.spent in
     let rows = worked.board.later.rows ∙ ap (λ b. b.rows) c.new-desk.ensures.board ∙ c.requires.board.rows in
     let weight : 1 ≤ ask.weight = omega (arith, c.requires.board.asked.weight.0) in
     let ends = rw (c.root.ensures, gap) at c.in_ok-end.ensures.ends in
@@ -49,14 +50,14 @@ returns g c =
     (λ (a : (ask.stages ≡ Regret) × (is_linear (solver_of c.limits_for.result.stages) ≡ false)). inl (a.0, few (linear ∙ a.1)))
     (λ (b : (ask.stages ≡ Linear) × (is_linear (solver_of c.limits_for.result.stages) ≡ true)). inr (b.0, owed (linear ∙ b.1)))
     (of_limits ask.workers ask.stages c.limits_for.result c.limits_for.ensures.few c.limits_for.ensures.many) in
-    let of_worker = found m (g.met.G.Game.lawful c.args.g) ask c.args.most start last c.in_ok-end.end rows total weight c.requires.board.goes_on none limit begun inside worked ends takes
+    let of_worker = found m (g.met.G.Game.lawful c.args.g) ask c.args.begun start last c.in_ok-end.end rows total weight c.requires.board.goes_on none limit begun inside worked ends takes
     (ap (λ w. w.visits) c.new-state.ensures ∙ c.new-visits.ensures) (λ visits quiet. pure.tight visits quiet c.requires.board.goes_on) (rowed c.requires.board.goes_on) pure.at_once in
     let desk = c.search.new.board in
     let game_is : desk.board.game ≡ c.args.g = worked.board.later.game ∙ ap (λ x. x.game) c.new-desk.ensures.board ∙ c.requires.board.game in
     let to : pass_of c.into_bare.result ≡ desk.pass = c.into_bare.ensures.same ∙ c.into_pass.ensures.pass in
-    let at_game : HaveFound m ask c.args.most (seen_by m desk.pass.view) (λ row key. known_key desk.pass.view.keys row ≡ Some key) (c.in_ok-end.end ≡ Full) (c.into_turns.result ∷ []) =
-    subst (λ x. HaveFound m ask c.args.most (seen_by (model x) desk.pass.view) (λ row key. known_key desk.pass.view.keys row ≡ Some key) (c.in_ok-end.end ≡ Full) (c.into_turns.result ∷ [])) game_is
-    (subst (λ t. HaveFound m ask c.args.most last.board.seen (λ row key. last.board.key_at row ≡ Some key) (c.in_ok-end.end ≡ Full) (t ∷ [])) (sym c.into_turns.ensures) of_worker) in
+    let at_game : HaveFound m ask c.args.begun (seen_by m desk.pass.view) (λ row key. known_key desk.pass.view.keys row ≡ Some key) (c.in_ok-end.end ≡ Full) (c.into_turns.result ∷ []) =
+    subst (λ x. HaveFound m ask c.args.begun (seen_by (model x) desk.pass.view) (λ row key. known_key desk.pass.view.keys row ≡ Some key) (c.in_ok-end.end ≡ Full) (c.into_turns.result ∷ [])) game_is
+    (subst (λ t. HaveFound m ask c.args.begun last.board.seen (λ row key. last.board.key_at row ≡ Some key) (c.in_ok-end.end ≡ Full) (t ∷ [])) (sym c.into_turns.ensures) of_worker) in
     let from = c.new-desk.ensures.pass ∙ c.from_bare.ensures in
     let ours : IsPassOf c.args.board.now (pass_of c.into_bare.result) = record {
       name = ap (λ p. p.name) to ∙ ap (λ n. n.table) worked.board.later.name ∙ ap (λ p. p.name) from ∙ c.requires.job.pass.ours.name;
@@ -64,13 +65,13 @@ returns g c =
       total = ap (λ p. p.total) c.into_bare.ensures.same ∙ c.into_pass.ensures.ours.total ∙ total ∙ sym c.requires.board.total;
     } in
     let entries : start.board.entries ≡ [] = ap (λ p. p.entries) from ∙ c.requires.job.none in
-    let alone = pure_alone m (g.met.G.Game.lawful c.args.g) ask c.args.most start last c.in_ok-end.end rows total weight c.requires.board.goes_on none limit begun inside worked ends takes entries in
+    let alone = pure_alone m (g.met.G.Game.lawful c.args.g) ask c.args.begun start last c.in_ok-end.end rows total weight c.requires.board.goes_on none limit begun inside worked ends takes entries in
     record {
       alone = λ unspent. subst (λ p. All (IsPureEntry m ask.weight) p.entries) (sym to) (alone (ap (λ t. t.spent) (sym c.into_turns.ensures) ∙ unspent));
-      pass = pass_later model c.args.g c.args.board.now ask c.args.most c.args.job.pass c.into_bare.result c.new-desk.result desk from to
+      pass = pass_later model c.args.g c.args.board.now ask c.args.begun c.args.job.pass c.into_bare.result c.new-desk.result desk from to
           worked.board.later.name c.into_bare.ensures.sound ours c.requires.job.pass;
-      found = subst (λ p. HasView m ask c.args.most p.view (c.in_ok-end.end ≡ Full) (c.into_turns.result ∷ [])) (sym to)
-          (seen_later m ask c.args.most (seen_by m desk.pass.view) (seen_by m desk.pass.view) (λ row key. known_key desk.pass.view.keys row ≡ Some key)
+      found = subst (λ p. HasView m ask c.args.begun p.view (c.in_ok-end.end ≡ Full) (c.into_turns.result ∷ [])) (sym to)
+          (seen_later m ask c.args.begun (seen_by m desk.pass.view) (seen_by m desk.pass.view) (λ row key. known_key desk.pass.view.keys row ≡ Some key)
           (rows_of desk.pass.view) (λ side key. looser_refl side (seen_by m desk.pass.view side key)) (has_key_of desk.pass.view.keys)
           (c.in_ok-end.end ≡ Full) (c.into_turns.result ∷ []) at_game);
     }

@@ -14,7 +14,7 @@ returns g c =
     let upper = to_z-of_z w64 c.bound_of-upper.result upper_fits in
     let resolution = to_z-of_z w64 c.resolution-resolution.result resolution_fits in
     let is = c.resolution-resolution.ensures.is in
-    is_found m game c.args.ask.now c.args.most c.requires.ask c.args.gathered.book.entries _ c.requires.searched c.in_ok-one.ensures.side c.in_ok-two.ensures.side
+    is_found m game c.args.ask.now c.args.begun c.requires.ask c.args.gathered.book.entries _ c.requires.searched c.in_ok-one.ensures.side c.in_ok-two.ensures.side
     (c.in_ok-one.ensures.total ∙ c.requires.total) (c.in_ok-two.ensures.total ∙ c.requires.total)
     c.in_ok-one.ensures.lawful c.in_ok-two.ensures.lawful c.in_ok-one.ensures.best c.in_ok-two.ensures.best
     (lower ∙ rw c.root.ensures at c.bound_of-lower.ensures) (upper ∙ rw c.root-2.ensures at c.bound_of-upper.ensures)

@@ -5,7 +5,7 @@ use Rattle.lazy_workers.proofs.workers.+work_all.Goals as goal
 
 pub work_all-requires : goal.work_all-requires
 work_all-requires g t c κs within =
-    let is_job = IsJob g.G.Game.model c.args.board.now c.args.ask.now c.args.most in
+    let is_job = IsJob g.G.Game.model c.args.board.now c.args.ask.now c.args.begun in
     let popped = All-pop is_job c.args.jobs.items c.pop.new.self.items (Some c.in-Some.job) c.in-Some.ensures.items c.requires.jobs in
     let shorter : length c.args.jobs.items ≡ length c.pop.new.self.items + 1 = rw (c.in-Some.ensures.items) (search rules) in (
       omega (arith, shorter, c.decreases),

@@ -17,8 +17,8 @@ returns-in-Ok-clause-searched g c =
     let total : lead.total ≡ ask.weight = c.in_ok-was_full.ensures.ours.total ∙ c.requires.board.total in
     let closed : IsClosed m ask.weight entries = rw (c.in-Ok.ensures.entries) (rw (c.requires.board.game, total) at c.in-Ok.ensures.closed) in
     let kept : AreKeptRows m ask.rows lead.view entries c.in-Ok.closed.kept = rw (c.in-Ok.ensures.entries) (rw (c.requires.board.game, c.requires.board.rows) at c.in-Ok.ensures.kept) in
-    subst (λ (l : List Budget). IsSearched m ask c.args.most entries c.in-Ok.closed.kept l c.in_ok-was_full.was_full) (sym c.from_vec.ensures)
-    (joined_searched m (g.met.G.Game.lawful c.args.g) ask c.args.most lead.view entries c.in-Ok.closed.kept kept closed c.requires.board.goes_on turns
+    subst (λ (l : List Budget). IsSearched m ask c.args.begun entries c.in-Ok.closed.kept l c.in_ok-was_full.was_full) (sym c.from_vec.ensures)
+    (joined_searched m (g.met.G.Game.lawful c.args.g) ask c.args.begun lead.view entries c.in-Ok.closed.kept kept closed c.requires.board.goes_on turns
     c.in_ok-was_full.was_full c.in_ok-was_full.ensures.joined (search rules) (λ none. rw c.in-Ok.ensures.entries (c.in_ok-was_full.ensures.alone none)))
 
 pub returns-in-Ok-clause-tight : goal.returns-in-Ok-clause-tight
@@ -31,4 +31,4 @@ returns-in-Ok-clause-tight g c =
     let closed : IsClosed m ask.weight entries = rw (c.in-Ok.ensures.entries) (rw (c.requires.board.game, total) at c.in-Ok.ensures.closed) in
     let kept : AreKeptRows m ask.rows lead.view entries c.in-Ok.closed.kept = rw (c.in-Ok.ensures.entries) (rw (c.requires.board.game, c.requires.board.rows) at c.in-Ok.ensures.kept) in
     none_forgotten g.G.Game.model c.args.g lead.view (λ side. book_bound m entries side m.root)
-    (root_tighter m (g.met.G.Game.lawful c.args.g) ask c.args.most lead.view entries c.in-Ok.closed.kept kept closed c.requires.board.goes_on) c.args.found.items c.in_ok-was_full.ensures.tight
+    (root_tighter m (g.met.G.Game.lawful c.args.g) ask c.args.begun lead.view entries c.in-Ok.closed.kept kept closed c.requires.board.goes_on) c.args.found.items c.in_ok-was_full.ensures.tight

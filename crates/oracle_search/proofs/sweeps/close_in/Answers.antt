@@ -1,5 +1,6 @@
-use Rattle.std.proofs.Common.{◌≡◌, true, Err, refl, ap, ◌∙◌}
+use Rattle.std.proofs.Common.{rules, ◌≡◌, true, Err, refl, ap, ◌∙◌}
 use Rattle.sim_game.specs.Model.{LeadsTo}
+use Rattle.matrix_game.specs.Budget.{left_of}
 use Rattle.bounds_board.proofs.FullLemmas.{full_weaker}
 use Rattle.bounds_board.proofs.ViewLemmas.{later_trans}
 use Rattle.restricted_game.specs.Stages.{AreStageNumbers}
@@ -9,11 +10,11 @@ use Rattle.oracle_search.specs.Finished.{IsClose}
 use Rattle.oracle_search.specs.Workers.{WorkerView, at_work}
 use Rattle.oracle_search.specs.Searches.{IsWorked, IsBoardFull}
 use Rattle.oracle_search.proofs.GrowLemmas.{stop_full}
-use Rattle.oracle_search.proofs.SweepLemmas.{swept_by, swept_none, swept_full, swept_added, swept_read, one_full, one_added, close_full}
-use Rattle.oracle_search.proofs.WorkLemmas.{worked_none, worked_after, worked_read, worked_posted, at_row_after}
+use Rattle.oracle_search.proofs.SweepLemmas.{swept_by, swept_none, swept_full, swept_added, swept_read, one_full, one_added, one_none, close_full}
+use Rattle.oracle_search.proofs.WorkLemmas.{worked_none, worked_after, worked_read, worked_posted, worked_asked, turned_asked, turn_asked, at_row_after}
 use Rattle.oracle_search.proofs.sweeps.close_in.Given.{Over}
 use Rattle.oracle_search.proofs.sweeps.close_in.Goals as goal
-use Rattle.oracle_search.proofs.sweeps.close_in.Goals.{After-post_alone, After-is_within, After-take_turn_over, In-Ok-take_turn_over, In-Err-Full}
+use Rattle.oracle_search.proofs.sweeps.close_in.Goals.{After-post_alone, After-is_within, After-ask, After-take_turn_over, In-Ok-take_turn_over, In-Err-Full}
 
 -- what was read, and posted alone
 posted : (g : Over) (c : After-post_alone g) → IsWorked (g.G.Game.model c.args.setup.now.game) c.args.node.state (at_work (g.B.Bounds.view c.args.board.now) c.args.worker.now)
@@ -31,12 +32,22 @@ near g c = (
       (later_trans _ _ _ c.post_alone.ensures.later c.is_within.ensures.later) c.in-Ok.ensures.read,
 )
 
+-- and the gate was asked
+told : (g : Over) (c : After-ask g) → IsWorked (g.G.Game.model c.args.setup.now.game) c.args.node.state (at_work (g.B.Bounds.view c.args.board.now) c.args.worker.now)
+    (at_work (g.B.Bounds.view c.is_within.new.board) c.ask.new.self)
+told g c = worked_asked (worked_read
+    (worked_posted (worked_read (worked_none c.requires.here.kept) c.read.ensures.later c.read.ensures.entries) c.post_alone.ensures.later c.post_alone.ensures.posted)
+    c.is_within.ensures.later c.is_within.ensures.entries) c.ask.ensures
+
 -- a turn
 turned : (g : Over) (c : After-take_turn_over g) → IsWorked (g.G.Game.model c.args.setup.now.game) c.args.node.state (at_work (g.B.Bounds.view c.args.board.now) c.args.worker.now)
     (at_work (g.B.Bounds.view c.take_turn_over.new.board) c.take_turn_over.new.worker)
-turned g c = worked_after (worked_read
+turned g c = worked_after (worked_asked (worked_read
     (worked_posted (worked_read (worked_none c.requires.here.kept) c.read.ensures.later c.read.ensures.entries) c.post_alone.ensures.later c.post_alone.ensures.posted)
-    c.is_within.ensures.later c.is_within.ensures.entries) c.take_turn_over.ensures.worked
+    c.is_within.ensures.later c.is_within.ensures.entries) c.ask.ensures) c.take_turn_over.ensures.worked
+
+swept_as : (g : Over) (c : After-take_turn_over g) → c.take_turn_over.new.worker.swept ≡ c.args.worker.now.swept
+swept_as g c = ap (λ (w : WorkerView). w.swept) c.take_turn_over.ensures.same ∙ ap (λ (w : WorkerView). w.swept) c.ask.ensures.same
 
 closed : (g : Over) (c : In-Ok-take_turn_over g) → c.args.sweep.now.is_last ≡ true → IsClose (g.G.Game.model c.args.setup.now.game) (g.B.Bounds.view c.take_turn_over.new.board) c.args.node.state
 closed g c last =
@@ -78,10 +89,15 @@ returns-then-is_within-clause-swept g c =
 
 pub returns-then-left-eq0-clause-swept : goal.returns-then-left-eq0-clause-swept
 returns-then-left-eq0-clause-swept g c =
-    swept_by (swept_none c.requires.here.kept c.requires.swept) (near g (goal.at.returns-then-left-eq0-clause-swept g c).After-is_within).0 refl
+    swept_by (swept_none c.requires.here.kept c.requires.swept) (told g (goal.at.returns-then-left-eq0-clause-swept g c).After-ask) (ap (λ (w : WorkerView). w.swept) c.ask.ensures.same)
+
+pub returns-then-left-eq0-clause-ended : goal.returns-then-left-eq0-clause-ended
+returns-then-left-eq0-clause-ended g c =
+    let none : left_of c.ask.new.self.turns ≡ 0 = search rules in
+    (none, one_none (turned_asked _ _ c.ask.ensures.turns).1 (ap (λ (w : WorkerView). w.swept) c.ask.ensures.same))
 
 pub take_turn_over-requires-clause-here : goal.take_turn_over-requires-clause-here
-take_turn_over-requires-clause-here g c = at_row_after c.requires.here (near g (goal.at.take_turn_over-requires-clause-here g c).After-is_within).0
+take_turn_over-requires-clause-here g c = at_row_after c.requires.here (told g (goal.at.take_turn_over-requires-clause-here g c).After-ask)
 
 pub take_turn_over-requires-clause-read : goal.take_turn_over-requires-clause-read
 take_turn_over-requires-clause-read g c = record { since = g.B.Bounds.view c.args.board.now; are = (near g (goal.at.take_turn_over-requires-clause-read g c).After-is_within).1 }
@@ -93,22 +109,23 @@ returns-in-Ok-add_swept-clause-swept g c =
     let here = c.requires.here in
     swept_added (g.met.G.Game.lawful c.args.setup.now.game) c.args.node.state here.reachable c.args.node.row here.has_row.goes_on
     ((turned g k.After-take_turn_over).board.later.keys c.args.node.row _ here.has_row.holds) (closed g k.In-Ok-take_turn_over)
-    (rw (ap (λ (w : WorkerView). w.swept) c.take_turn_over.ensures.same) c.requires.unmet)
-    (swept_by (swept_none here.kept c.requires.swept) (turned g k.After-take_turn_over) (ap (λ (w : WorkerView). w.swept) c.take_turn_over.ensures.same))
+    (rw (swept_as g k.After-take_turn_over) c.requires.unmet)
+    (swept_by (swept_none here.kept c.requires.swept) (turned g k.After-take_turn_over) (swept_as g k.After-take_turn_over))
     (rw c.key.ensures at c.in-Ok-add_swept.ensures.ok)
 
 pub returns-in-Ok-add_swept-clause-ended : goal.returns-in-Ok-add_swept-clause-ended
 returns-in-Ok-add_swept-clause-ended g c = (
   λ last goes_on. closed g (goal.at.returns-in-Ok-add_swept-clause-ended g c).In-Ok-take_turn_over last,
-  one_added c.key.result c.in-Ok-take_turn_over.ensures.turn (ap (λ (w : WorkerView). w.swept) c.take_turn_over.ensures.same) c.in-Ok-add_swept.ensures.ok,
+  one_added c.key.result (turn_asked _ _ _ c.ask.ensures.turns c.in-Ok-take_turn_over.ensures.turn.0 c.in-Ok-take_turn_over.ensures.turn.1)
+      (swept_as g (goal.at.returns-in-Ok-add_swept-clause-ended g c).After-take_turn_over) c.in-Ok-add_swept.ensures.ok,
 )
 
 pub returns-in-Err-add_swept-clause-swept : goal.returns-in-Err-add_swept-clause-swept
 returns-in-Err-add_swept-clause-swept g c = rw c.in-Err-add_swept.ensures.err
     (swept_by (swept_none c.requires.here.kept c.requires.swept) (turned g (goal.at.returns-in-Err-add_swept-clause-swept g c).After-take_turn_over)
-    (ap (λ (w : WorkerView). w.swept) c.take_turn_over.ensures.same))
+    (swept_as g (goal.at.returns-in-Err-add_swept-clause-swept g c).After-take_turn_over))
 
 pub returns-in-Err-take_turn_over-clause-swept : goal.returns-in-Err-take_turn_over-clause-swept
 returns-in-Err-take_turn_over-clause-swept g c =
     swept_by (swept_none c.requires.here.kept c.requires.swept) (turned g (goal.at.returns-in-Err-take_turn_over-clause-swept g c).After-take_turn_over)
-    (ap (λ (w : WorkerView). w.swept) c.take_turn_over.ensures.same)
+    (swept_as g (goal.at.returns-in-Err-take_turn_over-clause-swept g c).After-take_turn_over)

@@ -1,3 +1,4 @@
+use Rattle.std.proofs.Common.{false}
 use Rattle.std.proofs.lemmas.Result.{IfOk-weaker}
 use Rattle.lazy_workers.proofs.FoundLemmas.{found_game}
 use Rattle.solution.specs.Solutions.{IsSolvedGame}
@@ -5,7 +6,7 @@ use Rattle.solution.proofs.ReportLemmas.{has_gap, solved_game}
 use Rattle.solution.proofs.search.report_for.Goals as goal
 
 pub report_of-requires : goal.report_of-requires
-report_of-requires g c = has_gap (g.G.Game.model c.args.g.now) c.args.ask.now c.args.found (found_game (g.G.Game.model c.args.g.now) c.args.ask.now c.args.found c.requires.found)
+report_of-requires g c = has_gap (g.G.Game.model c.args.g.now) c.args.ask.now false c.args.found (found_game (g.G.Game.model c.args.g.now) c.args.ask.now false c.args.found c.requires.found)
 
 pub returns : goal.returns
 returns g c =

@@ -4,5 +4,5 @@ use Rattle.induction.proofs.values.Values.give.Given as goal
 abbrev pub invariant-loop-place : goal.invariant-loop-place
 invariant-loop-place g l = record {
   rows : l.self.rows ≡ l.fn.self.rows;
-  turns : l.self.turns ≡ record { limit = l.fn.self.turns.limit; spent = l.fn.self.turns.spent + l.count };
+  turns : l.self.turns ≡ record l.fn.self.turns { spent = l.fn.self.turns.spent + l.made };
 }

@@ -442,6 +442,7 @@ class Explore(Command):
     def run(self, words: Namespace) -> None:
         require_output(words.output, words.report, *([words.against] if words.against else []))
         report = read_report(words.report)
+        _require_right(report, words)
         against = read_report(words.against) if words.against else None
         made = explore.save(report, words.output, against, words.most_states)
         if words.json:
@@ -696,6 +697,17 @@ def _sides(words: Namespace) -> tuple[Side, ...]:
 
 def _solver(words: Namespace) -> Solver:
     return Solver(words.program)
+
+
+def _require_right(report: Report, words: Namespace) -> None:
+    """Refuses a report that `check` refuses; where no program is found, a note says so."""
+    try:
+        with naming(words.report):
+            _solver(words).check(report)
+    except ProgramMissingError as fault:
+        if words.program is not None:
+            raise
+        print(f"dosolve: note {words.report} was not checked: {fault}", file=sys.stderr)
 
 
 def _print_record(record: object) -> None:

@@ -2,6 +2,7 @@
 import contextlib
 import io
 import json
+import os
 import random
 import re
 import subprocess
@@ -414,10 +415,13 @@ class Commands(unittest.TestCase):
         position = TOP / "examples" / "goofspiel_five.json"
         named = self.folder / "named.html"
         named.write_text(FIVE.read_text())
+        wrong = self.folder / "wrong.report"
+        wrong.write_text(FIVE.read_text().replace("\nlower -3\n", "\nlower -2\n"))
         for words, told in (
                 ((FIVE, "-o", page, "--against", mixed), "is on another game: goofspiel 1,3 2,3"),
                 ((broken, "-o", page), "broken.report: report short"),
                 ((FIVE, "-o", page, "--against", broken), "broken.report: report short"),
+                ((wrong, "-o", page), "wrong.report: refused root one"),
                 ((position, "-o", page), "this is a position, not a report"),
                 ((self.folder / "none.report", "-o", page), "none.report: No such file or directory"),
                 ((FIVE, "-o", self.folder / "no" / "page.html"), "page.html: No such file or directory"),
@@ -430,6 +434,14 @@ class Commands(unittest.TestCase):
             self.assertIn(told, err)
             self.assertEqual((err.startswith("dosolve: "), err.count("\n")), (True, 1), err)
             self.assertFalse(page.exists(), words)
+
+    def test_without_a_program_a_note_says_that_nobody_checked(self):
+        page = self.folder / "page.html"
+        with mock.patch.dict(os.environ, {"DOSOLVE": str(self.folder / "none")}):
+            status, out, err = self.call(FIVE, "-o", page)
+            self.assertEqual((status, out.count("\n")), (0, 1))
+            self.assertRegex(err, r"^dosolve: note .*goofspiel_five\.report was not checked: .* is no program that can be run\n$")
+            self.assertEqual(self.call(FIVE, "-o", page, "--program", self.folder / "none")[0], 1)
 
     def test_calls_that_are_refused(self):
         report = dosolve.Report.load(FIVE)

@@ -30,9 +30,10 @@ MOST_TURNS = 1_099_511_627_776
 """The turns of a worker, and the visits of its serial searches."""
 
 FEW_VISITS = 100_000
-"""The visits that the package gives to induction where none are named. A serial search of so many
-takes some hundredths of a second, and closes what pure plans decide soon; one of a large game would
-take longer than all else, and close nothing."""
+"""The visits that the package gives where none are named, to induction and where a game has more
+states than the board has rows. A serial search of so many takes some hundredths of a second, and
+closes what pure plans decide soon; one of a large game would take longer than all else, and close
+nothing."""
 
 NEWEST_VERSION = 3
 """The version of reports that tells what no version before can."""

@@ -74,7 +74,7 @@ class Position:
     - `turns`: the budget of matrix games of each worker; a search that runs out of them has few
       bounds or none.
     - `visits`: the budget of states that each worker's serial searches may enter; left out, 100000
-      with induction, else the most.
+      with induction and where the board has no room for the game's states, else the most.
     - `rows`: the states that the board has room for; left out, twice as many as the game can
       have, at most 16777216 with linear stages; 1048576 at most with others, and where the game
       does not count its states or has more.
@@ -157,7 +157,8 @@ class Position:
 
     def _fitting_visits(self) -> int:
         """Those of serial searches that are worth their time."""
-        return FEW_VISITS if self.search == "induction" else MOST_TURNS
+        is_full = is_whole(self.rows) and self.game.fits(self.rows) is False
+        return FEW_VISITS if is_full or self.search == "induction" else MOST_TURNS
 
     def _require_weight(self) -> None:
         """Refuses a weight that is too small for linear stages of so many moves."""

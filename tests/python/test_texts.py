@@ -137,7 +137,8 @@ class Positions(unittest.TestCase):
         self.assertEqual(position.workers, min(16, dosolve.processors()))
         self.assertEqual(position.rows, 2 * position.game.most_states)
         thirteen = dosolve.Goofspiel(range(1, 14), range(1, 14), range(1, 14))
-        self.assertEqual(dosolve.Position(thirteen).rows, 1_048_576)
+        self.assertEqual((dosolve.Position(thirteen).rows, dosolve.Position(thirteen).visits), (1_048_576, 100_000))
+        self.assertEqual(dosolve.Position(dosolve.Tron(6, 6, [], 0, 35)).visits, 2**40)
         self.assertEqual(dosolve.Position(dosolve.Goofspiel([], [], [])).rows, 1)
 
     def test_files_are_loaded_and_saved(self):

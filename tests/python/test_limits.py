@@ -257,9 +257,11 @@ class Defaults(unittest.TestCase):
                      dosolve.OshiZumo(8, 63, 63), dosolve.Pursuit(64, GRID, 0, 63, 40), dosolve.Table(square(2))):
             self.assertEqual(self.asked(game), induction, game)
             self.assertEqual(self.asked(game, search="oracle"), oracle)
-        for game in (dosolve.Tron(6, 6, [], 0, 35), dosolve.Tron(2, 3, [], 0, 5), dosolve.Goofspiel(hand, hand, hand),
-                     dosolve.GoofspielDrawn(hand[:10], hand[:10], hand[:10], 0, "prizes")):
-            self.assertEqual(self.asked(game), oracle, game)
+        full = "linear", "oracle", limits.FEW_VISITS
+        for game, asked in ((dosolve.Tron(6, 6, [], 0, 35), oracle), (dosolve.Tron(2, 3, [], 0, 5), oracle),
+                            (dosolve.Goofspiel(hand, hand, hand), full),
+                            (dosolve.GoofspielDrawn(hand[:10], hand[:10], hand[:10], 0, "prizes"), full)):
+            self.assertEqual(self.asked(game), asked, game)
             self.assertEqual(dosolve.Position(game).rows, min(NARROW.rows, 2 * game.most_states))
 
     def test_what_is_named_is_kept(self):
@@ -275,6 +277,8 @@ class Defaults(unittest.TestCase):
         self.assertEqual(game.count_states(), 37)
         for rows, search in ((36, "oracle"), (37, "induction"), (16_777_216, "induction")):
             self.assertEqual(dosolve.Position(game, rows=rows).search, search)
+        for rows, visits in ((36, limits.FEW_VISITS), (37, limits.MOST_TURNS)):
+            self.assertEqual(dosolve.Position(game, rows=rows, search="oracle").visits, visits)
 
     def test_rows_fit_the_game_and_the_stages(self):
         hand = range(1, 14)

@@ -23,7 +23,8 @@ from . import __version__, drawings, explore, pictures
 from .drawings import Drawing
 from .errors import DosolveError, InputRefusedError, InvalidError, ProgramMissingError
 from .files import (
-    aside, naming, read_position, read_report, read_table, require_other, require_output, with_gap,
+    aside, kept_report, naming, read_kept, read_position, read_report, read_table, require_other,
+    require_output, with_gap,
 )
 from .games.game import SCALE, SIDES, AnyGame, Field, Side
 from .limits import WIDE
@@ -255,7 +256,7 @@ class Measure(Command):
 
     def _kept(self, words: Namespace, position: Position) -> dict[Side, Path]:
         """The file of each report that is to be written, tried before anything is done for it."""
-        kept = {side: words.keep / f"{side}.report" for side in _sides(words) if words.keep}
+        kept = {side: kept_report(words.keep, side) for side in _sides(words) if words.keep}
         for file in kept.values():
             file.parent.mkdir(parents=True, exist_ok=True)
             require_output(file, words.position, words.player)
@@ -434,8 +435,8 @@ class Explore(Command):
         parser.add_argument("-o", "--output", type=Path, required=True, metavar="PAGE.html",
                             help="one file for any browser, which asks no network")
         parser.add_argument("--against", type=Path, metavar="REPORT",
-                            help="a report with a player's plan, as `measure --keep` writes it: "
-                                 "lists where the player loses")
+                            help="a report with a player's plan, or the folder of `measure --keep` "
+                                 "for the player on both sides: lists where the player loses")
         parser.add_argument("--most-states", type=int, default=explore.MOST_STATES, metavar="N",
                             help=f"the states of a large report ({explore.MOST_STATES})")
 
@@ -443,7 +444,7 @@ class Explore(Command):
         require_output(words.output, words.report, *([words.against] if words.against else []))
         report = read_report(words.report)
         _require_right(report, words)
-        against = read_report(words.against) if words.against else None
+        against = read_kept(words.against) if words.against else None
         made = explore.save(report, words.output, against, words.most_states)
         if words.json:
             _print_record({"output": str(words.output), "states": made.states,

@@ -10,7 +10,7 @@ from fractions import Fraction
 from pathlib import Path
 
 from .errors import DosolveError, InputRefusedError, InvalidError
-from .games.game import SCALE
+from .games.game import SCALE, SIDES, Side
 from .players.loading import load_table
 from .positions import Asked, Position
 from .reports import Report
@@ -115,6 +115,24 @@ def read_report(path: Path) -> Report:
     """The report of a file."""
     with naming(path):
         return Report.load(path)
+
+
+def kept_report(folder: Path, side: Side) -> Path:
+    """The file of `measure --keep` in which the player's plan is that of a side."""
+    return folder / f"{side}.report"
+
+
+def read_kept(path: Path) -> Report:
+    """The report of a file; of a folder of `measure --keep`, one with the player's plan on both
+    sides, or on the side that was measured."""
+    if not path.is_dir():
+        return read_report(path)
+    found = [read_report(file) for file in (kept_report(path, side) for side in SIDES)
+             if file.exists()]
+    if not found:
+        raise InvalidError(f"{path} has neither one.report nor two.report, which measure --keep "
+                           f"writes")
+    return found[0] if len(found) == 1 else Report.of(found[0].one, found[1].two)
 
 
 def require_output(output: Path | None, *sources: Path) -> None:

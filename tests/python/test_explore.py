@@ -403,6 +403,18 @@ class Commands(unittest.TestCase):
         status, out, _ = self.call(FIVE, "-o", output, "--most-states", "9", "--json")
         self.assertEqual((status, json.loads(out)), (0, {"output": str(output), "states": 9, "is_whole": False}))
 
+    def test_the_folder_of_a_measure_has_the_player_on_both_sides(self):
+        kept, output = self.folder / "kept", self.folder / "page.html"
+        player = dosolve.Report.load(MATCH_THE_PRIZE)
+        kept.mkdir()
+        self.assertIn("neither one.report nor two.report", self.call(FIVE, "-o", output, "--against", kept)[2])
+        none = {side: dosolve.Sheet(player.game, side, player.weight) for side in SIDES}
+        alone = dosolve.Report.of(player.one, none["two"]), dosolve.Report.of(none["one"], player.two)
+        for side, report, against in zip(SIDES, alone, (alone[0], player)):
+            report.save(kept / f"{side}.report")
+            self.assertEqual(self.call(FIVE, "-o", output, "--against", kept)[::2], (0, ""))
+            self.assertEqual(output.read_text(encoding="utf-8"), explore.page(dosolve.Report.load(FIVE), against).text)
+
     def test_the_size_is_printed_on_the_page(self):
         page = explore.page(dosolve.Report.load(FIVE))
         size = re.search(r"This file is (\d+) kB", page.text)[1]

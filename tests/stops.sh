@@ -38,10 +38,10 @@ told() {
     [ -z "$other" ] || "$other" verify < "$folder/report" > "$folder/judged" || { fails "$1: $(head -c 200 "$folder/judged")"; return 1; }
 }
 
-# Stops the search of GAME by WORKERS with MORE fields at each place.
+# Stops the search of GAME by WORKERS with MORE fields and VISITS at each place; with TURNS, if they are given.
 stop_each() {
     local name="$1 by $2 $3" whole_lower whole_upper whole_outcome last_lower=-9999999999 last_upper=9999999999 place=0
-    echo "{$1,\"gap\":0,\"weight\":8192,\"turns\":1000000,\"visits\":$4,\"rows\":65536,\"workers\":$2,$3}" > "$folder/position"
+    echo "{$1,\"gap\":0,\"weight\":8192,\"turns\":${5:-1000000},\"visits\":$4,\"rows\":65536,\"workers\":$2,$3}" > "$folder/position"
     solve UNLIMITED=1
     told "$name" || return
     whole_lower=$lower whole_upper=$upper whole_outcome=$outcome
@@ -59,6 +59,8 @@ stop_each() {
         case $outcome in
             stopped) [ "$status" = 4 ] || fails "$name: status $status at $place" ;;
             "$whole_outcome") [ "$2" != 1 ] || ! cmp -s "$folder/report" "$folder/whole" || break ;;
+            # Several workers can end one way or the other.
+            closed | settled) [ "$2" != 1 ] || fails "$name: $outcome at $place" ;;
             *) fails "$name: $outcome at $place" ;;
         esac
         [ "$2" = 1 ] || [ "$outcome" = stopped ] || break
@@ -73,6 +75,10 @@ for workers in 1 4; do
     stop_each "$(cards 1,2,3)" $workers '"stages":"linear","search":"induction"' 0
     stop_each '"game":"oshi_zumo","size":1,"one":5,"two":5,"least":1,"place":0' $workers '"stages":"linear","search":"induction"' 100
 done
+# Within serial searches, which ask once in some thousands of states.
+stop_each "$(cards 1,2,3,4,5,6)" 1 '"stages":"linear"' 1000000 5
+stop_each "$(cards 1,2,3,4,5,6)" 1 '"stages":"regret"' 1000000 5
+stop_each "$(cards 1,2,3,4,5 | sed s/margin/prizes/)" 1 '"stages":"linear","search":"induction"' 1000000
 echo "$stops stops"
 
 # A file, which is there or comes; a time; and what is no time.
@@ -89,7 +95,12 @@ told "a file that comes" && [ "$outcome" = stopped ] && [ "$took" -ge 1000 ] && 
 from=$(date +%s%3N)
 solve DOSOLVE_SECONDS=2
 took=$(($(date +%s%3N) - from))
-told "two seconds" && [ "$outcome" = stopped ] && [ "$took" -ge 2000 ] && [ "$took" -lt 5000 ] || fails "two seconds: $outcome after $took ms"
+told "two seconds" && [ "$outcome" = stopped ] && [ "$took" -ge 1800 ] && [ "$took" -lt 5000 ] || fails "two seconds: $outcome after $took ms"
+echo "{$large,\"gap\":0,\"weight\":8192,\"turns\":1099511627776,\"visits\":1099511627776,\"rows\":1000000,\"workers\":1,\"stages\":\"linear\"}" > "$folder/position"
+from=$(date +%s%3N)
+solve DOSOLVE_SECONDS=1
+took=$(($(date +%s%3N) - from))
+told "a second of serial search" && [ "$outcome" = stopped ] && [ "$took" -ge 900 ] && [ "$took" -lt 3000 ] || fails "a second of serial search: $outcome after $took ms"
 echo "{$(cards 1,2,3),\"gap\":0,\"weight\":8192,\"turns\":1000000,\"visits\":0,\"rows\":65536,\"workers\":1,\"stages\":\"linear\"}" > "$folder/position"
 solve UNLIMITED=1
 cp "$folder/report" "$folder/whole"

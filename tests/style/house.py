@@ -6,7 +6,7 @@ docs/DEFINITIONS.md in the place that is given there.
 
     tests/style/house.py      prints what breaks a rule, and ends with 1 if something does
 
-What broke a rule when it was made is listed below (FLAT, LONG, DOUBLE). These lists only shrink: an entry that the code no
+What broke a rule when it was made is listed below (LONG, DOUBLE). These lists only shrink: an entry that the code no
 longer needs is a fault too, and is taken out.
 """
 import re
@@ -19,8 +19,6 @@ TOP = Path(__file__).resolve().parents[2]
 CRATES = TOP / "crates"
 MOST_COLUMNS, MOST_PROOF_COLUMNS, MOST_PARAMETERS, MOST_CLAUSES, MOST_LINES, MOST_EDITS = 120, 200, 7, 10, 40, 10
 
-# Flat matches with one arm a game or field.
-FLAT = {"build", "values"}
 # Contracts of more than ten clauses, with how many they have.
 LONG = {
     "devices write": 13,
@@ -140,7 +138,7 @@ def wide(path, most, skipped):
 
 
 def faults_of_sources():
-    flat, long, where = set(), set(), defaultdict(set)
+    long, where = set(), defaultdict(set)
     for path in sorted(CRATES.glob("*/src/**/*.rt")):
         place = path.relative_to(CRATES)
         crate = place.parts[0]
@@ -156,9 +154,7 @@ def faults_of_sources():
             if f.parameters > MOST_PARAMETERS:
                 yield f"{place}:{f.line}: {f.name} has {f.parameters} parameters"
             if f.length > MOST_LINES:
-                flat.add(f.name)
-                if f.name not in FLAT:
-                    yield f"{place}:{f.line}: the body of {f.name} has {f.length} lines"
+                yield f"{place}:{f.line}: the body of {f.name} has {f.length} lines"
             if f.clauses > MOST_CLAUSES:
                 key = f"{crate} {f.name}"
                 long.add(key)
@@ -167,7 +163,7 @@ def faults_of_sources():
     double = {name for name, crates in where.items() if len(crates) > 1 and name not in OF_GAMES}
     for name in sorted(double - DOUBLE):
         yield f"the type {name} is defined in {', '.join(sorted(where[name]))}"
-    for word, listed, needed in (("FLAT", FLAT, flat), ("LONG", set(LONG), long), ("DOUBLE", DOUBLE, double)):
+    for word, listed, needed in (("LONG", set(LONG), long), ("DOUBLE", DOUBLE, double)):
         for name in sorted(listed - needed):
             yield f"{word} no longer needs {name}: take it out of tests/style/house.py"
 

@@ -2,7 +2,6 @@
 use Rattle.std.proofs.Common.{◌≡◌, ℕ, ◌+◌, ◌<◌, ◌≤◌, get_or, drop, append-nil, ℤ, pos, List, [], ◌∷◌, ◌++◌, codes, flat_map, length, map, Bool, true, false, ◌&&◌, leb, leb-true, eqb-true, ◌==◌, Some, Ok, refl, sym, ap, ap₂, subst, ◌∙◌, arith}
 use Rattle.std.specs.Fmt.{signed_decimal}
 use Rattle.std.specs.List.{join_with_byte}
-use Rattle.std.proofs.lemmas.Option.{cond_some, option_and_then_some}
 use Rattle.std.proofs.lemmas.Bool.{and_parts}
 use Rattle.std.proofs.lemmas.Grind.{flat_map-append}
 use Rattle.std.proofs.lemmas.List.Elements.{All-cons}
@@ -26,7 +25,7 @@ use Rattle.certificate.specs.Versions.{has_game, limits_of}
 use Rattle.certificate.specs.Positions.{position_numbers, position_fields, game_in, game, line_values, position, value_line}
 use Rattle.fields.specs.Fields.{AllFit}
 use Rattle.fields.specs.Positions.{game_word, kinds_of, kind_of, shown_value, values_of, position_with, game_of}
-use Rattle.certificate.proofs.Spelling.{IsField, Spells, is_word, word_spells}
+use Rattle.certificate.proofs.Spelling.{IsField, Spells, is_word, word_spells, passing_spells}
 use Rattle.certificate.proofs.FieldLaws.{FieldLaw, line_more, bind_ok, ok_is, spelled_takes, spelled_again}
 use Rattle.certificate.proofs.ValueLaws.{are_small, longest_line, line_takes, writes_all, line_again}
 use Rattle.fields.proofs.PositionLemmas.{made_of, made_again, within_wide}
@@ -144,14 +143,7 @@ game_words = word_spells GAMES game_word (λ game. (known_word game, (game_line 
 -- the game of a word, in a report of the version
 game_spells : (version : ℕ) → Spells 20 (game_in version) game_word (λ game. has_game version game ≡ true)
 unfolding game_in
-game_spells version = record {
-  takes = λ word game e. option_and_then_some _ _ game e (λ other is h.
-      let same = cond_some (has_game version other) other game h in
-      ((game_words.takes word other is).0 ∙ ap game_word same.1, ap (has_game version) (sym same.1) ∙ same.0));
-  again = λ game fits. rw (game_words.again game tt, fits) refl;
-  clean = λ game fits. game_words.clean game tt;
-  short = λ game fits. game_words.short game tt;
-}
+game_spells version = passing_spells game_of game_word (has_game version) game_words
 
 -- ---- the whole
 

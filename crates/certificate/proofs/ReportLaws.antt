@@ -3,6 +3,7 @@ use Rattle.std.proofs.Common.{◌≡◌, ℕ, zero, suc, ◌+◌, ◌*◌, ◌^�
 use Rattle.std.specs.Fmt.{signed_decimal}
 use Rattle.std.specs.List.Sorted.{IsStrictlyIncreasing}
 use Rattle.std.proofs.lemmas.Grind.{flat_map-append}
+use Rattle.std.proofs.Math.Bool.{or-true}
 use Rattle.std.proofs.lemmas.Bool.{eq-eqb}
 use Rattle.std.proofs.lemmas.Int.{ints}
 use Rattle.std.proofs.lemmas.List.{length-append, length-map}
@@ -16,7 +17,6 @@ use Rattle.certificate.specs.declared.error.TextError.{TextError}
 use Rattle.certificate.specs.declared.error.TextError.TheVariants.{Line, Head, NoMemory}
 use Rattle.fields.specs.declared.positions.GameKind.{GameKind}
 use Rattle.certificate.specs.declared.report.Outcome.{Outcome}
-use Rattle.certificate.specs.declared.report.Outcome.TheVariants.{Closed, Settled, Spent, Full, Stopped}
 use Rattle.certificate.specs.declared.report.Report.{Report}
 use Rattle.certificate.specs.Unread.{Unread}
 use Rattle.text.specs.Texts.{line_text, text_of}
@@ -379,12 +379,7 @@ own_game Pursuit = ((omega arith, omega arith), (refl, refl))
 own_game Table = ((omega arith, omega arith), (refl, refl))
 
 newest_has : (k : GameKind) → has_game newest_version k ≡ true
-newest_has Goofspiel = refl
-newest_has OshiZumo = refl
-newest_has Tron = refl
-newest_has GoofspielDrawn = refl
-newest_has Pursuit = refl
-newest_has Table = refl
+newest_has k = or-true (game_version k == newest_version)
 
 narrow_position : (text : PositionText) (b : Bool) → (not (is_narrow text) || b) ≡ false → is_narrow text ≡ true
 narrow_position text b e = elim (is_narrow text) as (λ t. (not t || b) ≡ false → t ≡ true) [
@@ -393,11 +388,7 @@ narrow_position text b e = elim (is_narrow text) as (λ t. (not t || b) ≡ fals
 ] e
 
 newest_tells : (o : Outcome) → has_outcome newest_version o ≡ true
-newest_tells Closed = refl
-newest_tells Settled = refl
-newest_tells Spent = refl
-newest_tells Full = refl
-newest_tells Stopped = refl
+newest_tells o = or-true (is_older o)
 
 older_outcome : (narrow one two older : Bool) → (not narrow || (one || (two || not older))) ≡ false → older ≡ true
 older_outcome narrow one two true e = refl

@@ -1,5 +1,6 @@
 -- Values, and how a field spells them.
 use Rattle.std.proofs.Common.{◌≡◌, ℕ, suc, ◌+◌, ◌*◌, ◌^◌, ◌<◌, ◌≤◌, ℤ, pos, negsuc, ◌≤ℤ◌, int_lt, unsigned_abs, List, [], ◌∷◌, length, map, Bool, true, false, not, cond, ◌&&◌, ◌==◌, codes, bytes_eq, find, leb, Option, Some, None, option_map, decimal, All, refl, sym, ap, ap₂, subst, ◌∙◌, arith, leb-true, le-leb}
+use Rattle.std.specs.Prelude.{option_and_then}
 use Rattle.std.specs.Fmt.{signed_decimal}
 use Rattle.std.specs.Int.Signed.{mag}
 use Rattle.std.specs.List.{list_all, slice_split, join_with_byte}
@@ -117,6 +118,18 @@ word_spells all word each = record {
   short = λ a u. leb-true _ _ (and_parts _ _ (each a).1).1;
 }
 
+-- the same of the values that pass alone
+pub passing_spells : {A : Type 0} (value : List ℕ → Option A) (word : A → List ℕ) (passes : A → Bool) → Spells 20 value word (λ _. Unit {0})
+    → Spells 20 (λ w. option_and_then (λ a. cond (passes a) (Some a) None) (value w)) word (λ a. passes a ≡ true)
+passing_spells value word passes all = record {
+  takes = λ w a e. option_and_then_some _ _ a e (λ other is h.
+      let same = cond_some (passes other) other a h in
+      ((all.takes w other is).0 ∙ ap word same.1, ap passes (sym same.1) ∙ same.0));
+  again = λ a fits. rw (all.again a tt, fits) refl;
+  clean = λ a fits. all.clean a tt;
+  short = λ a fits. all.short a tt;
+}
+
 outcome_words : Spells 20 outcome_of outcome_word (λ _. Unit {0})
 unfolding outcome_of
 outcome_words = word_spells (Closed ∷ Settled ∷ Spent ∷ Full ∷ Stopped ∷ []) outcome_word each
@@ -131,14 +144,7 @@ outcome_words = word_spells (Closed ∷ Settled ∷ Spent ∷ Full ∷ Stopped �
 -- the outcome of a word, in a report of the version
 pub outcome_spells : (version : ℕ) → Spells 20 (outcome_in version) outcome_word (λ o. has_outcome version o ≡ true)
 unfolding outcome_in
-outcome_spells version = record {
-  takes = λ word o e. option_and_then_some _ _ o e (λ other is h.
-      let same = cond_some (has_outcome version other) other o h in
-      ((outcome_words.takes word other is).0 ∙ ap outcome_word same.1, ap (has_outcome version) (sym same.1) ∙ same.0));
-  again = λ o fits. rw (outcome_words.again o tt, fits) refl;
-  clean = λ o fits. outcome_words.clean o tt;
-  short = λ o fits. outcome_words.short o tt;
-}
+outcome_spells version = passing_spells outcome_of outcome_word (has_outcome version) outcome_words
 
 -- ---- values one after the other
 

@@ -42,7 +42,7 @@ most_moves Wide = 64
 abbrev pub is_long : Sheet → Bool
 is_long sheet = nat_lt (most_rows Narrow) (length sheet.rows)
 
--- each version has its own outcomes: all but one, which the newest has
+-- whether the versions before the newest have the outcome
 abbrev pub is_older : Outcome → Bool
 is_older Closed = true
 is_older Settled = true

@@ -85,9 +85,9 @@ is_sample_solution m n r few rank size narrow is =
     record {
       solution = is;
       ends = closed_or_settled m n r few rank narrow is r.outcome refl;
-      pure_lower = is.pure_lower room visits;
-      pure_upper = is.pure_upper room visits;
-      at_once = is.at_once room visits;
+      pure_lower = is.pure_lower room (refl, visits);
+      pure_upper = is.pure_upper room (refl, visits);
+      at_once = is.at_once room (refl, visits);
     }
 
 pub solved_status : (n status : ℕ) (text : List ℕ) → IsSampled n status text → (status ≡ 0) ⊎ (status ≡ 3)

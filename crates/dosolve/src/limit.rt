@@ -1,6 +1,6 @@
 //! When a search is told to stop: after a time, or once a file is there.
 
-ghost use Rattle.std.specs.Prelude.{◌≤◌, ◌+◌, ◌*◌, ◌↔◌, IsTrue, IfSome};
+ghost use Rattle.std.specs.Prelude.{◌≡◌, ◌≤◌, ◌+◌, ◌-◌, ◌*◌, ◌/◌, ◌↔◌, min, IsTrue};
 
 use std::alloc::Global;
 use std::env::{Env, VarError};
@@ -17,8 +17,11 @@ const FILE: &str = "DOSOLVE_STOP";
 /// How long it is until the file is looked for again, in milliseconds.
 const BETWEEN_LOOKS: u64 = 100;
 
-/// Is over once so many seconds have passed since it was made, or once the file is there, as the environment says; and
-/// never again not.
+/// The most of a time that is kept for what follows a search, in milliseconds.
+const MOST_KEPT: u64 = 5000;
+
+/// Is over once nearly so many seconds have passed since it was made, or once the file is there, as the environment says;
+/// and never again not.
 #[derive(Drop)]
 pub(crate) struct Limit<'a, R> {
     rt: &'a R,
@@ -34,7 +37,7 @@ pub(crate) struct Limit<'a, R> {
 
 impl<'a, R: Clock + Env + Files + Eprint + Alloc<A = Global>> Limit<'a, R> {
     pub(crate) fn new(rt: &'a R) -> Limit<'a, R> {
-        let end = milliseconds(rt);
+        let end = milliseconds(rt).map(search_time);
         let file = env::var(rt, FILE).ok();
         let start = if end.is_some() || file.is_some() {
             Instant::now(rt).ok()
@@ -105,7 +108,7 @@ fn milliseconds<R: Env + Eprint + Alloc<A = Global>>(rt: &R) -> Option<u64> {
         Err(_) => return passed_over(rt),
     };
     match text.parse::<u64>() {
-        Ok(seconds) if seconds >= 1 => Some(seconds.saturating_mul(1000)),
+        Ok(seconds) if seconds >= 1 => Some(milliseconds_of(seconds)),
         _ => passed_over(rt),
     }
 }
@@ -117,6 +120,21 @@ fn passed_over<R: Eprint>(rt: &R) -> Option<u64> {
     None
 }
 
+/// So many seconds in milliseconds, as many as fit.
+fn milliseconds_of(seconds: u64) -> u64
+    ensures { result ≡ min (seconds * 1000) 18446744073709551615 }
+{
+    seconds.saturating_mul(1000)
+}
+
+/// How long is searched in a time, both in milliseconds: a tenth of it, and no more than five seconds, is kept for the
+/// report.
+fn search_time(all: u64) -> u64
+    ensures { result ≡ all - min (all / 10) 5000 }
+{
+    all - (all / 10).min(MOST_KEPT)
+}
+
 /// Whether it is so late, both in milliseconds.
 fn is_reached(end: u64, now: u64) -> bool
     ensures { IsTrue result ↔ (end ≤ now) }
@@ -125,6 +143,8 @@ fn is_reached(end: u64, now: u64) -> bool
 }
 
 /// When a file that was looked for now is to be looked for again.
-fn next_look(now: u64) -> u64 {
+fn next_look(now: u64) -> u64
+    ensures { result ≡ min (now + 100) 18446744073709551615 }
+{
     now.saturating_add(BETWEEN_LOOKS)
 }

@@ -115,7 +115,7 @@ impl<'a, R: Clock + Env + Eprint> Progress<'a, R> {
         }
     }
 
-    /// One more, and now and then a look at the time: that costs as much as the work at some states.
+    /// One more, and now and then a look at the time, which costs some hundredths of the work at a state.
     fn count(&self, counter: &AtomicU64) {
         let Some(start) = self.start else {
             return;

@@ -20,7 +20,7 @@ use Rattle.sim_game.specs.declared.Limits.{Limits}
 use Rattle.sim_game.specs.declared.Limits.TheVariants.{Narrow, Wide}
 use Rattle.fields.specs.Numbers.{Between, IsNumberList}
 use Rattle.fields.specs.Fields.{Fits, AllFit}
-use Rattle.fields.specs.Positions.{kinds_of, kind_of, pay_named, pay_word, values_of, number_in_value, list_in_value, numbers_in_value, HoldsNumbers, optional_in_value, HoldsOptional, word_in_value, position_with, IsPositionInRange, is_between, numbers_fit, fits_narrow, is_small, is_narrow}
+use Rattle.fields.specs.Positions.{kinds_of, kind_of, pay_named, pay_word, values_of, number_in_value, list_in_value, numbers_in_value, optional_in_value, word_in_value, position_with, IsPositionInRange, is_between, numbers_fit, fits_narrow, is_small, is_narrow}
 use Rattle.fields.specs.Asks.{asked_kinds}
 
 pub as_many : (ks : List FieldKind) (vs : List Value) → AllFit ks vs → length vs ≡ length ks
@@ -33,17 +33,9 @@ list_is : (most : ℕ) (v : Value) → Fits (ListOf most) v → Bytes (list_in_v
 list_is most (Bytes ns) fits = refl
 list_is most v fits = absurd fits
 
-pub holds_numbers : (low high : ℤ) (most : ℕ) (v : Value) → Fits (NumbersOf low high most) v → HoldsNumbers v
-holds_numbers low high most (Numbers zs) fits = tt
-holds_numbers low high most v fits = absurd fits
-
 numbers_are : (low high : ℤ) (most : ℕ) (v : Value) → Fits (NumbersOf low high most) v → Numbers (numbers_in_value v) ≡ v
 numbers_are low high most (Numbers zs) fits = refl
 numbers_are low high most v fits = absurd fits
-
-pub holds_optional : (low high : ℤ) (most : ℕ) (v : Value) → Fits (OptionalOf low high most) v → HoldsOptional v
-holds_optional low high most (Optional zs) fits = tt
-holds_optional low high most v fits = absurd fits
 
 optional_is : (low high : ℤ) (most : ℕ) (v : Value) → Fits (OptionalOf low high most) v → Optional (optional_in_value v) ≡ v
 optional_is low high most (Optional zs) fits = refl

@@ -337,112 +337,58 @@ impl Value {
     }
 }
 
-/// The values of a game that has five fields.
-fn five(values: Vec<Value>) -> [Value; 5]
-    requires { length values.items ≡ 5 }
+/// The values of a game that has so many fields.
+fn exactly<const N: usize>(values: Vec<Value>) -> [Value; N]
+    requires { length values.items ≡ N }
     ensures { result ≡ values.items }
 {
-    match <[Value; 5]>::try_from(values) {
+    match <[Value; N]>::try_from(values) {
         Ok(values) => values,
         Err(_) => unreachable!(),
     }
 }
 
-/// The values of a game that has six.
-fn six(values: Vec<Value>) -> [Value; 6]
-    requires { length values.items ≡ 6 }
-    ensures { result ≡ values.items }
-{
-    match <[Value; 6]>::try_from(values) {
-        Ok(values) => values,
-        Err(_) => unreachable!(),
-    }
+/// Does the same with each game: its name, how many fields it has, and its fields in their order with what they hold.
+macro_rules! each_game {
+    ($then:ident, $given:tt) => { $then! { $given;
+        Goofspiel[5] { one: list, two: list, prizes: list, score: score, pay: pay }
+        OshiZumo[5] { size: byte, one: byte, two: byte, least: byte, place: place }
+        Tron[5] { height: byte, width: byte, walls: list, one: byte, two: byte }
+        GoofspielDrawn[5] { one: list, two: list, prizes: list, score: score, pay: pay }
+        Pursuit[5] { nodes: byte, edges: list, one: byte, two: byte, rounds: byte }
+        Table[6] { ranks: numbers, moves: numbers, values: numbers, cells: numbers, draws: numbers, rewards: optional }
+    } };
 }
 
-fn goofspiel_with(values: [Value; 5]) -> PositionText
-    requires { AllFit (kinds_of Wide GameKind.Goofspiel) values }
-    ensures { result ≡ position_with GameKind.Goofspiel values }
-{
-    let [one, two, prizes, score, pay] = values;
-    PositionText::Goofspiel {
-        one: one.list(),
-        two: two.list(),
-        prizes: prizes.list(),
-        score: score.score(),
-        pay: pay.pay(),
-    }
+/// The position of the game that is made of the values.
+macro_rules! made {
+    (($game:expr, $values:expr); $($name:ident[$many:literal] { $($field:ident: $kind:ident),+ })+) => {
+        match $game {
+            $(GameKind::$name => {
+                let [$($field),+] = exactly::<$many>($values);
+                PositionText::$name { $($field: $field.$kind()),+ }
+            })+
+        }
+    };
 }
 
-fn oshi_zumo_with(values: [Value; 5]) -> PositionText
-    requires { AllFit (kinds_of Wide GameKind.OshiZumo) values }
-    ensures { result ≡ position_with GameKind.OshiZumo values }
-{
-    let [size, one, two, least, place] = values;
-    PositionText::OshiZumo {
-        size: size.byte(),
-        one: one.byte(),
-        two: two.byte(),
-        least: least.byte(),
-        place: place.place(),
-    }
+/// The values of the position.
+macro_rules! shown {
+    (($text:expr, $alloc:expr); $($name:ident[$many:literal] { $($field:ident: $kind:ident),+ })+) => {
+        match $text {
+            $(PositionText::$name { $($field),+ } => {
+                Ok(Vec::from_array($alloc, [$(shown_field!($kind, $field)),+])?)
+            })+
+        }
+    };
 }
 
-fn tron_with(values: [Value; 5]) -> PositionText
-    requires { AllFit (kinds_of Wide GameKind.Tron) values }
-    ensures { result ≡ position_with GameKind.Tron values }
-{
-    let [height, width, walls, one, two] = values;
-    PositionText::Tron {
-        height: height.byte(),
-        width: width.byte(),
-        walls: walls.list(),
-        one: one.byte(),
-        two: two.byte(),
-    }
-}
-
-fn drawn_with(values: [Value; 5]) -> PositionText
-    requires { AllFit (kinds_of Wide GameKind.GoofspielDrawn) values }
-    ensures { result ≡ position_with GameKind.GoofspielDrawn values }
-{
-    let [one, two, prizes, score, pay] = values;
-    PositionText::GoofspielDrawn {
-        one: one.list(),
-        two: two.list(),
-        prizes: prizes.list(),
-        score: score.score(),
-        pay: pay.pay(),
-    }
-}
-
-fn pursuit_with(values: [Value; 5]) -> PositionText
-    requires { AllFit (kinds_of Wide GameKind.Pursuit) values }
-    ensures { result ≡ position_with GameKind.Pursuit values }
-{
-    let [nodes, edges, one, two, rounds] = values;
-    PositionText::Pursuit {
-        nodes: nodes.byte(),
-        edges: edges.list(),
-        one: one.byte(),
-        two: two.byte(),
-        rounds: rounds.byte(),
-    }
-}
-
-#[tactic(auto, using(crate::proofs::PositionLemmas::holds_numbers, crate::proofs::PositionLemmas::holds_optional))]
-fn table_with(values: [Value; 6]) -> PositionText
-    requires { AllFit (kinds_of Wide GameKind.Table) values }
-    ensures { result ≡ position_with GameKind.Table values }
-{
-    let [ranks, moves, numbers, cells, draws, rewards] = values;
-    PositionText::Table {
-        ranks: ranks.numbers(),
-        moves: moves.numbers(),
-        values: numbers.numbers(),
-        cells: cells.numbers(),
-        draws: draws.numbers(),
-        rewards: rewards.optional(),
-    }
+macro_rules! shown_field {
+    (list, $field:expr) => { Shown::List($field.as_slice()) };
+    (numbers, $field:expr) => { Shown::Numbers($field.as_slice()) };
+    (optional, $field:expr) => { Shown::Optional($field.as_slice()) };
+    (pay, $field:expr) => { Shown::Word(word_for(*$field)) };
+    ($number:ident, $field:expr) => { Shown::Number(i64::from(*$field)) };
 }
 
 /// Whether the numbers fit the field.
@@ -489,111 +435,14 @@ impl PositionText {
         ensures exact { result ≡ position_with game values.items }
         ensures in_range { IsPositionInRange result }
     {
-        match game {
-            GameKind::Goofspiel => goofspiel_with(five(values)),
-            GameKind::OshiZumo => oshi_zumo_with(five(values)),
-            GameKind::Tron => tron_with(five(values)),
-            GameKind::GoofspielDrawn => drawn_with(five(values)),
-            GameKind::Pursuit => pursuit_with(five(values)),
-            GameKind::Table => table_with(six(values)),
-        }
+        each_game!(made, (game, values))
     }
 
     /// The values of the position's fields.
     pub fn values(&self, alloc: Global) -> Result<Vec<Shown<'_>>, AllocError>
         ensures { IfOk result (λ v. map shown_value v.items ≡ values_of self.now) }
     {
-        match self {
-            PositionText::Goofspiel {
-                one,
-                two,
-                prizes,
-                score,
-                pay,
-            }
-            | PositionText::GoofspielDrawn {
-                one,
-                two,
-                prizes,
-                score,
-                pay,
-            } => Ok(Vec::from_array(
-                alloc,
-                [
-                    Shown::List(one.as_slice()),
-                    Shown::List(two.as_slice()),
-                    Shown::List(prizes.as_slice()),
-                    Shown::Number(i64::from(*score)),
-                    Shown::Word(word_for(*pay)),
-                ],
-            )?),
-            PositionText::OshiZumo {
-                size,
-                one,
-                two,
-                least,
-                place,
-            } => Ok(Vec::from_array(
-                alloc,
-                [
-                    Shown::Number(i64::from(*size)),
-                    Shown::Number(i64::from(*one)),
-                    Shown::Number(i64::from(*two)),
-                    Shown::Number(i64::from(*least)),
-                    Shown::Number(i64::from(*place)),
-                ],
-            )?),
-            PositionText::Tron {
-                height,
-                width,
-                walls,
-                one,
-                two,
-            } => Ok(Vec::from_array(
-                alloc,
-                [
-                    Shown::Number(i64::from(*height)),
-                    Shown::Number(i64::from(*width)),
-                    Shown::List(walls.as_slice()),
-                    Shown::Number(i64::from(*one)),
-                    Shown::Number(i64::from(*two)),
-                ],
-            )?),
-            PositionText::Pursuit {
-                nodes,
-                edges,
-                one,
-                two,
-                rounds,
-            } => Ok(Vec::from_array(
-                alloc,
-                [
-                    Shown::Number(i64::from(*nodes)),
-                    Shown::List(edges.as_slice()),
-                    Shown::Number(i64::from(*one)),
-                    Shown::Number(i64::from(*two)),
-                    Shown::Number(i64::from(*rounds)),
-                ],
-            )?),
-            PositionText::Table {
-                ranks,
-                moves,
-                values,
-                cells,
-                draws,
-                rewards,
-            } => Ok(Vec::from_array(
-                alloc,
-                [
-                    Shown::Numbers(ranks.as_slice()),
-                    Shown::Numbers(moves.as_slice()),
-                    Shown::Numbers(values.as_slice()),
-                    Shown::Numbers(cells.as_slice()),
-                    Shown::Numbers(draws.as_slice()),
-                    Shown::Optional(rewards.as_slice()),
-                ],
-            )?),
-        }
+        each_game!(shown, (self, alloc))
     }
 
     /// Whether the position fits the narrow fields of its game.

@@ -1,5 +1,5 @@
 -- BothPlans of lawful sheets.
-use Rattle.std.proofs.Common.{◌≡◌, ℕ, ◌≤◌, ℤ, Some, length, sym, subst, ◌∙◌, arith}
+use Rattle.std.proofs.Common.{◌≡◌, ℕ, ◌≤◌, ℤ, Bool, Some, length, sym, subst, ◌∙◌, arith}
 use Rattle.std.specs.Int.RustNames.{unsigned_abs}
 use Rattle.sim_game.specs.declared.Side.{Side}
 use Rattle.sim_game.specs.Model.{GameModel, IsGame, Reachable}
@@ -42,10 +42,10 @@ module _ {S : Type 0} (m : GameModel S) (game : IsGame m) where
       (scaled_high m game (root_bound m sheet) (to_most m game m.root (root_bound m sheet) root within))
 
   -- a sheet that takes the place of a plan whose bound is no tighter, with turns spent and few enough rows
-  pub sheet_plan : (ask : Ask) (side : Side) (spent : ℕ) (held : Plan) (sheet : Sheet) (bound : ℤ) → IsAskInRange ask
-      → IsFoundPlan m ask (Unit {0}) side held.sheet held.bound → IsSheetOf m side ask.weight sheet → bound ≡ root_bound m sheet
-      → (spent ≡ 0 → ⊥) → length sheet.rows ≤ ask.rows → IsNoTighter side held.bound bound → IsFoundPlan m ask (spent ≡ 0) side sheet bound
-  sheet_plan ask side spent held sheet bound asks plan of at some few tighter = record {
+  pub sheet_plan : (ask : Ask) (may_stop : Bool) (side : Side) (spent : ℕ) (held : Plan) (sheet : Sheet) (bound : ℤ) → IsAskInRange ask
+      → IsFoundPlan m ask may_stop (Unit {0}) side held.sheet held.bound → IsSheetOf m side ask.weight sheet → bound ≡ root_bound m sheet
+      → (spent ≡ 0 → ⊥) → length sheet.rows ≤ ask.rows → IsNoTighter side held.bound bound → IsFoundPlan m ask may_stop (spent ≡ 0) side sheet bound
+  sheet_plan ask may_stop side spent held sheet bound asks plan of at some few tighter = record {
     side_is = of.is_side;
     total_is = of.is_total;
     lawful = of.lawful;
@@ -59,9 +59,9 @@ module _ {S : Type 0} (m : GameModel S) (game : IsGame m) where
   }
 
 -- a plan is good for a narrower meaning of being idle
-pub plan_for : {S : Type 0} (m : GameModel S) (ask : Ask) (Idle Other : Type 0) (side : Side) (sheet : Sheet) (bound : ℤ) → (Other → Idle)
-    → IsFoundPlan m ask Idle side sheet bound → IsFoundPlan m ask Other side sheet bound
-plan_for m ask Idle Other side sheet bound so plan = record {
+pub plan_for : {S : Type 0} (m : GameModel S) (ask : Ask) (may_stop : Bool) (Idle Other : Type 0) (side : Side) (sheet : Sheet) (bound : ℤ) → (Other → Idle)
+    → IsFoundPlan m ask may_stop Idle side sheet bound → IsFoundPlan m ask may_stop Other side sheet bound
+plan_for m ask may_stop Idle Other side sheet bound so plan = record {
   side_is = plan.side_is;
   total_is = plan.total_is;
   lawful = plan.lawful;

@@ -13,7 +13,6 @@ use Rattle.lazy_workers.specs.Findings.{IsFoundPlan, IsFoundGame, IsFoundFor}
 use Rattle.lazy_workers.specs.Keeping.{AreBudgets, begun_whole}
 use Rattle.lazy_workers.specs.Searched.{HasRoom, HasVisits, IsPureClose}
 use Rattle.game_search.specs.declared.plan.BothPlans.{BothPlans}
-use Rattle.game_search.specs.declared.step.Left.{Left}
 use Rattle.game_search.specs.declared.step.Step.{Step}
 use Rattle.game_search.specs.declared.step.Step.TheVariants as steps
 
@@ -41,26 +40,25 @@ IsWhole ask may_stop turns = turns ≡ whole_budget ask may_stop
 abbrev pub at_once : Ask → Ask
 at_once ask = record ask { turns = 0; workers = 1 }
 
-module _ {S : Type 0} (m : GameModel S) (ask : Ask) where
+module _ {S : Type 0} (m : GameModel S) (ask : Ask) (may_stop : Bool) where
   -- what is found without a turn
   abbrev pub IsPureFound : Found → Type 0
-  IsPureFound x = IsFoundFor m (at_once ask) (begun_whole false) x
+  IsPureFound x = IsFoundFor m (at_once ask) (begun_whole may_stop) x
 
   -- a plan of each side, which play one move at each state where the search was idle
   pub record AreFoundPlans (Idle : Type 0) (plans : BothPlans) : Type 0 where
-    pub one : IsFoundPlan m ask Idle One plans.one.sheet plans.one.bound
-    pub two : IsFoundPlan m ask Idle Two plans.two.sheet plans.two.bound
+    pub one : IsFoundPlan m ask may_stop Idle One plans.one.sheet plans.one.bound
+    pub two : IsFoundPlan m ask may_stop Idle Two plans.two.sheet plans.two.bound
 
   -- plans to be bettered, after no more turns of a worker than three for each undecided state; pure plans alone do not
   -- bring the bounds as close as was asked
   pub record IsUnfinished (plans : BothPlans) (most : ℕ) : Type 0 where
     pub plans_are : AreFoundPlans ⊥ plans
-    pub not_close : HasRoom m ask → HasVisits m ask → IsPureClose m ask → ⊥
+    pub not_close : HasRoom m ask → HasVisits m ask may_stop → IsPureClose m ask → ⊥
     pub count : ℕ
     pub undecided : HasUndecided m count
     pub few : most ≤ 3 * count
 
-module _ {S : Type 0} (m : GameModel S) (ask : Ask) (may_stop : Bool) where
   -- an induction's result, and its turns, none of which was spent before
   abbrev pub IsSolvedFor : Result (Option Induced) NoMemory × Budget → Type 0
   IsSolvedFor (found, turns) = IsInductionResult m ask.weight ask.rows (whole_budget ask may_stop) turns found
@@ -73,5 +71,5 @@ module _ {S : Type 0} (m : GameModel S) (ask : Ask) (may_stop : Bool) where
   -- what is found, or plans to be bettered with the turns that are left
   abbrev pub IsStepOf : Step → Type 0
   IsStepOf (steps.Found x) = IsFoundGame m ask may_stop x
-  IsStepOf (steps.Left l) = IsUnfinished m ask l.plans l.budgets.begun.spent
+  IsStepOf (steps.Left l) = IsUnfinished l.plans l.budgets.begun.spent
       × AreBudgets ask l.budgets.begun l.budgets.turns.items × (l.budgets.begun.may_stop ≡ may_stop)

@@ -34,7 +34,7 @@ pub(crate) fn induce<
     requires solve { IsSolver (G.model g) ask.now may_stop (F.pre solve) (F.post solve) }
     ensures { IfOk result (IsStepOf (G.model g) ask.now may_stop) }
 {
-    let pure = pure_plans(alloc, g, ask, gate)?;
+    let pure = pure_plans(alloc, g, ask, gate, may_stop)?;
     if is_near(pure.lower, pure.upper, ask.gap) {
         Ok(Step::Found(unspent(alloc, g, ask, may_stop, pure)?))
     } else {
@@ -43,16 +43,22 @@ pub(crate) fn induce<
     }
 }
 
-/// What the serial searches of the root find, without a turn.
-fn pure_plans<G: Game, T: Gate>(alloc: Global, g: G, ask: &Ask, gate: &T) -> Result<Found, NoMemory>
+/// What the serial searches of the root find, without a turn. The gate can stop them where `may_stop` says so.
+fn pure_plans<G: Game, T: Gate>(
+    alloc: Global,
+    g: G,
+    ask: &Ask,
+    gate: &T,
+    may_stop: bool,
+) -> Result<Found, NoMemory>
     requires ask { IsAskInRange ask.now }
     requires fine { IsFineWeight (G.model g) ask.now.weight }
-    ensures { IfOk result (IsPureFound (G.model g) ask.now) }
+    ensures { IfOk result (IsPureFound (G.model g) ask.now may_stop) }
 {
     let mut first = *ask;
     first.turns = 0;
     first.workers = 1;
-    let budgets = Budgets::whole(alloc, &first, false)?;
+    let budgets = Budgets::whole(alloc, &first, may_stop)?;
     find_alone(alloc, g, &first, budgets, gate)
 }
 
@@ -65,7 +71,7 @@ fn unspent<G: Game>(
     pure: Found,
 ) -> Result<Found, NoMemory>
     requires ask { IsAskInRange ask.now }
-    requires pure { IsPureFound (G.model g) ask.now pure }
+    requires pure { IsPureFound (G.model g) ask.now may_stop pure }
     requires near { found_gap pure ≤ℤ ask.now.gap }
     ensures { IfOk result (IsFoundGame (G.model g) ask.now may_stop) }
 {
@@ -87,7 +93,7 @@ fn proposed<G: Game>(
 ) -> Result<Step, NoMemory>
     requires ask { IsAskInRange ask.now }
     requires search { ask.now.search ≡ Induction }
-    requires pure { IsPureFound (G.model g) ask.now pure }
+    requires pure { IsPureFound (G.model g) ask.now turns.may_stop pure }
     requires far { ask.now.gap <ℤ found_gap pure }
     requires solved { IsSolvedFor (G.model g) ask.now turns.may_stop (found, turns) }
     ensures { IfOk result (IsStepOf (G.model g) ask.now turns.may_stop) }
@@ -110,7 +116,7 @@ fn proposed<G: Game>(
             bound: upper,
         },
     };
-    let plans = better_plans(g, ask, pure, found, turns.spent());
+    let plans = better_plans(g, ask, pure, found, &turns);
     let budgets = Budgets::begun(alloc, ask, turns)?;
     if is_enough(plans.one.bound, plans.two.bound, ask.gap, resolution) {
         Ok(Step::Found(found_of(alloc, plans, resolution, budgets)))
@@ -119,23 +125,23 @@ fn proposed<G: Game>(
     }
 }
 
-/// The plans that an induction found after so many turns, or those given where these are better.
+/// The plans that an induction found with these turns, or those given where these are better.
 fn better_plans<G: Game>(
     g: G,
     ask: &Ask,
     pure: BothPlans,
     found: Result<Option<Induced>, NoMemory>,
-    spent: u64,
+    turns: &Turns,
 ) -> BothPlans
     requires ask { IsAskInRange ask.now }
-    requires pure { AreFoundPlans (G.model g) ask.now (Unit {0}) pure }
+    requires pure { AreFoundPlans (G.model g) ask.now turns.now.may_stop (Unit {0}) pure }
     requires sheets { IfOk found (λ some. IfSome some (IsInduced (G.model g) ask.now.weight)) }
-    ensures { AreFoundPlans (G.model g) ask.now (spent ≡ 0) result }
+    ensures { AreFoundPlans (G.model g) ask.now turns.now.may_stop (turns.now.spent ≡ 0) result }
 {
     match found {
         Ok(Some(found)) => BothPlans {
-            one: chosen(g, Side::One, ask, spent, pure.one, found.one, found.lower),
-            two: chosen(g, Side::Two, ask, spent, pure.two, found.two, found.upper),
+            one: chosen(g, Side::One, ask, turns, pure.one, found.one, found.lower),
+            two: chosen(g, Side::Two, ask, turns, pure.two, found.two, found.upper),
         },
         Ok(None) => pure,
         Err(NoMemory) => pure,
@@ -147,18 +153,18 @@ fn chosen<G: Game>(
     g: G,
     side: Side,
     ask: &Ask,
-    spent: u64,
+    turns: &Turns,
     held: Plan,
     sheet: Sheet,
     bound: i64,
 ) -> Plan
     requires ask { IsAskInRange ask.now }
-    requires held { IsFoundPlan (G.model g) ask.now (Unit {0}) side held.sheet held.bound }
+    requires held { IsFoundPlan (G.model g) ask.now turns.now.may_stop (Unit {0}) side held.sheet held.bound }
     requires sheet { IsSheetOf (G.model g) side ask.now.weight sheet }
     requires bound { bound ≡ root_bound (G.model g) sheet }
-    ensures { IsFoundPlan (G.model g) ask.now (spent ≡ 0) side result.sheet result.bound }
+    ensures { IsFoundPlan (G.model g) ask.now turns.now.may_stop (turns.now.spent ≡ 0) side result.sheet result.bound }
 {
-    if spent == 0 {
+    if turns.spent() == 0 {
         return held;
     }
     if sheet.rows.len() > ask.rows as usize {

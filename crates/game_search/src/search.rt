@@ -146,7 +146,7 @@ fn whole<G: Game>(g: G, ask: &Ask, may_stop: bool, found: Found) -> Found
 /// What was found by double oracle, with the plans of the induction where these are better.
 fn bettered<G: Game>(g: G, ask: &Ask, plans: BothPlans, found: Found, begun: Begun) -> Found
     requires search { ask.now.search ≡ Induction }
-    requires left { IsUnfinished (G.model g) ask.now plans begun.spent }
+    requires left { IsUnfinished (G.model g) ask.now begun.may_stop plans begun.spent }
     requires found { IsFoundFor (G.model g) ask.now begun found }
     ensures { IsFoundGame (G.model g) ask.now begun.may_stop result }
 {

@@ -17,7 +17,7 @@ ghost use Rattle.sums.specs.Sums.{count_below};
 
 use crate::counts::{choose, deals, spread};
 use crate::hands::{hands_key, play, won_by};
-use crate::places::{deal_number, part_number};
+use crate::places::{deal_number, is_mirrored, mirrored_number, part_number};
 use crate::sets::{number_at, size, take_out};
 use crate::transitions::{NextDeals, NextDraws, Part, add_deals, parts_without};
 use crate::{Goofspiel, GoofspielError, Pay, Setting, State};
@@ -315,6 +315,23 @@ impl Game for GoofspielDrawn {
             undrawn,
             place,
         }
+    }
+
+    #[inline]
+    fn mirrored_place(&self, s: DrawnState) -> Option<u64> {
+        if !is_mirrored(&self.setting) {
+            return None;
+        }
+        let left = self.rank(s);
+        let deal = mirrored_number(&self.setting, self.spread(), s.hands);
+        let undrawn = part_number(self.root().undrawn, s.undrawn);
+        let number = deal.wrapping_mul(self.sets(left)).wrapping_add(undrawn);
+        let below = number.wrapping_mul(self.place_count());
+        Some(
+            self.deals_below(left)
+                .wrapping_add(below)
+                .wrapping_add(u64::from(s.place)),
+        )
     }
 
     fn add_transitions(

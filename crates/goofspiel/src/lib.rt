@@ -29,7 +29,7 @@ pub use drawn::{
     drawn_same_serial_bounds, keeps_drawn_rules,
 };
 use hands::{hands_key, play, won_by};
-use places::deal_number;
+use places::{deal_number, is_mirrored, mirrored_number};
 pub use position::position_has_one_game;
 use position::{
     check_cards, check_lengths, check_prizes, check_score, hand_of, prize_array, prize_sum,
@@ -348,6 +348,16 @@ impl Game for Goofspiel {
     #[inline]
     fn drawn(&self, s: State, a: u32, b: u32, _d: u32) -> State {
         self.next(s, a, b)
+    }
+
+    #[inline]
+    fn mirrored_place(&self, s: State) -> Option<u64> {
+        if !is_mirrored(&self.setting) {
+            return None;
+        }
+        let left = self.rank(s);
+        let number = mirrored_number(&self.setting, self.spread(left), s);
+        Some(self.deals_below(left).wrapping_add(number))
     }
 
     fn add_transitions(

@@ -135,3 +135,30 @@ pub(crate) fn deal_number(setting: &Setting, far: u32, s: State) -> u64
     let number = part_number(setting.one, s.one) * hands + part_number(setting.two, s.two);
     number * (2 * far as u64 + 1) + score_number(setting, far, s)
 }
+
+/// Whether both sides hold the same cards at first, and neither has won more than the other.
+#[inline]
+pub(crate) fn is_mirrored(setting: &Setting) -> bool {
+    setting.one == setting.two && setting.score == 0
+}
+
+/// The number of a deal in which the sides are exchanged, in a position that is its own mirror image. Proposals alone read
+/// it.
+#[inline]
+pub(crate) fn mirrored_number(setting: &Setting, far: u32, s: State) -> u64
+    requires cards { setting.now.one < 2 ^ 13 }
+    requires count { setting.now.count ≤ 13 }
+    requires one { s.one < 2 ^ 13 }
+    requires two { s.two < 2 ^ 13 }
+    requires far { far ≤ 3315 }
+{
+    let hands = choose(setting.count as u32, size(s.one));
+    let two = part_number(setting.one, s.one);
+    let number = part_number(setting.one, s.two)
+        .wrapping_mul(hands)
+        .wrapping_add(two);
+    let score = i64::from(far) - i64::from(s.score);
+    number
+        .wrapping_mul(2 * u64::from(far) + 1)
+        .wrapping_add(score.unsigned_abs())
+}

@@ -1,10 +1,8 @@
 -- Bounds by rows: between which numbers they and the numbers of turns lie, and the best one that weights prove.
-use Rattle.std.proofs.Common.{◌≡◌, ℕ, ◌+◌, ◌<◌, ◌≤◌, ℤ, pos, ◌+ℤ◌, ◌*ℤ◌, Option, None, Some, List, length, get_or, sum, inl, inr, refl, sym, ap, ◌∙◌, arith}
+use Rattle.std.proofs.Common.{◌≡◌, ◌≢◌, ℕ, ◌+◌, Bool, cond, ◌<◌, ◌≤◌, ℤ, pos, ◌+ℤ◌, ◌*ℤ◌, Option, None, Some, List, get_or, inl, inr, refl, sym, ap, ◌∙◌, arith}
 use Rattle.std.specs.Int.RustNames.{unsigned_abs}
-use Rattle.std.specs.List.{All}
 use Rattle.std.proofs.lemmas.Bool.{cases_eq, cases_lt}
 use Rattle.std.proofs.lemmas.Int.{ints}
-use Rattle.std.proofs.lemmas.List.{get_or_default}
 use Rattle.sums.specs.Sums.{sum_below, count_below}
 use Rattle.sums.proofs.CountLemmas.{count_list, count_term}
 use Rattle.sums.proofs.IntegerLemmas.{int_le_refl}
@@ -23,7 +21,7 @@ use Rattle.plan_book.specs.Steps.{cell, worth}
 use Rattle.plan_book.proofs.ExpectedLemmas.{is_same, is_other}
 use Rattle.plan_book.proofs.GuaranteeLemmas.{chances}
 use Rattle.plan_book.proofs.StepLemmas.{looser_rounded, rounded_tightest}
-use Rattle.induction.specs.Certified.{IsWithinState, ArePlaced, turn_numbers, IsBestStep}
+use Rattle.induction.specs.Certified.{IsWithinState, IsBoundWord, ArePlaced, turn_numbers, IsBestStep}
 
 abbrev pub IsSmall : ℤ → Type 0
 IsSmall x = unsigned_abs x ≤ 4000000000
@@ -66,8 +64,40 @@ module _ {S : Type 0} (m : GameModel S) (game : IsGame m) where
     | inr on ↦ rw (is_other (m.rank s) 0 on) (state_within_state side s r)
   ]
 
-  pub bound_within : (side : Side) (rows : List SheetRow) (places : ℕ → Option ℕ) (s : S) → ArePlaced m rows places → Reachable m s → IsWithinState m s (bound_at m side rows s)
-  bound_within side rows places s placed r = or_within side s (row_at rows (m.key s)) r (λ row e. placed.ranged s row r e)
+  pub bound_within : (side : Side) (rows : List SheetRow) (number : S → ℕ) (words : ℕ → ℕ) (s : S) → ArePlaced m number rows words → Reachable m s → IsWithinState m s (bound_at m side rows s)
+  bound_within side rows number words s placed r = or_within side s (row_at rows (m.key s)) r (λ row e. placed.ranged s row r e)
+
+  -- ---- bounds as words
+  word_small : (o : Option SheetRow) (word : ℕ) → ((row : SheetRow) → o ≡ Some row → IsSmall row.bound) → IsBoundWord o word → word ≤ 12000000000
+  word_small None word small is = omega (arith, is)
+  word_small (Some row) word small is = let low = small row refl in omega (arith, ints, low, is)
+
+  word_or : (side : Side) (s : S) (o : Option SheetRow) (word : ℕ) (bound : ℤ) → IsBoundWord o word → 1 ≤ word → bound +ℤ pos 8000000000 ≡ pos word → bound ≡ bound_or m side s o
+  word_or side s None word bound is some e = absurd (omega (arith, is, some))
+  word_or side s (Some row) word bound is some e = omega (arith, ints, is, e)
+
+  none_or : (o : Option SheetRow) (word : ℕ) → ((row : SheetRow) → o ≡ Some row → IsSmall row.bound) → IsBoundWord o word → word ≡ 0 → o ≡ None
+  none_or None word small is none = refl
+  none_or (Some row) word small is none = absurd (let low = small row refl in omega (arith, ints, low, is, none))
+
+  module _ (rows : List SheetRow) (number : S → ℕ) (words : ℕ → ℕ) (placed : ArePlaced m number rows words) (s : S) (r : Reachable m s) where
+    row_small : (row : SheetRow) → row_at rows (m.key s) ≡ Some row → IsSmall row.bound
+    row_small row e = within_small s row.bound r (placed.ranged s row r e)
+
+    pub word_within : words (number s) ≤ 12000000000
+    word_within = word_small (row_at rows (m.key s)) (words (number s)) row_small (placed.held s r)
+
+    pub bound_by_word : (side : Side) (bound : ℤ) → 1 ≤ words (number s) → bound +ℤ pos 8000000000 ≡ pos (words (number s)) → bound ≡ bound_at m side rows s
+    bound_by_word side bound some e = word_or side s (row_at rows (m.key s)) (words (number s)) bound (placed.held s r) some e
+
+    no_row : words (number s) ≡ 0 → row_at rows (m.key s) ≡ None
+    no_row none = none_or (row_at rows (m.key s)) (words (number s)) row_small (placed.held s r) none
+
+    pub end_by_word : (side : Side) → words (number s) ≡ 0 → m.rank s ≡ 0 → end_bound m s ≡ bound_at m side rows s
+    end_by_word side none stop = sym (ap (bound_or m side s) (no_row none) ∙ ap (λ (b : Bool). cond b (end_bound m s) (state_bound m side s)) (is_same (m.rank s) 0 stop))
+
+    pub state_by_word : (side : Side) → words (number s) ≡ 0 → m.rank s ≢ 0 → state_bound m side s ≡ bound_at m side rows s
+    state_by_word side none on = sym (ap (bound_or m side s) (no_row none) ∙ ap (λ (b : Bool). cond b (end_bound m s) (state_bound m side s)) (is_other (m.rank s) 0 on))
 
   -- ---- the numbers of turns, and their means
   module _ (side : Side) (s : S) (own reply : ℕ) (r : Reachable m s) (at : own < m.moves side s) (against : reply < m.moves (other_side side) s) where
@@ -88,9 +118,9 @@ module _ {S : Type 0} (m : GameModel S) (game : IsGame m) where
           high = looser_trans Two _ _ _ (turn_range m Two side s own reply d game r turn) (looser_add Two c _ _ h.high);
         }
 
-    pub number_within : (rows : List SheetRow) (places : ℕ → Option ℕ) → ArePlaced m rows places → (d : ℕ) → d < draws_of m side s own reply
+    pub number_within : (rows : List SheetRow) (number : S → ℕ) (words : ℕ → ℕ) → ArePlaced m number rows words → (d : ℕ) → d < draws_of m side s own reply
         → IsWithinState m s (turn_numbers m side rows s own reply d)
-    number_within rows places placed d u = turn_within (bound_at m side rows) d u (bound_within side rows places (child_of m side s own reply d) placed (child_reachable d u))
+    number_within rows number words placed d u = turn_within (bound_at m side rows) d u (bound_within side rows number words (child_of m side s own reply d) placed (child_reachable d u))
 
     cell_within : (numbers : ℕ → ℕ → ℕ → ℤ) → ((d : ℕ) → d < draws_of m side s own reply → IsWithinState m s (numbers own reply d)) → IsWithinState m s (cell m side s numbers own reply)
     cell_within numbers h =
@@ -106,8 +136,8 @@ module _ {S : Type 0} (m : GameModel S) (game : IsGame m) where
         (looser_right side _ _ _ (same (state_bound m (other_side side) s))
         (looser_sum side n _ _ (λ d u. looser_times side (chance_of m side s own reply d) _ _ (to_state m s side _ (h d u)))))))
 
-    pub cell_by_rows : (rows : List SheetRow) (places : ℕ → Option ℕ) → ArePlaced m rows places → IsWithinState m s (cell m side s (turn_numbers m side rows s) own reply)
-    cell_by_rows rows places placed = cell_within (turn_numbers m side rows s) (λ d u. number_within rows places placed d u)
+    pub cell_by_rows : (rows : List SheetRow) (number : S → ℕ) (words : ℕ → ℕ) → ArePlaced m number rows words → IsWithinState m s (cell m side s (turn_numbers m side rows s) own reply)
+    cell_by_rows rows number words placed = cell_within (turn_numbers m side rows s) (λ d u. number_within rows number words placed d u)
 
 -- ---- a sum with one term more
 pub one_more : (n : ℕ) (f : ℕ → ℤ) (s x y : ℤ) → s ≡ sum_below n f → x ≡ f n → y ≡ s +ℤ x → y ≡ sum_below (n + 1) f
@@ -125,10 +155,6 @@ cell_is m side rows s own reply count total result all summed divided = rw (divi
 pub no_part : (x : ℤ) (weight : ℕ) → weight ≡ 0 → pos 0 ≡ pos weight *ℤ x
 no_part x weight e = rw e (omega (arith, ints))
 
--- ---- weights
-pub weights_light : (weights : List ℕ) (most : ℕ) → sum weights ≤ most → All (λ weight. weight ≤ most) weights
-weights_light weights most h = λ k d l. omega (arith, count_term (length weights) (λ i. get_or weights i 0) k l, count_list weights, get_or_default weights k 0 d l)
-
 -- ---- the least of numbers for a side
 pub record IsLeast (side : Side) (f : ℕ → ℤ) (n : ℕ) (least : ℤ) : Type 0 where
   pub below : (q : ℕ) → q < n → IsNoTighter side least (f q)
@@ -137,14 +163,6 @@ pub record IsLeast (side : Side) (f : ℕ → ℤ) (n : ℕ) (least : ℤ) : Typ
   pub is : least ≡ f place
 
 module _ (side : Side) (f : ℕ → ℤ) where
-  pub least_first : (x : ℤ) → x ≡ f 0 → IsLeast side f 1 x
-  least_first x e = record {
-    below = λ q l. let none : q ≡ 0 = omega arith in rw (none, e) (looser_refl side (f 0));
-    place = 0;
-    place_in = omega arith;
-    is = e;
-  }
-
   upto : (n : ℕ) (x : ℤ) → ((q : ℕ) → q < n → IsNoTighter side x (f q)) → IsNoTighter side x (f n) → (q : ℕ) → q < n + 1 → IsNoTighter side x (f q)
   upto n x before last q l = elim (cases_lt q n) [
     | inl earlier ↦ before q earlier
@@ -170,7 +188,7 @@ module _ (side : Side) (f : ℕ → ℤ) where
 -- ---- the best bound
 module _ {S : Type 0} (m : GameModel S) (game : IsGame m) (side : Side) (s : S) (total : ℕ) (weights : List ℕ) (rows : List SheetRow)
     (r : Reachable m s) (goes : 1 ≤ m.rank s) (some : 1 ≤ total) (whole : AreWeights (m.moves side s) total weights)
-    (places : ℕ → Option ℕ) (placed : ArePlaced m rows places) where
+    (number : S → ℕ) (words : ℕ → ℕ) (placed : ArePlaced m number rows words) where
   abbrev worths : ℕ → ℤ
   worths reply = worth m side s weights (turn_numbers m side rows s) reply
 
@@ -180,11 +198,11 @@ module _ {S : Type 0} (m : GameModel S) (game : IsGame m) (side : Side) (s : S) 
 
   worth_from : (q : ℕ) → q < m.moves (other_side side) s → IsNoTighter side (pos total *ℤ state_bound m side s) (worths q)
   worth_from q p = looser_left side _ _ _ (weighed (state_bound m side s))
-      (looser_sum side (m.moves side s) _ _ (λ own u. looser_times side (get_or weights own 0) _ _ (from_state m s side _ (cell_by_rows m game side s own q r u p rows places placed))))
+      (looser_sum side (m.moves side s) _ _ (λ own u. looser_times side (get_or weights own 0) _ _ (from_state m s side _ (cell_by_rows m game side s own q r u p rows number words placed))))
 
   worth_to : (q : ℕ) → q < m.moves (other_side side) s → IsNoTighter side (worths q) (pos total *ℤ state_bound m (other_side side) s)
   worth_to q p = looser_right side _ _ _ (weighed (state_bound m (other_side side) s))
-      (looser_sum side (m.moves side s) _ _ (λ own u. looser_times side (get_or weights own 0) _ _ (to_state m s side _ (cell_by_rows m game side s own q r u p rows places placed))))
+      (looser_sum side (m.moves side s) _ _ (λ own u. looser_times side (get_or weights own 0) _ _ (to_state m s side _ (cell_by_rows m game side s own q r u p rows number words placed))))
 
   pub best_step : (least result : ℤ) → IsLeast side worths (m.moves (other_side side) s) least → result ≡ quotient side total least
       → IsBestStep m side s total weights rows result

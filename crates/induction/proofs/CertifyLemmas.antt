@@ -1,5 +1,5 @@
 -- Rows that are certified one after another, children first, are a lawful sheet.
-use Rattle.std.proofs.Common.{◌≡◌, ℕ, ◌+◌, ◌<◌, ◌≤◌, ℤ, pos, ◌+ℤ◌, Bool, true, false, cond, eqb, Option, None, Some, List, [], ◌∷◌, ◌++◌, map, length, take, get_or, option_and_then, slice_get, refl, sym, ap, subst, ◌∙◌, append_assoc, length-append, arith}
+use Rattle.std.proofs.Common.{◌≡◌, ℕ, ◌+◌, ◌<◌, ◌≤◌, ℤ, ◌+ℤ◌, Bool, false, cond, eqb, Option, None, Some, List, [], ◌∷◌, ◌++◌, map, length, take, get_or, refl, sym, ap, subst, ◌∙◌, append_assoc, length-append, arith}
 use Rattle.std.proofs.lemmas.List.{get_or_default, take_all, length-map, length_push}
 use Rattle.std.proofs.lemmas.List.Elements.{All-weaker, All-push, All-nil}
 use Rattle.std.proofs.lemmas.Cmp.{nat_eq_equiv}
@@ -7,10 +7,10 @@ use Rattle.std.proofs.lemmas.List.Sorted.{All-permutation, IsPermutation-map, le
 use Rattle.std.proofs.lemmas.Map.Keys.{IsDistinct-IsPermutation}
 use Rattle.std.specs.List.{All, IsDistinct}
 use Rattle.std.specs.List.Sorted.{IsNonDecreasingBy, IsPermutation}
-use Rattle.std.proofs.lemmas.Option.{slice_get-get_or}
-use Rattle.std.specs.Option.{IfSome, is_some}
+use Rattle.std.specs.Option.{is_some}
 use Rattle.sim_game.specs.declared.Side.{Side}
 use Rattle.sim_game.specs.Model.{GameModel, IsGame, Reachable}
+use Rattle.sim_game.specs.Numbers.{Numbering, IsNumbering}
 use Rattle.sim_game.specs.Sides.{other_side, turn_of, draws_of, child_of, turn_reward}
 use Rattle.sim_game.proofs.SideLemmas.{looser_left, looser_refl, side_turn}
 use Rattle.plan_book.specs.declared.Sheet.{Sheet}
@@ -24,7 +24,7 @@ use Rattle.plan_book.proofs.StepLemmas.{step_mono}
 use Rattle.plan_book.proofs.TakenLemmas.{row_pushed}
 use Rattle.induction.specs.declared.PlannedState.{PlannedState}
 use Rattle.induction.specs.Planned.{open_row, planned, weights_of_row, IsPlannedState, ArePlanned}
-use Rattle.induction.specs.Certified.{ArePlaced, turn_numbers, IsBestStep, HasBestBounds}
+use Rattle.induction.specs.Certified.{IsBoundWord, ArePlaced, turn_numbers, IsBestStep, HasBestBounds}
 use Rattle.induction.proofs.RowLemmas.{opened, weights_opened, keys_opened, state_keys, keys_open, planned_moved, reached_by, placed_more, next_is_new, filled_more, row_moved, rows_rise}
 use Rattle.induction.proofs.BoundLemmas.{child_reachable}
 
@@ -80,28 +80,30 @@ pub record IsCertified {S : Type 0} (m : GameModel S) (side : Side) (total : ℕ
   pub best : IsBestStep m side state total r.weights rows r.bound
 
 -- the first states have rows, and all others have at least the rank of those
-pub record AreCertified {S : Type 0} (m : GameModel S) (side : Side) (total : ℕ) (f : ℕ → Option SheetRow) (states : List (PlannedState S))
-    (i : ℕ) (rows : List SheetRow) (places : ℕ → Option ℕ) : Type 0 where
+pub record AreCertified {S : Type 0} (m : GameModel S) (number : S → ℕ) (side : Side) (total : ℕ) (f : ℕ → Option SheetRow) (states : List (PlannedState S))
+    (i : ℕ) (rows : List SheetRow) (words : ℕ → ℕ) : Type 0 where
   pub filled : map opened rows ≡ map open_row (take i states)
-  pub placed : ArePlaced m rows places
+  pub placed : ArePlaced m number rows words
   pub top : ℕ
   pub each : All (IsCertified m side total f top rows) rows
   pub above : (j : ℕ) (d : PlannedState S) → i ≤ j → j < length states → top ≤ (get_or states j d).rank
 
-pub none_certified : {S : Type 0} (m : GameModel S) (side : Side) (total : ℕ) (f : ℕ → Option SheetRow) (states : List (PlannedState S)) (places : ℕ → Option ℕ)
-    → ((key : ℕ) → places key ≡ None) → AreCertified m side total f states 0 [] places
-none_certified m side total f states places none = record {
+pub none_certified : {S : Type 0} (m : GameModel S) (number : S → ℕ) (side : Side) (total : ℕ) (f : ℕ → Option SheetRow) (states : List (PlannedState S)) (words : ℕ → ℕ)
+    → ((place : ℕ) → words place ≡ 0) → AreCertified m number side total f states 0 [] words
+none_certified m number side total f states words none = record {
   filled = refl;
-  placed = record { within = λ key. rw (none key) tt; found = λ key. rw (none key) refl; ranged = λ s r reach e. absurd (cc) };
+  placed = record { held = λ s reach. none (number s); ranged = λ s r reach e. absurd (cc) };
   top = 0;
   each = All-nil _;
   above = λ j d l h. omega arith;
 }
 
-module _ {S : Type 0} (m : GameModel S) (game : IsGame m) (side : Side) (total : ℕ) (ps states : List (PlannedState S)) (order : AreOrdered m side total ps states)
-    (i : ℕ) (p : PlannedState S) (h : i < length states) (is : p ≡ get_or states i p) (rows : List SheetRow) (row : SheetRow) (places now : ℕ → Option ℕ)
-    (old : AreCertified m side total (planned ps) states i rows places) (key : row.key ≡ p.key) (weights : row.weights ≡ p.weights)
-    (best : IsBestStep m side p.state total p.weights rows row.bound) (put : (q : ℕ) → now q ≡ cond (eqb row.key q) (Some (length rows)) (places q)) where
+module _ {S : Type 0} (m : GameModel S) (game : IsGame m) (n : Numbering S) (numbered : IsNumbering m n) (side : Side) (total : ℕ)
+    (ps states : List (PlannedState S)) (order : AreOrdered m side total ps states)
+    (i : ℕ) (p : PlannedState S) (h : i < length states) (is : p ≡ get_or states i p) (rows : List SheetRow) (row : SheetRow) (words now : ℕ → ℕ) (word : ℕ)
+    (old : AreCertified m n.place side total (planned ps) states i rows words) (key : row.key ≡ p.key) (weights : row.weights ≡ p.weights)
+    (best : IsBestStep m side p.state total p.weights rows row.bound) (held : IsBoundWord (Some row) word)
+    (put : (q : ℕ) → now q ≡ cond (eqb (n.place p.state) q) word (words q)) where
   here : IsPlannedState m side total (planned ps) p
   here = planned_here m side total ps states order i p h is
 
@@ -127,12 +129,12 @@ module _ {S : Type 0} (m : GameModel S) (game : IsGame m) (side : Side) (total :
       let falls = game.rank_falls s (turn_of side own reply d) r legal in
       ap (λ (x : ℤ). turn_reward m side s own reply d +ℤ x) (kept_bound (child_of m side s own reply d) (child_reachable m game side s own reply r a b d u) (omega (arith, falls, low)))
 
-  pub certified_more : AreCertified m side total (planned ps) states (i + 1) (rows ++ row ∷ []) now
+  pub certified_more : AreCertified m n.place side total (planned ps) states (i + 1) (rows ++ row ∷ []) now
   certified_more =
       let top_low : old.top ≤ p.rank = subst (λ (x : PlannedState S). old.top ≤ x.rank) (sym is) (old.above i p (omega arith) h) in
       record {
         filled = filled_more states i p rows row h is key weights old.filled;
-        placed = placed_more m game rows row p.state places now old.placed reachable (here.is_key ∙ sym key) best.ranged new put;
+        placed = placed_more m game n numbered rows row p.state words now word old.placed reachable (here.is_key ∙ sym key) best.ranged new held put;
         top = p.rank;
         each = All-push (IsCertified m side total (planned ps) p.rank (rows ++ row ∷ [])) rows row
             (All-weaker (IsCertified m side total (planned ps) old.top rows) (IsCertified m side total (planned ps) p.rank (rows ++ row ∷ [])) (λ r c.
@@ -160,12 +162,9 @@ module _ {S : Type 0} (m : GameModel S) (game : IsGame m) (side : Side) (total :
       }
 
 -- ---- the next of them
-no_place_yet : (rows : List SheetRow) (place : Option ℕ) → IfSome place (λ i. i < length rows) → is_some (option_and_then (slice_get rows) place) ≡ false → is_some place ≡ false
-no_place_yet rows None within none = refl
-no_place_yet rows (Some i) within none =
-    absurd (let row : SheetRow = record { key = 0; bound = pos 0; weights = [] } in
-    let some = ap is_some (slice_get-get_or rows i row within) in
-    let no : true ≡ false = sym some ∙ none in cc)
+none_held : (o : Option SheetRow) (word : ℕ) → IsBoundWord o word → is_some o ≡ false → word ≡ 0
+none_held None word is e = is
+none_held (Some r) word is e = absurd (cc)
 
 item_there : {X : Type 0} (xs ys : List X) (x : X) → x ≡ get_or (xs ++ x ∷ ys) (length xs) x
 item_there [] ys x = refl
@@ -188,32 +187,35 @@ module _ {S : Type 0} (m : GameModel S) (side : Side) (total : ℕ) (ps done res
   pub ordered_next : AreOrdered m side total ps ((done ++ p ∷ []) ++ left)
   ordered_next = subst (AreOrdered m side total ps) moved_on ordered_here
 
-  pub certified_next : IsGame m → (rows : List SheetRow) (row : SheetRow) (places now : ℕ → Option ℕ) → AreCertified m side total (planned ps) (done ++ rest) (length done) rows places
-      → row.key ≡ p.key → row.weights ≡ p.weights → IsBestStep m side p.state total p.weights rows row.bound → ((q : ℕ) → now q ≡ cond (eqb row.key q) (Some (length rows)) (places q))
-      → AreCertified m side total (planned ps) ((done ++ p ∷ []) ++ left) (length (done ++ p ∷ [])) (rows ++ row ∷ []) now
-  certified_next game rows row places now old key weights best put =
-      let here : AreCertified m side total (planned ps) (done ++ p ∷ left) (length done) rows places =
-      subst (λ (l : List (PlannedState S)). AreCertified m side total (planned ps) (done ++ l) (length done) rows places) split old in
-      let more : AreCertified m side total (planned ps) (done ++ p ∷ left) (length done + 1) (rows ++ row ∷ []) now =
-      certified_more m game side total ps (done ++ p ∷ left) ordered_here (length done) p (there done left p) (item_there done left p) rows row places now here key weights best put in
-      subst (λ (n : ℕ). AreCertified m side total (planned ps) ((done ++ p ∷ []) ++ left) n (rows ++ row ∷ []) now) (sym (length_push done p))
-      (subst (λ (l : List (PlannedState S)). AreCertified m side total (planned ps) l (length done + 1) (rows ++ row ∷ []) now) moved_on more)
+  pub certified_next : IsGame m → (n : Numbering S) → IsNumbering m n → (rows : List SheetRow) (row : SheetRow) (words now : ℕ → ℕ) (word : ℕ)
+      → AreCertified m n.place side total (planned ps) (done ++ rest) (length done) rows words
+      → row.key ≡ p.key → row.weights ≡ p.weights → IsBestStep m side p.state total p.weights rows row.bound → IsBoundWord (Some row) word
+      → ((q : ℕ) → now q ≡ cond (eqb (n.place p.state) q) word (words q))
+      → AreCertified m n.place side total (planned ps) ((done ++ p ∷ []) ++ left) (length (done ++ p ∷ [])) (rows ++ row ∷ []) now
+  certified_next game n numbered rows row words now word old key weights best is put =
+      let here : AreCertified m n.place side total (planned ps) (done ++ p ∷ left) (length done) rows words =
+      subst (λ (l : List (PlannedState S)). AreCertified m n.place side total (planned ps) (done ++ l) (length done) rows words) split old in
+      let more : AreCertified m n.place side total (planned ps) (done ++ p ∷ left) (length done + 1) (rows ++ row ∷ []) now =
+      certified_more m game n numbered side total ps (done ++ p ∷ left) ordered_here (length done) p (there done left p) (item_there done left p) rows row words now word
+      here key weights best is put in
+      subst (λ (k : ℕ). AreCertified m n.place side total (planned ps) ((done ++ p ∷ []) ++ left) k (rows ++ row ∷ []) now) (sym (length_push done p))
+      (subst (λ (l : List (PlannedState S)). AreCertified m n.place side total (planned ps) l (length done + 1) (rows ++ row ∷ []) now) moved_on more)
 
-  pub new_place : (rows : List SheetRow) (places : ℕ → Option ℕ) (key : ℕ) → AreCertified m side total (planned ps) (done ++ rest) (length done) rows places → key ≡ p.key
-      → is_some (places key) ≡ false
-  new_place rows places key old same =
-      let here : AreCertified m side total (planned ps) (done ++ p ∷ left) (length done) rows places =
-      subst (λ (l : List (PlannedState S)). AreCertified m side total (planned ps) (done ++ l) (length done) rows places) split old in
-      let new : is_some (row_at rows key) ≡ false =
-      rw same (next_is_new (done ++ p ∷ left) (length done) p rows ordered_here.distinct (there done left p) (item_there done left p) here.filled) in
-      no_place_yet rows (places key) (here.placed.within key) (ap is_some (here.placed.found key) ∙ new)
+  pub no_word : (number : S → ℕ) (rows : List SheetRow) (words : ℕ → ℕ) → AreCertified m number side total (planned ps) (done ++ rest) (length done) rows words → words (number p.state) ≡ 0
+  no_word number rows words old =
+      let here : AreCertified m number side total (planned ps) (done ++ p ∷ left) (length done) rows words =
+      subst (λ (l : List (PlannedState S)). AreCertified m number side total (planned ps) (done ++ l) (length done) rows words) split old in
+      let new : is_some (row_at rows p.key) ≡ false =
+      next_is_new (done ++ p ∷ left) (length done) p rows ordered_here.distinct (there done left p) (item_there done left p) here.filled in
+      none_held (row_at rows (m.key p.state)) (words (number p.state)) (here.placed.held p.state (reached_reachable m side (planned ps) p.state planned_next.reached))
+      (ap (λ (k : ℕ). is_some (row_at rows k)) planned_next.is_key ∙ new)
 
 pub none_left : {X : Type 0} (done rest : List X) (n : ℕ) → n ≡ length rest → n ≡ 0 → length (done ++ rest) ≤ length done
 none_left done rest n long none = rw length-append (omega (arith, long, none))
 
 -- ---- all of them
 module _ {S : Type 0} (m : GameModel S) (game : IsGame m) (side : Side) (total : ℕ) (ps states : List (PlannedState S)) (order : AreOrdered m side total ps states)
-    (i : ℕ) (rows ys : List SheetRow) (places : ℕ → Option ℕ) (done : AreCertified m side total (planned ps) states i rows places) (all : length states ≤ i)
+    (i : ℕ) (rows ys : List SheetRow) (number : S → ℕ) (words : ℕ → ℕ) (done : AreCertified m number side total (planned ps) states i rows words) (all : length states ≤ i)
     (moved : IsPermutation rows ys) (rising : IsNonDecreasingBy (λ r. r.key) ys) where
   filled : map opened rows ≡ map open_row states
   filled = done.filled ∙ ap (map open_row) (take_all i states all)

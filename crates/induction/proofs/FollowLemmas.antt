@@ -11,6 +11,7 @@ use Rattle.std.specs.Prelude.{IsSomeAnd}
 use Rattle.sim_game.specs.declared.Side.{Side}
 use Rattle.sim_game.specs.Model.{GameModel, IsGame, Reachable, Turn, IsTurn, after_turn, after_history}
 use Rattle.sim_game.proofs.ReachLemmas.{reachable_root, reachable_turn}
+use Rattle.sim_game.specs.Numbers.{Numbering, IsNumbering}
 use Rattle.sim_game.specs.Sides.{own_move}
 use Rattle.plan_book.specs.declared.SheetRow.{SheetRow}
 use Rattle.plan_book.specs.Children.{children_of}
@@ -24,8 +25,8 @@ use Rattle.plan_book.proofs.GatherLemmas.{child_place}
 use Rattle.plan_book.proofs.WalkLemmas.{IsBelow, item_below, turn_parts, reply_move}
 use Rattle.induction.specs.declared.PlannedState.{PlannedState}
 use Rattle.induction.specs.Planned.{open_row, planned, weights_of_row, IsPlannedState, HasNext, HasEachRow, IsWholePlan, AreFollowed, IsVisited}
-use Rattle.induction.proofs.RowLemmas.{state_keys, keys_open, reached_by}
-use Rattle.induction.proofs.UndecidedLemmas.{some_put, none_known, known_more}
+use Rattle.induction.proofs.RowLemmas.{same_tests, state_keys, keys_open, reached_by}
+use Rattle.induction.proofs.UndecidedLemmas.{none_known, known_more}
 use Rattle.induction.specs.Undecided.{IsUndecided, KnowsUndecided}
 
 -- ---- more rows
@@ -71,32 +72,33 @@ extends_none xs = record { more = []; joins = nothing xs }
     nothing [] = refl
     nothing (y ∷ ys) = ap (λ (zs : List _). y ∷ zs) (nothing ys)
 
-pub extends_more : {X : Type 0} (xs ys zs : List X) → Extends xs ys → Extends ys zs → Extends xs zs
-extends_more xs ys zs a b = record { more = a.more ++ b.more; joins = b.joins ∙ ap (λ (l : List _). l ++ b.more) a.joins ∙ append_assoc xs a.more b.more }
-
 -- ---- the walk
-pub none_followed : {S : Type 0} (m : GameModel S) (side : Side) (total : ℕ) (seen : ℕ → Option ℕ) → ((key : ℕ) → seen key ≡ None) → AreFollowed m side total seen []
+pub none_followed : {S : Type 0} (m : GameModel S) (number : S → ℕ) (side : Side) (total : ℕ) (seen : ℕ → Bool) → ((place : ℕ) → seen place ≡ false) → AreFollowed m number side total seen []
 unfolding IsDistinct
-none_followed m side total seen none = record {
+none_followed m number side total seen none = record {
   plan = record { distinct = tt; each = All-nil _ };
   undecided = All-nil _;
-  keys = λ key. ap is_some (none key);
-  known = none_known m m.key _ 0 refl;
+  places = λ s reach. none (number s);
+  known = none_known m number seen 0 refl;
 }
 
-is_some_step : (here : Bool) (place : ℕ) (row : SheetRow) (o : Option ℕ) (r : Option SheetRow) → is_some o ≡ is_some r → is_some (cond here (Some place) o) ≡ is_some (cond here (Some row) r)
-is_some_step true place row o r h = refl
-is_some_step false place row o r h = h
+is_some_step : (here : Bool) (row : SheetRow) (seen : Bool) (r : Option SheetRow) → seen ≡ is_some r → cond here true seen ≡ is_some (cond here (Some row) r)
+is_some_step true row seen r h = refl
+is_some_step false row seen r h = h
 
-module _ {S : Type 0} (m : GameModel S) (side : Side) (total place : ℕ) (seen now : ℕ → Option ℕ) (states : List (PlannedState S)) (p : PlannedState S)
-    (old : AreFollowed m side total seen states) (is_key : m.key p.state ≡ p.key) (is_rank : m.rank p.state ≡ p.rank) (mine : IsUndecided m p.state)
-    (reached : IsReached m side (planned states) p.state) (whole : AreWeights (m.moves side p.state) total p.weights) (new : is_some (seen p.key) ≡ false)
-    (put : (q : ℕ) → now q ≡ cond (eqb p.key q) (Some place) (seen q)) where
+module _ {S : Type 0} (m : GameModel S) (game : IsGame m) (n : Numbering S) (numbered : IsNumbering m n) (side : Side) (total : ℕ) (seen now : ℕ → Bool)
+    (states : List (PlannedState S)) (p : PlannedState S)
+    (old : AreFollowed m n.place side total seen states) (is_key : m.key p.state ≡ p.key) (is_rank : m.rank p.state ≡ p.rank) (mine : IsUndecided m p.state)
+    (reached : IsReached m side (planned states) p.state) (whole : AreWeights (m.moves side p.state) total p.weights) (new : seen (n.place p.state) ≡ false)
+    (put : (q : ℕ) → now q ≡ cond (eqb (n.place p.state) q) true (seen q)) where
   pub pushed : Extends states (states ++ p ∷ [])
   pushed = record { more = p ∷ []; joins = refl }
 
+  reachable : Reachable m p.state
+  reachable = reached_reachable m side (planned states) p.state reached
+
   none : is_some (planned states p.key) ≡ false
-  none = sym (old.keys p.key) ∙ new
+  none = ap (λ (k : ℕ). is_some (planned states k)) (sym is_key) ∙ sym (old.places p.state reachable) ∙ new
 
   here : (q : ℕ) → planned (states ++ p ∷ []) q ≡ cond (eqb p.key q) (Some (open_row p)) (planned states q)
   here q = ap (λ (xs : List SheetRow). row_at xs q) (map-append open_row states (p ∷ [])) ∙ row_pushed (map open_row states) (open_row p) p.key q refl none
@@ -113,7 +115,7 @@ module _ {S : Type 0} (m : GameModel S) (side : Side) (total place : ℕ) (seen 
     whole = h.whole;
   }
 
-  pub followed_more : AreFollowed m side total now (states ++ p ∷ [])
+  pub followed_more : AreFollowed m n.place side total now (states ++ p ∷ [])
   followed_more = record {
     plan = record {
       distinct = rw (map-append (λ (x : PlannedState S). x.key) states (p ∷ []))
@@ -124,11 +126,10 @@ module _ {S : Type 0} (m : GameModel S) (side : Side) (total place : ℕ) (seen 
           (still p (record { is_key = is_key; is_rank = is_rank; goes_on = (let on = mine.goes_on in omega (arith, on, is_rank)); reached = reached; whole = whole }));
     };
     undecided = All-push (λ x. IsUndecided m x.state) states p old.undecided mine;
-    known = subst (KnowsUndecided m m.key (λ q. is_some (now q))) (sym (length_push states p))
-        (known_more m m.key (λ q. is_some (seen q)) (length states) old.known p.state (reached_reachable m side (planned states) p.state reached) mine
-        (ap (λ (k : ℕ). is_some (seen k)) is_key ∙ new) (λ q. is_some (now q))
-        (λ q. ap is_some (put q) ∙ some_put (eqb p.key q) place (seen q) ∙ ap (λ (k : ℕ). cond (eqb k q) true (is_some (seen q))) (sym is_key)));
-    keys = λ q. ap is_some (put q) ∙ is_some_step (eqb p.key q) place (open_row p) (seen q) (planned states q) (old.keys q) ∙ ap is_some (sym (here q));
+    known = subst (KnowsUndecided m n.place now) (sym (length_push states p)) (known_more m n.place seen (length states) old.known p.state reachable mine new now put);
+    places = λ t r. put (n.place t)
+        ∙ ap (λ (b : Bool). cond b true (seen (n.place t))) (same_tests m game n numbered p.state t reachable r ∙ ap (λ (k : ℕ). eqb k (m.key t)) is_key)
+        ∙ is_some_step (eqb p.key (m.key t)) (open_row p) (seen (n.place t)) (planned states (m.key t)) (old.places t r) ∙ ap is_some (sym (here (m.key t)));
   }
 
 -- ---- what follows
@@ -148,9 +149,9 @@ not_visited m side states s found = record { more = []; joins = (extends_none st
 
 -- ---- among the children of a state
 -- the walk is at the children of a state that is reached and planned, and has visited so many of them
-pub record IsAmong {S : Type 0} (m : GameModel S) (side : Side) (total : ℕ) (first : List (PlannedState S)) (seen : ℕ → Option ℕ)
+pub record IsAmong {S : Type 0} (m : GameModel S) (number : S → ℕ) (side : Side) (total : ℕ) (first : List (PlannedState S)) (seen : ℕ → Bool)
     (states : List (PlannedState S)) (s : S) (items : List S) (index : ℕ) : Type 0 where
-  pub followed : AreFollowed m side total seen states
+  pub followed : AreFollowed m number side total seen states
   pub reached : IsReached m side (planned states) s
   pub mine : PlannedState S
   pub rest : List (PlannedState S)
@@ -161,19 +162,20 @@ pub record IsAmong {S : Type 0} (m : GameModel S) (side : Side) (total : ℕ) (f
   pub next : All (HasNext m side (planned states)) rest
   pub done : (k : ℕ) (d : S) → k < index → IsUndecided m (get_or items k d) → IsSome (planned states (m.key (get_or items k d)))
 
-pub among_first : {S : Type 0} (m : GameModel S) (side : Side) (total place : ℕ) (seen now : ℕ → Option ℕ) (states : List (PlannedState S)) (p : PlannedState S) (items : List S)
-    → AreFollowed m side total seen states → m.key p.state ≡ p.key → m.rank p.state ≡ p.rank → IsUndecided m p.state
-    → IsReached m side (planned states) p.state → AreWeights (m.moves side p.state) total p.weights → is_some (seen p.key) ≡ false
-    → ((q : ℕ) → now q ≡ cond (eqb p.key q) (Some place) (seen q)) → items ≡ children_of m side p.weights p.state
-    → IsAmong m side total states now (states ++ p ∷ []) p.state items 0
-among_first m side total place seen now states p items old is_key is_rank mine reached whole new put items_are = record {
-  followed = followed_more m side total place seen now states p old is_key is_rank mine reached whole new put;
+pub among_first : {S : Type 0} (m : GameModel S) → IsGame m → (n : Numbering S) → IsNumbering m n → (side : Side) (total : ℕ) (seen now : ℕ → Bool)
+    (states : List (PlannedState S)) (p : PlannedState S) (items : List S)
+    → AreFollowed m n.place side total seen states → m.key p.state ≡ p.key → m.rank p.state ≡ p.rank → IsUndecided m p.state
+    → IsReached m side (planned states) p.state → AreWeights (m.moves side p.state) total p.weights → seen (n.place p.state) ≡ false
+    → ((q : ℕ) → now q ≡ cond (eqb (n.place p.state) q) true (seen q)) → items ≡ children_of m side p.weights p.state
+    → IsAmong m n.place side total states now (states ++ p ∷ []) p.state items 0
+among_first m game n numbered side total seen now states p items old is_key is_rank mine reached whole new put items_are = record {
+  followed = followed_more m game n numbered side total seen now states p old is_key is_rank mine reached whole new put;
   reached = reached_still m side states (states ++ p ∷ []) p.state (record { more = p ∷ []; joins = refl }) reached;
   mine = p;
   rest = [];
   joins = refl;
   is_state = refl;
-  has = has_row m side total place seen now states p old is_key is_rank mine reached whole new put;
+  has = has_row m game n numbered side total seen now states p old is_key is_rank mine reached whole new put;
   items_are = items_are;
   next = All-nil _;
   done = λ k d l goes. absurd (omega arith);
@@ -182,15 +184,15 @@ among_first m side total place seen now states p items old is_key is_rank mine r
 same_item : {X : Type 0} (xs : List X) (k : ℕ) (d e : X) → k < length xs → get_or xs k d ≡ get_or xs k e
 same_item xs k d e h = get_or_default xs k d e h
 
-module _ {S : Type 0} (m : GameModel S) (game : IsGame m) (side : Side) (total : ℕ) (first : List (PlannedState S)) (seen : ℕ → Option ℕ)
+module _ {S : Type 0} (m : GameModel S) (game : IsGame m) (number : S → ℕ) (side : Side) (total : ℕ) (first : List (PlannedState S)) (seen : ℕ → Bool)
     (states : List (PlannedState S)) (s : S) (items : List S) (index : ℕ)
-    (at : IsAmong m side total first seen states s items index) where
+    (at : IsAmong m number side total first seen states s items index) where
   pub among_child : (child : S) → index < length items → child ≡ get_or items index child → IsBelow m side (planned states) s child
   among_child child h is =
       item_below m game side (planned states) s at.mine.weights (open_row at.mine) index child at.reached at.has refl (rw (← at.items_are) h) (rw (← at.items_are) is)
 
-  pub among_more : (now : ℕ → Option ℕ) (later : List (PlannedState S)) (child : S) → index < length items → child ≡ get_or items index child
-      → AreFollowed m side total now later → IsVisited m side states later child → IsAmong m side total first now later s items (index + 1)
+  pub among_more : (now : ℕ → Bool) (later : List (PlannedState S)) (child : S) → index < length items → child ≡ get_or items index child
+      → AreFollowed m number side total now later → IsVisited m side states later child → IsAmong m number side total first now later s items (index + 1)
   among_more now later child h is followed visited =
       let grown : Extends states later = record { more = visited.more; joins = visited.joins } in
       record {
@@ -264,9 +266,9 @@ open_rows : {S : Type 0} (m : GameModel S) (side : Side) (total : ℕ) (states :
     → All (HasNext m side (planned states)) states → All (IsOpenRow m side total states) (map open_row states)
 open_rows m side total states plan next = All-map (IsOpenRow m side total states) open_row states (λ k d l. record { of = get_or states k d; is = refl; plan = plan k d l; next = next k d l })
 
-pub whole_plan : {S : Type 0} (m : GameModel S) → IsGame m → (side : Side) (total : ℕ) (seen : ℕ → Option ℕ) (states : List (PlannedState S)) (s : S) → s ≡ m.root
-    → AreFollowed m side total seen states → IsVisited m side [] states s → IsWholePlan m side total states
-whole_plan m game side total seen states s is followed visited =
+pub whole_plan : {S : Type 0} (m : GameModel S) → IsGame m → (number : S → ℕ) (side : Side) (total : ℕ) (seen : ℕ → Bool) (states : List (PlannedState S)) (s : S) → s ≡ m.root
+    → AreFollowed m number side total seen states → IsVisited m side [] states s → IsWholePlan m side total states
+whole_plan m game number side total seen states s is followed visited =
     let all_next : All (HasNext m side (planned states)) states = subst (All (HasNext m side (planned states))) (sym visited.joins) visited.next in
     record {
       plan = followed.plan;

@@ -1,19 +1,16 @@
 -- Undecided states in a list, each once, and the turns that their values take.
-use Rattle.std.proofs.Common.{◌≡◌, ℕ, ◌+◌, ◌-◌, ◌<◌, ◌≤◌, Bool, true, false, cond, eqb, List, [], ◌∷◌, ◌++◌, length, refl, sym, subst, arith}
+use Rattle.std.proofs.Common.{◌≡◌, ℕ, ◌+◌, ◌-◌, ◌<◌, ◌≤◌, Bool, true, false, cond, eqb, List, [], ◌∷◌, ◌++◌, length, sym, subst, arith}
 use Rattle.std.proofs.lemmas.List.{length_push}
-use Rattle.std.proofs.lemmas.List.Elements.{All-nil, All-push}
+use Rattle.std.proofs.lemmas.List.Elements.{All-push}
 use Rattle.sim_game.specs.Model.{GameModel, Reachable}
 use Rattle.matrix_game.specs.Budget.{Budget}
 use Rattle.matrix_game.proofs.BudgetLemmas.{budget_after}
 use Rattle.induction.specs.Listed.{GoesOn, AreListed}
 use Rattle.induction.specs.Spent.{HasSpent}
 use Rattle.induction.specs.Undecided.{IsUndecided, HasUndecided, KnowsUndecided}
-use Rattle.induction.proofs.UndecidedLemmas.{none_known, known_more, one_more_undecided}
+use Rattle.induction.proofs.UndecidedLemmas.{known_more, one_more_undecided}
 
 module _ {S : Type 0} (m : GameModel S) (number : S → ℕ) (rows : ℕ) (known : ℕ → Bool) where
-  pub none_listed : AreListed m number rows known []
-  none_listed = record { known_are = none_known m number known 0 refl; few = omega arith; each = All-nil _ }
-
   module _ (states : List S) (old : AreListed m number rows known states) (s : S) (reach : Reachable m s) (mine : IsUndecided m s) (new : known (number s) ≡ false) where
     pub listed_more : (now : ℕ → Bool) → ((q : ℕ) → now q ≡ cond (eqb (number s) q) true (known q)) → length states < rows → AreListed m number rows now (states ++ s ∷ [])
     listed_more now put room = record {

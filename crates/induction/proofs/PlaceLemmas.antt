@@ -1,8 +1,8 @@
 -- Words by places: no word yet, and one word more.
 use Rattle.std.proofs.Common.{◌≡◌, ℕ, ◌+◌, ◌<◌, ◌≤◌, Bool, true, false, cond, eqb, ltb, Option, None, Some, List, [], ◌∷◌, ◌++◌, length, get_or, set, replicate, inl, inr, refl, sym, ap, ◌∙◌, arith}
-use Rattle.std.proofs.lemmas.Bool.{cases_lt, cases_eq, lt-ltb, le-ltb, ltb-true, ltb-false}
+use Rattle.std.proofs.lemmas.Bool.{cases_lt, cases_eq, lt-ltb, le-ltb, ltb-true}
 use Rattle.std.proofs.lemmas.List.{get_or-replicate, get_or-set_same, get_or-set_other, length-set, length_push, get_or_append_left, get_or_default}
-use Rattle.std.proofs.lemmas.List.Elements.{All-get_or, All-nil, All-push}
+use Rattle.std.proofs.lemmas.List.Elements.{All-get_or, All-push}
 use Rattle.std.proofs.Math.Seq.{get_or-append_seam}
 use Rattle.std.specs.List.{position_or_len}
 use Rattle.std.specs.Option.{is_some}
@@ -118,8 +118,8 @@ module _ (w v : PlaceWords) (place word : ℕ) where
 pub none_put : (w : PlaceWords) (place word : ℕ) → word ≡ place_word w place → word ≡ 0 → is_put w place ≡ false
 none_put w place word is none = ap (λ (n : ℕ). ltb 0 n) (sym is ∙ none)
 
-pub put_none : (w : PlaceWords) (place : ℕ) → is_put w place ≡ false → place_word w place ≡ 0
-put_none w place e = let few = ltb-false 0 (place_word w place) e in omega (arith, few)
+pub some_put : (w : PlaceWords) (place word : ℕ) → word ≡ place_word w place → 1 ≤ word → is_put w place ≡ true
+some_put w place word is some = ap (λ (n : ℕ). ltb 0 n) (sym is) ∙ lt-ltb 0 word (omega (arith, some))
 
 pub put_more : (w v : PlaceWords) (place word : ℕ) → 1 ≤ word → IsOneMore w v place word → (other : ℕ) → is_put v other ≡ cond (eqb place other) true (is_put w other)
 put_more w v place word some more other = ap (λ (n : ℕ). ltb 0 n) (more other) ∙ either (eqb place other)
@@ -127,9 +127,6 @@ put_more w v place word some more other = ap (λ (n : ℕ). ltb 0 n) (more other
     either : (b : Bool) → ltb 0 (cond b word (place_word w other)) ≡ cond b true (is_put w other)
     either true = lt-ltb 0 word (omega (arith, some))
     either false = refl
-
-pub none_words : AreWords [] []
-none_words = record { as_many = refl; some = All-nil _ }
 
 pub words_more : (keys more words : List ℕ) (word : ℕ) → AreWords keys words → length more ≡ length keys + 1 → 1 ≤ word → AreWords more (words ++ word ∷ [])
 words_more keys more words word old long some = record {

@@ -1,5 +1,5 @@
 -- Rows by key: more of them, in another order, and with bounds in place of none.
-use Rattle.std.proofs.Common.{◌≡◌, ℕ, zero, suc, ◌+◌, ◌<◌, ◌≤◌, Bool, true, false, cond, eqb, Option, None, Some, option_and_then, List, [], ◌∷◌, ◌++◌, map, length, take, get_or, slice_get, inl, inr, refl, sym, ap, subst, ◌∙◌, arith, length-append}
+use Rattle.std.proofs.Common.{◌≡◌, ℕ, zero, suc, ◌+◌, ◌<◌, ◌≤◌, Bool, true, false, cond, eqb, Option, None, Some, List, [], ◌∷◌, ◌++◌, map, length, take, get_or, inl, inr, refl, sym, ap, subst, ◌∙◌, arith}
 use Rattle.std.proofs.lemmas.Bool.{cases_eq, eqb-true}
 use Rattle.std.proofs.lemmas.Cmp.{nat_eq_equiv}
 use Rattle.std.proofs.lemmas.List.{take-map, take_more, get_or-take, get_or-map, map-append}
@@ -8,21 +8,21 @@ use Rattle.std.proofs.lemmas.List.Sorted.{All-permutation, IsNonDecreasingBy-fro
 use Rattle.std.proofs.lemmas.Map.Keys.{IsDistinct-IsPermutation, IsDistinct-head, IsDistinct-tail, IsStrictlyIncreasing-from_distinct, apart_from_distinct}
 use Rattle.std.specs.List.{All, AllByRecursion, IsDistinct}
 use Rattle.std.specs.List.Sorted.{IsNonDecreasing, IsNonDecreasingBy, IsPermutation, IsStrictlyIncreasing}
-use Rattle.std.specs.Option.{IfSome, is_some}
+use Rattle.std.specs.Option.{is_some}
 use Rattle.std.specs.Prelude.{IsSomeAnd, pos}
 use Rattle.sim_game.specs.declared.Side.{Side}
 use Rattle.sim_game.specs.Model.{GameModel, IsGame, Reachable, Turn, after_turn}
+use Rattle.sim_game.specs.Numbers.{Numbering, IsNumbering}
 use Rattle.sim_game.specs.Sides.{own_move}
 use Rattle.plan_book.specs.declared.SheetRow.{SheetRow}
 use Rattle.plan_book.specs.Sheets.{row_at, IsKeptHistory, IsReached}
 use Rattle.plan_book.proofs.ExpectedLemmas.{is_same, is_other}
 use Rattle.plan_book.proofs.FoundLemmas.{row_listed}
-use Rattle.plan_book.proofs.GatherLemmas.{within_more}
 use Rattle.plan_book.proofs.LookupLemmas.{row_keys, keys_length, key_of}
 use Rattle.plan_book.proofs.TakenLemmas.{row_pushed}
 use Rattle.induction.specs.declared.PlannedState.{PlannedState}
 use Rattle.induction.specs.Planned.{open_row, planned, weights_of_row}
-use Rattle.induction.specs.Certified.{IsWithinState, ArePlaced}
+use Rattle.induction.specs.Certified.{IsWithinState, IsBoundWord, ArePlaced}
 
 -- ---- in another order
 later : (x : SheetRow) (all rs : List SheetRow) → AllByRecursion (λ y. eqb x.key y ≡ false) (row_keys rs) → AllByRecursion (λ r. row_at all r.key ≡ Some r) rs
@@ -118,24 +118,18 @@ module _ {S : Type 0} (m : GameModel S) (side : Side) (rows others : ℕ → Opt
   reached_by same s r = record { history = r.history; kept = kept_by same m.root r.history r.kept; leads = r.leads }
 
 -- ---- one row more
-slice_get_left : (xs ys : List SheetRow) (i : ℕ) → i < length xs → slice_get (xs ++ ys) i ≡ slice_get xs i
-slice_get_left [] ys i h = absurd (omega arith)
-slice_get_left (x ∷ xs) ys zero h = refl
-slice_get_left (x ∷ xs) ys (suc i) h = slice_get_left xs ys i (omega arith)
+-- two reachable states have one place where they have one key
+pub same_tests : {S : Type 0} (m : GameModel S) → IsGame m → (n : Numbering S) → IsNumbering m n → (s t : S) → Reachable m s → Reachable m t
+    → eqb (n.place s) (n.place t) ≡ eqb (m.key s) (m.key t)
+same_tests m game n numbered s t r q = elim (cases_eq (m.key s) (m.key t)) [
+  | inl e ↦ is_same (n.place s) (n.place t) (ap n.place (game.same_key s t r q e)) ∙ sym (is_same (m.key s) (m.key t) e)
+  | inr ne ↦ is_other (n.place s) (n.place t) (λ e. absurd (ne (ap m.key (numbered.apart s t r q e)))) ∙ sym (is_other (m.key s) (m.key t) ne)
+]
 
-slice_get_last : (xs : List SheetRow) (y : SheetRow) → slice_get (xs ++ y ∷ []) (length xs) ≡ Some y
-slice_get_last [] y = refl
-slice_get_last (x ∷ xs) y = slice_get_last xs y
-
-placed_still : (rows : List SheetRow) (row : SheetRow) (o : Option ℕ) (r : Option SheetRow) → IfSome o (λ i. i < length rows) → option_and_then (slice_get rows) o ≡ r
-    → option_and_then (slice_get (rows ++ row ∷ [])) o ≡ r
-placed_still rows row None r h e = e
-placed_still rows row (Some i) r h e = slice_get_left rows (row ∷ []) i h ∙ e
-
-found_more : (rows : List SheetRow) (row : SheetRow) (here : Bool) (o : Option ℕ) (r : Option SheetRow) → IfSome o (λ i. i < length rows) → option_and_then (slice_get rows) o ≡ r
-    → option_and_then (slice_get (rows ++ row ∷ [])) (cond here (Some (length rows)) o) ≡ cond here (Some row) r
-found_more rows row true o r h e = slice_get_last rows row
-found_more rows row false o r h e = placed_still rows row o r h e
+held_step : (here : Bool) (row : SheetRow) (old : Option SheetRow) (word was : ℕ) → IsBoundWord (Some row) word → IsBoundWord old was
+    → IsBoundWord (cond here (Some row) old) (cond here word was)
+held_step true row old word was mine others = mine
+held_step false row old word was mine others = others
 
 ranged_step : {S : Type 0} (m : GameModel S) (s : S) (here : Bool) (row r : SheetRow) (old : Option SheetRow) → (here ≡ true → IsWithinState m s row.bound)
     → (old ≡ Some r → IsWithinState m s r.bound) → cond here (Some row) old ≡ Some r → IsWithinState m s r.bound
@@ -143,14 +137,18 @@ ranged_step m s true row r old mine others e = let it : row ≡ r = cc in subst 
 ranged_step m s false row r old mine others e = others e
 
 -- the row of a reachable state
-pub placed_more : {S : Type 0} (m : GameModel S) → IsGame m → (rows : List SheetRow) (row : SheetRow) (s : S) (places now : ℕ → Option ℕ) → ArePlaced m rows places
-    → Reachable m s → m.key s ≡ row.key → IsWithinState m s row.bound
-    → is_some (row_at rows row.key) ≡ false → ((q : ℕ) → now q ≡ cond (eqb row.key q) (Some (length rows)) (places q)) → ArePlaced m (rows ++ row ∷ []) now
-placed_more {S = S} m game rows row s places now old reach is_key ranged none is = record {
-  within = λ q. let long : length rows + 1 ≡ length (rows ++ row ∷ []) = rw length-append (omega arith) in
-      subst (λ (n : ℕ). IfSome (now q) (λ i. i < n)) long (within_more (length rows) q (eqb row.key q) (places q) (now q) (old.within q) (is q));
-  found = λ q. ap (λ (o : Option ℕ). option_and_then (slice_get (rows ++ row ∷ [])) o) (is q)
-      ∙ found_more rows row (eqb row.key q) (places q) (row_at rows q) (old.within q) (old.found q) ∙ sym (row_pushed rows row row.key q refl none);
+pub placed_more : {S : Type 0} (m : GameModel S) → IsGame m → (n : Numbering S) → IsNumbering m n → (rows : List SheetRow) (row : SheetRow) (s : S) (words now : ℕ → ℕ) (word : ℕ)
+    → ArePlaced m n.place rows words → Reachable m s → m.key s ≡ row.key → IsWithinState m s row.bound → is_some (row_at rows row.key) ≡ false
+    → IsBoundWord (Some row) word → ((q : ℕ) → now q ≡ cond (eqb (n.place s) q) word (words q)) → ArePlaced m n.place (rows ++ row ∷ []) now
+placed_more {S = S} m game n numbered rows row s words now word old reach is_key ranged none is put = record {
+  held = λ t r.
+      let here : Bool = eqb (n.place s) (n.place t) in
+      let test : eqb row.key (m.key t) ≡ here = ap (λ (k : ℕ). eqb k (m.key t)) (sym is_key) ∙ sym (same_tests m game n numbered s t reach r) in
+      let at : row_at (rows ++ row ∷ []) (m.key t) ≡ cond here (Some row) (row_at rows (m.key t)) =
+      row_pushed rows row row.key (m.key t) refl none ∙ ap (λ (b : Bool). cond b (Some row) (row_at rows (m.key t))) test in
+      subst (λ (o : Option SheetRow). IsBoundWord o (now (n.place t))) (sym at)
+      (subst (IsBoundWord (cond here (Some row) (row_at rows (m.key t)))) (sym (put (n.place t)))
+      (held_step here row (row_at rows (m.key t)) word (words (n.place t)) is (old.held t r)));
   ranged = λ t r at e. ranged_step m t (eqb row.key (m.key t)) row r (row_at rows (m.key t))
       (λ same. let here : s ≡ t = game.same_key s t reach at (is_key ∙ eqb-true row.key (m.key t) same) in subst (λ (x : S). IsWithinState m x row.bound) here ranged)
       (λ o. old.ranged t r at o) (sym (row_pushed rows row row.key (m.key t) refl none) ∙ e);

@@ -1,6 +1,5 @@
 -- How many undecided states are known, one state after another.
-use Rattle.std.proofs.Common.{◌≡◌, inl, inr, ℕ, ◌+◌, ◌<◌, ◌≤◌, Bool, true, false, cond, eqb, Option, Some, refl, sym, ap, subst, ◌∙◌, arith}
-use Rattle.std.specs.Option.{is_some}
+use Rattle.std.proofs.Common.{◌≡◌, inl, inr, ℕ, ◌+◌, ◌<◌, ◌≤◌, Bool, true, false, cond, eqb, refl, sym, ap, subst, ◌∙◌, arith}
 use Rattle.std.specs.Prelude.{◌≢◌}
 use Rattle.std.proofs.lemmas.Bool.{cases_lt}
 use Rattle.sim_game.specs.Model.{GameModel, Reachable}
@@ -8,11 +7,6 @@ use Rattle.plan_book.proofs.ExpectedLemmas.{is_same, is_other}
 use Rattle.matrix_game.specs.Budget.{Budget, IsSameBudget}
 use Rattle.induction.specs.Undecided.{IsUndecided, HasUndecided, KnowsUndecided}
 use Rattle.induction.specs.Spent.{HasSpentEach}
-
--- a key that is put into a map
-pub some_put : {X : Type 0} (here : Bool) (x : X) (o : Option X) → is_some (cond here (Some x) o) ≡ cond here true (is_some o)
-some_put true x o = refl
-some_put false x o = refl
 
 module _ {S : Type 0} (m : GameModel S) where
   pub none_known : (number : S → ℕ) (known : ℕ → Bool) (count : ℕ) → count ≡ 0 → KnowsUndecided m number known count

@@ -1,5 +1,5 @@
 -- Rows with the best bounds that their weights prove over the rows before them.
-use Rattle.std.specs.Prelude.{◌≡◌, ℕ, ◌<◌, ℤ, ◌≤ℤ◌, Option, Some, IfSome, option_and_then, List, length, slice_get, All}
+use Rattle.std.specs.Prelude.{◌≡◌, ℕ, ℤ, pos, ◌+ℤ◌, ◌≤ℤ◌, Option, None, Some, List, All}
 use Rattle.sim_game.specs.declared.Side.{Side}
 use Rattle.sim_game.specs.declared.Side.TheVariants.{One, Two}
 use Rattle.sim_game.specs.Model.{GameModel, Reachable}
@@ -14,10 +14,14 @@ pub record IsWithinState {S : Type 0} (m : GameModel S) (s : S) (x : ℤ) : Type
   pub low : state_bound m One s ≤ℤ x
   pub high : x ≤ℤ state_bound m Two s
 
--- the places of rows by their keys; each bound lies within what holds of its state
-pub record ArePlaced {S : Type 0} (m : GameModel S) (rows : List SheetRow) (places : ℕ → Option ℕ) : Type 0 where
-  pub within : (key : ℕ) → IfSome (places key) (λ i. i < length rows)
-  pub found : (key : ℕ) → option_and_then (slice_get rows) (places key) ≡ row_at rows key
+-- the word of a row's bound, 0 where there is no row
+abbrev pub IsBoundWord : Option SheetRow → ℕ → Type 0
+IsBoundWord None word = word ≡ 0
+IsBoundWord (Some r) word = pos word ≡ r.bound +ℤ pos 8000000000
+
+-- the bounds of rows as words, by the places of their states; each bound lies within what holds of its state
+pub record ArePlaced {S : Type 0} (m : GameModel S) (number : S → ℕ) (rows : List SheetRow) (words : ℕ → ℕ) : Type 0 where
+  pub held : (s : S) → Reachable m s → IsBoundWord (row_at rows (m.key s)) (words (number s))
   pub ranged : (s : S) (r : SheetRow) → Reachable m s → row_at rows (m.key s) ≡ Some r → IsWithinState m s r.bound
 
 -- the numbers of a state's turns: rewards, with the bounds that the rows have at the states that follow

@@ -1,8 +1,8 @@
 -- A plan from the root down: states with whole weights, each of which the others reach.
-use Rattle.std.specs.Prelude.{◌≡◌, ℕ, ◌≤◌, pos, Option, IsSome, option_map, is_some, List, ◌++◌, length, map, All, nat_eq, slice_index}
+use Rattle.std.specs.Prelude.{◌≡◌, ℕ, ◌≤◌, pos, Bool, Option, IsSome, option_map, is_some, List, ◌++◌, length, map, All, nat_eq, slice_index}
 use Rattle.std.specs.List.{IsDistinct}
 use Rattle.sim_game.specs.declared.Side.{Side}
-use Rattle.sim_game.specs.Model.{GameModel, Turn, IsTurn, after_turn}
+use Rattle.sim_game.specs.Model.{GameModel, Reachable, Turn, IsTurn, after_turn}
 use Rattle.sim_game.specs.Sides.{own_move}
 use Rattle.plan_book.specs.declared.SheetRow.{SheetRow}
 use Rattle.plan_book.specs.Plans.{AreWeights}
@@ -51,12 +51,12 @@ pub record IsWholePlan {S : Type 0} (m : GameModel S) (side : Side) (total : ℕ
   pub whole : HasEachRow m side (planned states)
 
 -- ---- the walk from the root down
--- the states are planned and undecided, and what is seen of keys is theirs
-pub record AreFollowed {S : Type 0} (m : GameModel S) (side : Side) (total : ℕ) (seen : ℕ → Option ℕ) (states : List (PlannedState S)) : Type 0 where
+-- the states are planned and undecided, and the places that are seen are theirs
+pub record AreFollowed {S : Type 0} (m : GameModel S) (number : S → ℕ) (side : Side) (total : ℕ) (seen : ℕ → Bool) (states : List (PlannedState S)) : Type 0 where
   pub plan : ArePlanned m side total states
   pub undecided : All (λ p. IsUndecided m p.state) states
-  pub keys : (key : ℕ) → is_some (seen key) ≡ is_some (planned states key)
-  pub known : KnowsUndecided m m.key (λ key. is_some (seen key)) (length states)
+  pub places : (s : S) → Reachable m s → seen (number s) ≡ is_some (planned states (m.key s))
+  pub known : KnowsUndecided m number seen (length states)
 
 -- from the states before a visit of a state to those after it: all that follow the further ones are there
 pub record IsVisited {S : Type 0} (m : GameModel S) (side : Side) (old new : List (PlannedState S)) (s : S) : Type 0 where

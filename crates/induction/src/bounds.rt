@@ -1,15 +1,15 @@
 //! The best bound that weights prove at a state over rows of the states that follow.
 
-ghost use Rattle.std.specs.Prelude.{◌≡◌, ◌<◌, ◌≤◌, ◌+ℤ◌, length, unsigned_abs, All};
+ghost use Rattle.std.specs.Prelude.{◌≡◌, ◌<◌, ◌≤◌, pos, ◌+ℤ◌, length, unsigned_abs, All};
 ghost use Rattle.sim_game.specs.Model.{Reachable};
 ghost use Rattle.sim_game.specs.Sides.{other_side};
 ghost use Rattle.plan_book.specs.Plans.{AreWeights};
 ghost use Rattle.plan_book.specs.Sheets.{bound_at};
 ghost use Rattle.plan_book.specs.Steps.{cell, worth};
-ghost use Rattle.induction.specs.Keys.{key_place};
+ghost use Rattle.induction.specs.Places.{place_word};
 ghost use Rattle.induction.specs.Certified.{ArePlaced, IsBestStep, turn_numbers};
 
-use crate::keys::KeyTable;
+use crate::places::PlaceTable;
 use plan_book::SheetRow;
 use sim_game::{CHANCE, Game, Side, end_bound, state_bound, turn_reward};
 use sums::weighted;
@@ -23,16 +23,40 @@ fn with_reward(reward: i64, bound: i64) -> i64
     reward + bound
 }
 
-/// The bound of the state's row, else the payoff of an end, else what holds of every value of the state; in millionths.
-fn bound_by<G: Game>(g: G, side: Side, rows: &[SheetRow], places: &KeyTable, s: G::State) -> i64
-    requires placed { ArePlaced (G.model g) rows.now (key_place places.now) }
-    requires reachable { Reachable (G.model g) s }
-    ensures { result ≡ bound_at (G.model g) side rows.now s }
+// Greater than any bound, in millionths.
+const SHIFT: i64 = 8_000_000_000;
+
+/// A bound as a word, which is not 0.
+pub(crate) fn word_of(bound: i64) -> u64
+    requires { unsigned_abs bound ≤ 4000000000 }
+    ensures some { 1 ≤ result }
+    ensures is { pos result ≡ bound +ℤ pos 8000000000 }
 {
-    match places.place(g.key(s)) {
-        Some(place) => rows[place].bound,
-        None if g.rank(s) == 0 => end_bound(g, s),
-        None => state_bound(g, side, s),
+    (bound + SHIFT) as u64
+}
+
+/// The bound that a word holds.
+fn bound_in(word: u64) -> i64
+    requires { word ≤ 12000000000 }
+    ensures { result +ℤ pos 8000000000 ≡ pos word }
+{
+    word as i64 - SHIFT
+}
+
+/// The bound of the state's row, else the payoff of an end, else what holds of every value of the state; in millionths.
+fn bound_by<G: Game>(g: G, side: Side, _rows: &[SheetRow], bounds: &PlaceTable, s: G::State) -> i64
+    requires placed { ArePlaced (G.model g) (G.numbering g).place _rows.now (place_word bounds.now) }
+    requires reachable { Reachable (G.model g) s }
+    ensures { result ≡ bound_at (G.model g) side _rows.now s }
+{
+    let word = bounds.word(g.place(s));
+    if word != 0 {
+        return bound_in(word);
+    }
+    if g.rank(s) == 0 {
+        end_bound(g, s)
+    } else {
+        state_bound(g, side, s)
     }
 }
 
@@ -41,12 +65,12 @@ fn cell<G: Game>(
     g: G,
     side: Side,
     rows: &[SheetRow],
-    places: &KeyTable,
+    bounds: &PlaceTable,
     s: G::State,
     own: u32,
     reply: u32,
 ) -> i64
-    requires placed { ArePlaced (G.model g) rows.now (key_place places.now) }
+    requires placed { ArePlaced (G.model g) (G.numbering g).place rows.now (place_word bounds.now) }
     requires reachable { Reachable (G.model g) s }
     requires own { own < (G.model g).moves side s }
     requires reply { reply < (G.model g).moves (other_side side) s }
@@ -57,7 +81,7 @@ fn cell<G: Game>(
     let b = side.move_of_two(own, reply);
     let mut sum: i64 = 0;
     for d in 0..g.draws(s, a, b) {
-        let bound = bound_by(g, side, rows, places, g.drawn(s, a, b, d));
+        let bound = bound_by(g, side, rows, bounds, g.drawn(s, a, b, d));
         let number = with_reward(turn_reward(g, s, a, b, d), bound);
         sum += weighted(g.chance(s, a, b, d), number);
     }
@@ -69,12 +93,12 @@ fn worth<G: Game>(
     g: G,
     side: Side,
     rows: &[SheetRow],
-    places: &KeyTable,
+    bounds: &PlaceTable,
     weights: &[u32],
     s: G::State,
     reply: u32,
 ) -> i64
-    requires placed { ArePlaced (G.model g) rows.now (key_place places.now) }
+    requires placed { ArePlaced (G.model g) (G.numbering g).place rows.now (place_word bounds.now) }
     requires reachable { Reachable (G.model g) s }
     requires one_each { length weights.now ≡ (G.model g).moves side s }
     requires light { All (λ w. w ≤ 1048576) weights.now }
@@ -86,7 +110,7 @@ fn worth<G: Game>(
     for own in 0..g.moves(side, s) {
         let weight = weights[own as usize];
         if weight > 0 {
-            sum += weighted(weight, cell(g, side, rows, places, s, own, reply));
+            sum += weighted(weight, cell(g, side, rows, bounds, s, own, reply));
         }
     }
     sum
@@ -99,11 +123,11 @@ pub(crate) fn best_bound<G: Game>(
     side: Side,
     total: u32,
     rows: &[SheetRow],
-    places: &KeyTable,
+    bounds: &PlaceTable,
     weights: &[u32],
     s: G::State,
 ) -> i64
-    requires placed { ArePlaced (G.model g) rows.now (key_place places.now) }
+    requires placed { ArePlaced (G.model g) (G.numbering g).place rows.now (place_word bounds.now) }
     requires reachable { Reachable (G.model g) s }
     requires goes_on { 1 ≤ (G.model g).rank s }
     requires some { 1 ≤ total }
@@ -111,9 +135,9 @@ pub(crate) fn best_bound<G: Game>(
     requires whole { AreWeights ((G.model g).moves side s) total weights.now }
     ensures { IsBestStep (G.model g) side s total weights.now rows.now result }
 {
-    let mut least = worth(g, side, rows, places, weights, s, 0);
+    let mut least = worth(g, side, rows, bounds, weights, s, 0);
     for reply in 1..g.moves(side.other(), s) {
-        let sum = worth(g, side, rows, places, weights, s, reply);
+        let sum = worth(g, side, rows, bounds, weights, s, reply);
         if side.is_tighter(least, sum) {
             least = sum;
         }

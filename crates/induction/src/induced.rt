@@ -1,6 +1,6 @@
 //! Lawful sheets of both sides, by one pass over the states and one over each side's plan.
 
-ghost use Rattle.std.specs.Prelude.{◌≡◌, ◌≢◌, ℕ, ◌/◌, ◌<◌, ◌≤◌, None, All, IfOk};
+ghost use Rattle.std.specs.Prelude.{◌≡◌, ◌≢◌, ◌/◌, ◌<◌, ◌≤◌, None, All, IfOk};
 ghost use Rattle.sim_game.specs.declared.Side.TheVariants.{One, Two};
 ghost use Rattle.matrix_game.specs.Budget.{after_stop, left_of};
 ghost use Rattle.plan_book.specs.Sheets.{root_bound, IsLawful};
@@ -36,40 +36,40 @@ fn sheet_of<'a, G: Game, W: Watch>(
     alloc: Global,
     g: G,
     side: Side,
-    total: u32,
+    terms: Terms,
     guide: &mut Guide<'a, W>,
 ) -> Result<Sheet, GaveUp>
-    requires some { 1 ≤ total }
-    requires light { total ≤ 1048576 }
-    ensures { IsOwnSheet (G.model g) side total guide.old.turns guide.new.turns result }
+    requires some { 1 ≤ terms.total }
+    requires light { terms.total ≤ 1048576 }
+    ensures { IsOwnSheet (G.model g) side terms.total guide.old.turns guide.new.turns result }
 {
-    let states = plan_from(alloc, g, side, total, guide)?;
-    Ok(certify(alloc, g, side, total, states)?)
+    let states = plan_from(alloc, g, side, terms.total, terms.rows, guide)?;
+    Ok(certify(alloc, g, side, terms.total, terms.rows, states)?)
 }
 
 /// The sheets of both sides, one after the other.
 fn both_sheets<G: Game, W: Watch>(
     alloc: Global,
     g: G,
-    total: u32,
+    terms: Terms,
     known: &PlaceTable,
     watch: &W,
     turns: Turns,
 ) -> (Result<(Sheet, Sheet), GaveUp>, Turns)
-    requires some { 1 ≤ total }
-    requires light { total ≤ 1048576 }
-    ensures { (rows : ℕ) → AreBothSheets (G.model g) total rows turns result.1 result.0 }
+    requires some { 1 ≤ terms.total }
+    requires light { terms.total ≤ 1048576 }
+    ensures { AreBothSheets (G.model g) terms.total terms.rows turns result.1 result.0 }
 {
     let stage = match Stage::new(alloc) {
         Ok(stage) => stage,
         Err(_) => return (Err(GaveUp::NoMemory), turns),
     };
     let mut guide = Guide::new(known, turns, stage, watch);
-    let one = match sheet_of(alloc, g, Side::One, total, &mut guide) {
+    let one = match sheet_of(alloc, g, Side::One, terms, &mut guide) {
         Ok(one) => one,
         Err(e) => return (Err(e), guide.into_turns()),
     };
-    let two = match sheet_of(alloc, g, Side::Two, total, &mut guide) {
+    let two = match sheet_of(alloc, g, Side::Two, terms, &mut guide) {
         Ok(two) => two,
         Err(e) => return (Err(e), guide.into_turns()),
     };
@@ -81,21 +81,21 @@ fn side_sheet<G: Game, W: Watch>(
     alloc: Global,
     g: G,
     side: Side,
-    total: u32,
+    terms: Terms,
     known: &PlaceTable,
     watch: &W,
     turns: Turns,
 ) -> (Result<Sheet, GaveUp>, Turns)
-    requires some { 1 ≤ total }
-    requires light { total ≤ 1048576 }
-    ensures { IsOwnSheet (G.model g) side total turns result.1 result.0 }
+    requires some { 1 ≤ terms.total }
+    requires light { terms.total ≤ 1048576 }
+    ensures { IsOwnSheet (G.model g) side terms.total turns result.1 result.0 }
 {
     let stage = match Stage::new(alloc) {
         Ok(stage) => stage,
         Err(_) => return (Err(GaveUp::NoMemory), turns),
     };
     let mut guide = Guide::new(known, turns, stage, watch);
-    let sheet = sheet_of(alloc, g, side, total, &mut guide);
+    let sheet = sheet_of(alloc, g, side, terms, &mut guide);
     (sheet, guide.into_turns())
 }
 
@@ -168,31 +168,30 @@ where
     requires light { terms.total ≤ 1048576 }
     ensures { AreBothSheets (G.model g) terms.total terms.rows turns result.1 result.0 }
 {
-    let total = terms.total;
     if turns.left() / 2 <= terms.rows {
-        return both_sheets(alloc, g, total, known, watch, turns);
+        return both_sheets(alloc, g, terms, known, watch, turns);
     }
     let each = terms.rows + 1;
     let may_stop = turns.may_stop();
     let (one, two) = thread::join(
         rt,
         || -> (Result<Sheet, GaveUp>, Turns)
-            requires some { 1 ≤ total }
-            requires light { total ≤ 1048576 }
-            ensures { IsOwnSheet (G.model g) One total (record { limit = each; spent = 0; may_stop = may_stop })
+            requires some { 1 ≤ terms.total }
+            requires light { terms.total ≤ 1048576 }
+            ensures { IsOwnSheet (G.model g) One terms.total (record { limit = each; spent = 0; may_stop = may_stop })
                 result.1 result.0 }
         {
             let own = Turns::with_stop(each, may_stop);
-            side_sheet(alloc, g, Side::One, total, known, watch, own)
+            side_sheet(alloc, g, Side::One, terms, known, watch, own)
         },
         || -> (Result<Sheet, GaveUp>, Turns)
-            requires some { 1 ≤ total }
-            requires light { total ≤ 1048576 }
-            ensures { IsOwnSheet (G.model g) Two total (record { limit = each; spent = 0; may_stop = may_stop })
+            requires some { 1 ≤ terms.total }
+            requires light { terms.total ≤ 1048576 }
+            ensures { IsOwnSheet (G.model g) Two terms.total (record { limit = each; spent = 0; may_stop = may_stop })
                 result.1 result.0 }
         {
             let own = Turns::with_stop(each, may_stop);
-            side_sheet(alloc, g, Side::Two, total, known, watch, own)
+            side_sheet(alloc, g, Side::Two, terms, known, watch, own)
         },
     );
     both_of(g, terms, one, two, turns)
@@ -349,14 +348,13 @@ pub fn solve_alone<G: Game, W: Watch>(
     requires light { terms.total ≤ 1048576 }
     ensures { IsInductionResult (G.model g) terms.total terms.rows turns.old turns.new result }
 {
-    let total = terms.total;
     let alone = |known: &PlaceTable, states: &[G::State]| -> Result<Vec<f64>, NoMemory>
         requires { All (GoesOn (G.model g)) states.now }
     { values_of(alloc, g, known, states, watch) };
     let in_turn = |known: &PlaceTable, turns: Turns| -> (Result<(Sheet, Sheet), GaveUp>, Turns)
-        requires some { 1 ≤ total }
-        requires light { total ≤ 1048576 }
-        ensures { (most : ℕ) → AreBothSheets (G.model g) total most turns result.1 result.0 }
-    { both_sheets(alloc, g, total, known, watch, turns) };
+        requires some { 1 ≤ terms.total }
+        requires light { terms.total ≤ 1048576 }
+        ensures { AreBothSheets (G.model g) terms.total terms.rows turns result.1 result.0 }
+    { both_sheets(alloc, g, terms, known, watch, turns) };
     solve_by(alloc, g, terms, watch, turns, &alone, &in_turn)
 }

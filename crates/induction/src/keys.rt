@@ -147,13 +147,6 @@ impl KeyTable {
         }
     }
 
-    /// How many keys there are.
-    pub(crate) fn len(&self) -> usize
-        ensures { result ≡ length self.now }
-    {
-        self.keys.len()
-    }
-
     /// The place of a key, if it is there.
     pub(crate) fn place(&self, key: u64) -> Option<usize>
         ensures { result ≡ key_place self.now key }
@@ -175,13 +168,6 @@ impl KeyTable {
             self.shift = shift;
         }
         Ok(())
-    }
-
-    /// Whether the key is there.
-    pub(crate) fn contains(&self, key: u64) -> bool
-        ensures { result ≡ is_some (key_place self.now key) }
-    {
-        self.place(key).is_some()
     }
 
     /// Adds a key that is not there.

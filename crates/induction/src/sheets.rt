@@ -4,13 +4,13 @@ ghost use Rattle.std.specs.Prelude.{◌≡◌, ◌≤◌, ℕ, length, IfOk};
 ghost use Rattle.sim_game.specs.Model.{Reachable};
 ghost use Rattle.plan_book.specs.Plans.{AreWeights};
 ghost use Rattle.plan_book.specs.Sheets.{row_at, IsLawful};
-ghost use Rattle.induction.specs.Keys.{key_place};
+ghost use Rattle.induction.specs.Places.{place_word};
 ghost use Rattle.induction.specs.Certified.{ArePlaced, IsBestStep, HasBestBounds};
 ghost use Rattle.induction.specs.Planned.{ArePlanned, planned, weights_of_row};
 
 use crate::PlannedState;
-use crate::bounds::best_bound;
-use crate::keys::KeyTable;
+use crate::bounds::{best_bound, word_of};
+use crate::places::PlaceTable;
 use plan_book::{Sheet, SheetRow};
 use seq::Seq;
 use sim_game::{Game, NoMemory, Side};
@@ -18,12 +18,13 @@ use std::alloc::Global;
 
 /// The sheet of planned states with their weights: for each the best bound that its weights prove over the bounds of the
 /// states that follow. Ranks fall with each turn, so states of lower rank come first. The sheet is lawful, whatever the
-/// weights are.
+/// weights are. Only the use of memory depends on `rows`, how many undecided states there are at most.
 pub fn certify<G: Game>(
     alloc: Global,
     g: G,
     side: Side,
     total: u32,
+    rows: u64,
     states: Vec<PlannedState<G::State>>,
 ) -> Result<Sheet, NoMemory>
     requires some { 1 ≤ total }
@@ -39,18 +40,19 @@ pub fn certify<G: Game>(
 {
     let mut states = states;
     states.sort_unstable_by_key(|state| state.rank);
-    let mut rows: Vec<SheetRow> = Vec::new(alloc);
-    let mut places = KeyTable::new(alloc);
+    let mut made: Vec<SheetRow> = Vec::new(alloc);
+    let mut bounds = PlaceTable::new(alloc, g.most_states(), rows)?;
     for state in states {
-        let row = row_of(g, side, total, &rows, &places, state);
-        places.add(alloc, row.key)?;
-        rows.push(row)?;
+        let place = g.place(state.state);
+        let row = row_of(g, side, total, &made, &bounds, state);
+        bounds.put(alloc, place, word_of(row.bound))?;
+        made.push(row)?;
     }
-    rows.sort_unstable_by_key(|row| row.key);
+    made.sort_unstable_by_key(|row| row.key);
     Ok(Sheet {
         side,
         total,
-        rows: Seq::from_vec(rows),
+        rows: Seq::from_vec(made),
     })
 }
 
@@ -60,10 +62,10 @@ fn row_of<G: Game>(
     side: Side,
     total: u32,
     rows: &[SheetRow],
-    places: &KeyTable,
+    bounds: &PlaceTable,
     planned: PlannedState<G::State>,
 ) -> SheetRow
-    requires placed { ArePlaced (G.model g) rows.now (key_place places.now) }
+    requires placed { ArePlaced (G.model g) (G.numbering g).place rows.now (place_word bounds.now) }
     requires reachable { Reachable (G.model g) planned.state }
     requires goes_on { 1 ≤ (G.model g).rank planned.state }
     requires some { 1 ≤ total }
@@ -79,7 +81,7 @@ fn row_of<G: Game>(
         weights,
         ..
     } = planned;
-    let bound = best_bound(g, side, total, rows, places, weights.as_slice(), state);
+    let bound = best_bound(g, side, total, rows, bounds, weights.as_slice(), state);
     SheetRow {
         key,
         bound,

@@ -1,5 +1,5 @@
-//! Values of states by linear programs, those of lower rank first, and the weights that they propose. Nothing is promised of
-//! how near the values are.
+//! Values of states, those of lower rank first, by linear programs or by those of their mirror images, and the weights that
+//! they propose. Nothing is promised of how near the values are.
 
 ghost use Rattle.std.specs.Prelude.{◌≡◌, ◌⊎◌, ℕ, ◌+◌, ◌<◌, ◌≤◌, ◌*◌, length, All, IfErr, IfOk, OnOk};
 ghost use Rattle.sim_game.specs.Model.{Reachable};
@@ -18,7 +18,7 @@ use sim_game::{CHANCE, Game, NoMemory, Side, Transition};
 use std::alloc::{AllocError, Global};
 use std::num::{f64_from_bits_with_nan, f64_to_bits_with_nan};
 
-/// Values that are being made, and the turns that programs take.
+/// Values that are being made, and the turns that they take.
 #[derive(Drop)]
 pub(crate) struct Values {
     // The bits of each value, by the place of its state.
@@ -167,11 +167,57 @@ pub(crate) fn values_of<G: Game, W: Watch>(
     Ok(values)
 }
 
-/// The states of a rank, no more than so many.
+/// Whether the mirror image of a state has a smaller place, so that its value is made before that of the state.
+fn is_mirrored<G: Game>(g: G, s: G::State) -> bool
+    requires { Reachable (G.model g) s }
+{
+    match g.mirrored_place(s) {
+        None => false,
+        Some(place) => place < g.place(s),
+    }
+}
+
+/// The negative of what is known at the mirror image of a state, 0 where nothing is.
+fn mirrored_value<G: Game>(known: &PlaceTable, g: G, s: G::State) -> f64
+    requires { Reachable (G.model g) s }
+{
+    let bits = match g.mirrored_place(s) {
+        None => 0,
+        Some(place) => known.word(place),
+    };
+    if bits == 0 {
+        return 0.0;
+    }
+    -f64_from_bits_with_nan(bits)
+}
+
+/// The values of states, one for each, by those of their mirror images; those of the first ones alone, where the watch ends
+/// it.
+fn mirrored_values<G: Game, W: Watch>(
+    alloc: Global,
+    g: G,
+    known: &PlaceTable,
+    states: &[G::State],
+    watch: &W,
+) -> Result<Vec<f64>, NoMemory>
+    requires { All (GoesOn (G.model g)) states.now }
+{
+    let mut values = Vec::with_capacity(alloc, states.len())?;
+    for s in states {
+        if !watch.goes_on(InductionStep::Value) {
+            break;
+        }
+        values.push(mirrored_value(known, g, *s))?;
+    }
+    Ok(values)
+}
+
+/// The states of a rank that are solved, or those that get the value of their mirror image; no more than so many.
 fn take_rank<G: Game>(
     g: G,
     states: &[G::State],
     rank: u32,
+    mirrored: bool,
     most: usize,
     chosen: &mut Vec<G::State>,
 ) -> Result<(), AllocError>
@@ -181,7 +227,7 @@ fn take_rank<G: Game>(
 {
     chosen.clear();
     for s in states {
-        if g.rank(*s) == rank && chosen.len() < most {
+        if g.rank(*s) == rank && is_mirrored(g, *s) == mirrored && chosen.len() < most {
             chosen.push(*s)?;
         }
     }
@@ -205,12 +251,15 @@ impl Values {
         (known, turns)
     }
 
-    /// Gives values to states, for a turn each, as far as there are turns. Where fewer values are made, since the watch
-    /// has ended it, the turns that are left are given up.
-    fn give<G: Game, F: Fn(&PlaceTable, &[G::State]) -> Result<Vec<f64>, NoMemory>>(
+    /// Gives values to states, for a turn each, as far as there are turns: by the function, or those of their mirror images.
+    /// Where fewer values are made, since the watch has ended it, the turns that are left are given up.
+    fn give<G: Game, W: Watch, F: Fn(&PlaceTable, &[G::State]) -> Result<Vec<f64>, NoMemory>>(
         &mut self,
+        alloc: Global,
         g: G,
+        watch: &W,
         states: &[G::State],
+        mirrored: bool,
         values_of: &F,
     ) -> Result<(), GaveUp>
         requires states { All (GoesOn (G.model g)) states.now }
@@ -226,7 +275,12 @@ impl Values {
         } else {
             states.len()
         };
-        let found = values_of(&self.known, &states[..count])?;
+        let some = &states[..count];
+        let found = if mirrored {
+            mirrored_values(alloc, g, &self.known, some, watch)?
+        } else {
+            values_of(&self.known, some)?
+        };
         let made = found.len().min(count);
         self.turns.split(made as u64);
         for place in 0..made {
@@ -244,7 +298,8 @@ impl Values {
     }
 }
 
-/// Gives values to the undecided states of the game, those of lower rank first.
+/// Gives values to the undecided states of the game, those of lower rank first. Of a state and its mirror image only the one
+/// of smaller place is solved.
 pub(crate) fn value_states<
     G: Game,
     W: Watch,
@@ -260,9 +315,10 @@ pub(crate) fn value_states<
     let states = list_states(alloc, g, values.rows, watch, &mut values.known)?;
     let mut missing = states.len();
     let mut chosen = Vec::new(alloc);
-    for below in 0..g.rank(g.root()) {
-        take_rank(g, &states, below + 1, missing, &mut chosen)?;
-        values.give(g, &chosen, values_of)?;
+    for half in 0..2 * g.rank(g.root()) {
+        let mirrored = half % 2 == 1;
+        take_rank(g, &states, half / 2 + 1, mirrored, missing, &mut chosen)?;
+        values.give(alloc, g, watch, &chosen, mirrored, values_of)?;
         missing -= chosen.len();
     }
     Ok(())

@@ -122,7 +122,7 @@ module _ {S : Type 0} (m : GameModel S) (game : IsGame m) (ask : Ask) (before : 
         rw (is_other (m.rank m.root) 0 on) (ap (λ (x : ℤ). better side x (state_bound m side m.root)) (sym (best.best side ∙ ap (best_posted m entries side) at))))
         (cases_eq (m.rank m.root) 0)
 
-    pub found_plan : (bound : ℤ) → bound ≡ root_bound m sheet → IsFoundPlan m ask (IsIdle m ask x) side sheet bound
+    pub found_plan : (bound : ℤ) → bound ≡ root_bound m sheet → IsFoundPlan m ask before.may_stop (IsIdle m ask x) side sheet bound
     found_plan bound at =
         let booked : bound ≡ book_bound m entries side m.root = at ∙ root_bound_is in record {
           side_is = is;

@@ -218,16 +218,16 @@ module _ {S : Type 0} (m : GameModel S) (game : IsGame m) where
           → (before.may_stop ≡ false → last.turns.spent ≡ ask.turns) × (last.turns.spent ≡ ask.turns → TooFewAfter before.spent m ask × IsDueTo m ask before last.board.seen has_row)
       all_spent not = spent_by end not ends takes
 
-    -- visits for the whole tree, and a row for each state
+    -- visits for the whole tree that nothing stops, and a row for each state
     module _ (visits : start.visits ≡ record { limit = ask.visits; one = 0; two = 0 })
-        (pure : Whole m m.root start.visits → last.settled.was_full ≡ false → IsPureTight m m.root last.board)
+        (pure : Whole m m.root start.turns start.visits → last.settled.was_full ≡ false → IsPureTight m m.root last.board)
         (row : (end ≡ Full → ⊥) → (row : ℕ) × (last.board.key_at row ≡ Some (m.key m.root)))
-        (at_once : Whole m m.root start.visits → last.settled.was_full ≡ false → IsPureClose m ask → (end ≡ Reached) × (last.turns ≡ start.turns)) where
-      whole : HasVisits m ask → Whole m m.root start.visits
-      whole has side = subst (λ (v : VisitsView). tree_size m m.root ≤ left_on side v) (sym visits) (each side) where
+        (at_once : Whole m m.root start.turns start.visits → last.settled.was_full ≡ false → IsPureClose m ask → (end ≡ Reached) × (last.turns ≡ start.turns)) where
+      whole : HasVisits m ask before.may_stop → Whole m m.root start.turns start.visits
+      whole has = (limit.may ∙ has.0, λ side. subst (λ (v : VisitsView). tree_size m m.root ≤ left_on side v) (sym visits) (each side)) where
         each : (of : Side) → tree_size m m.root ≤ left_on of (record { limit = ask.visits; one = 0; two = 0 })
-        each One = omega (arith, has)
-        each Two = omega (arith, has)
+        each One = omega (arith, has.1)
+        each Two = omega (arith, has.1)
 
       one : (P : Budget → Type 0) → P last.turns → All P (last.turns ∷ [])
       one P here = All-cons P last.turns [] here (All-nil P)

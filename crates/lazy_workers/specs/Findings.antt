@@ -32,7 +32,7 @@ pub record IsPlanKept {S : Type 0} (m : GameModel S) (side : Side) (kept : List 
 
 module _ {S : Type 0} (m : GameModel S) (ask : Ask) where
   -- a plan of the side, and the bound that it guarantees; where the search was idle, it plays one move at each state
-  pub record IsFoundPlan (Idle : Type 0) (side : Side) (sheet : Sheet) (bound : ℤ) : Type 0 where
+  pub record IsFoundPlan (may_stop : Bool) (Idle : Type 0) (side : Side) (sheet : Sheet) (bound : ℤ) : Type 0 where
     pub side_is : sheet.side ≡ side
     pub total_is : sheet.total ≡ ask.weight
     pub lawful : IsLawful m sheet
@@ -42,7 +42,7 @@ module _ {S : Type 0} (m : GameModel S) (ask : Ask) where
     pub few : length sheet.rows ≤ ask.rows
     pub alone : Idle → All (IsPureRow ask.weight) sheet.rows
     -- with a row for each state and a visit for each node of the tree, the bound is at least as tight as pure plans make it
-    pub pure : HasRoom m ask → HasVisits m ask → IsNoTighter side (serial_bound m side m.root) bound
+    pub pure : HasRoom m ask → HasVisits m ask may_stop → IsNoTighter side (serial_bound m side m.root) bound
 
   -- no worker has spent a turn
   abbrev pub IsIdle : Found → Type 0
@@ -55,14 +55,14 @@ module _ {S : Type 0} (m : GameModel S) (ask : Ask) where
 
   -- a plan of each player, and the turns of each worker, no more than so many of which were spent before
   pub record IsFoundAfter (before : Begun) (Few : Type 0) (x : Found) : Type 0 where
-    pub one : IsFoundPlan (IsIdle x) One x.one x.lower
-    pub two : IsFoundPlan (IsIdle x) Two x.two x.upper
+    pub one : IsFoundPlan before.may_stop (IsIdle x) One x.one x.lower
+    pub two : IsFoundPlan before.may_stop (IsIdle x) Two x.two x.upper
     pub resolution : (n : ℕ) × (x.resolution ≡ pos n) × IsResolution m ask.weight n
     pub resolution_high : x.resolution ≤ℤ pos 99999999999
     pub workers : length x.turns ≡ ask.workers
     pub within : All (HasLimit ask before.may_stop) x.turns
     -- where pure plans bring the bounds as close as was asked, no turn is spent
-    pub at_once : HasRoom m ask → HasVisits m ask → IsPureClose m ask → All (λ t. t.spent ≤ before.spent) x.turns
+    pub at_once : HasRoom m ask → HasVisits m ask before.may_stop → IsPureClose m ask → All (λ t. t.spent ≤ before.spent) x.turns
     -- a full board is one of a game that has more states than it had rows
     pub full : x.was_full ≡ true → HasRoom m ask → ⊥
     -- what a wide gap is owed to where no search met a full board

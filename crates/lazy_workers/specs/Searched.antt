@@ -33,9 +33,9 @@ pub record IsFar {S : Type 0} (m : GameModel S) (ask : Ask) (gap : ℤ) : Type 0
 abbrev pub HasRoom : {S : Type 0} → GameModel S → Ask → Type 0
 HasRoom m ask = HasAtMost m ask.rows
 
--- each serial search may enter each node of the tree
-abbrev pub HasVisits : {S : Type 0} → GameModel S → Ask → Type 0
-HasVisits m ask = tree_size m m.root ≤ ask.visits
+-- no serial search is stopped, and each may enter each node of the tree
+abbrev pub HasVisits : {S : Type 0} → GameModel S → Ask → Bool → Type 0
+HasVisits m ask may_stop = (may_stop ≡ false) × (tree_size m m.root ≤ ask.visits)
 
 -- pure plans alone bring the bounds as close as was asked
 abbrev pub IsPureClose : {S : Type 0} → GameModel S → Ask → Type 0
@@ -68,9 +68,9 @@ pub record HasFound {S : Type 0} (m : GameModel S) (ask : Ask) (before : Begun) 
   pub all_spent : (Met → ⊥) → IsFar m ask (bound Two -ℤ bound One) → before.may_stop ≡ false → AreAllSpent ask turns
   pub due : (Met → ⊥) → IsFar m ask (bound Two -ℤ bound One) → AreAllSpent ask turns → 1 ≤ length turns
       → TooFewAfter before.spent m ask × IsDue
-  pub pure : HasRoom m ask → HasVisits m ask → 1 ≤ length turns
+  pub pure : HasRoom m ask → HasVisits m ask before.may_stop → 1 ≤ length turns
       → (side : Side) → IsNoTighter side (serial_bound m side m.root) (bound side)
-  pub at_once : HasRoom m ask → HasVisits m ask → IsPureClose m ask → All (λ t. t.spent ≤ before.spent) turns
+  pub at_once : HasRoom m ask → HasVisits m ask before.may_stop → IsPureClose m ask → All (λ t. t.spent ≤ before.spent) turns
 
 -- with a row left on the board, the turns are owed to rows that are kept
 abbrev pub IsOwed : {S : Type 0} → GameModel S → Ask → ℕ → List Kept → Type 0

@@ -1,8 +1,8 @@
 //! The turns of the workers.
 
-ghost use Rattle.std.specs.Prelude.{◌≡◌, Contains, IfOk};
+ghost use Rattle.std.specs.Prelude.{◌≡◌, ◌≤◌, false, Contains, IfOk};
 ghost use Rattle.fields.specs.Ranges.{IsAskInRange};
-ghost use Rattle.lazy_workers.specs.Keeping.{HasLimit, AreBudgets, begun_whole, begun_by};
+ghost use Rattle.lazy_workers.specs.Keeping.{AreBudgets, begun_whole, begun_by};
 
 use fields::Ask;
 use matrix_game::Turns;
@@ -38,7 +38,8 @@ impl Budgets {
     /// Those that are asked, of which the first worker has spent some.
     pub fn begun(alloc: Global, ask: &Ask, first: Turns) -> Result<Budgets, NoMemory>
         requires ask { IsAskInRange ask.now }
-        requires first { HasLimit ask.now first.may_stop first }
+        requires few { first.limit ≤ ask.now.turns }
+        requires whole { first.may_stop ≡ false → first.limit ≡ ask.now.turns }
         ensures budgets { IfOk result (λ b. AreBudgets ask.now (begun_by first) b.turns.items) }
         ensures begun { IfOk result (λ b. b.begun ≡ begun_by first) }
         ensures first { IfOk result (λ b. Contains b.turns.items first) }

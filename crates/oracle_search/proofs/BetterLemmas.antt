@@ -14,15 +14,15 @@ use Rattle.plan_book.specs.Serial.{serial_bound}
 use Rattle.plan_book.proofs.BackedLemmas.{backed_meet}
 use Rattle.plan_book.proofs.SerialLemmas.{serial_backed}
 use Rattle.bounds_board.specs.declared.bounds.Enclosure.{Enclosure}
-use Rattle.bounds_board.specs.Views.{BoardView, IsLater, IsEnclosure, known_bound, bound_in}
+use Rattle.bounds_board.specs.Views.{BoardView, IsEnclosure, known_bound, bound_in}
 use Rattle.bounds_board.proofs.PlainLemmas.{range_fits}
-use Rattle.bounds_board.proofs.ViewLemmas.{later_refl, later_trans}
+use Rattle.bounds_board.proofs.ViewLemmas.{later_trans}
 use Rattle.serial_ab.specs.Counts.{VisitsView}
 use Rattle.serial_ab.specs.Searches.{IsPureEntry, IsSerialKept}
 use Rattle.serial_ab.specs.Ends.{IsValue}
 use Rattle.serial_ab.specs.declared.windowed.SerialEnd.{SerialEnd}
 use Rattle.serial_ab.specs.declared.windowed.SerialEnd.TheVariants.{Exact, AtLeast, AtMost, Cut}
-use Rattle.serial_ab.proofs.KeptLemmas.{grows_none, grows_after}
+use Rattle.serial_ab.proofs.KeptLemmas.{grows_after}
 use Rattle.serial_ab.proofs.ValueLemmas.{serial_from, serial_to}
 use Rattle.oracle_search.specs.Finished.{IsWithin}
 use Rattle.oracle_search.specs.Searches.{IsBetter, IsPureTight, IsAhead, number_in, IsFoundBelow, IsFoundAbove}
@@ -31,18 +31,11 @@ pub grows_weaker : (P Q : Entry → Type 0) (xs ys : List Entry) → ((e : Entry
 grows_weaker P Q xs ys f p = record { more = p.more; joins = p.joins; each = All-weaker P Q f p.more p.each }
 
 module _ {S G N : Type 0} (m : GameModel S) (total : ℕ) where
-  pub better_refl : (v : BoardView G N) → IsBetter m total v v
-  better_refl v = record { later = later_refl v; posted = grows_none (IsLawfulEntry m total) v.entries v.entries refl }
-
   pub better_trans : (u v w : BoardView G N) → IsBetter m total u v → IsBetter m total v w → IsBetter m total u w
   better_trans u v w p q = record {
     later = later_trans u v w p.later q.later;
     posted = grows_after (IsLawfulEntry m total) u.entries v.entries w.entries p.posted q.posted;
   }
-
-  -- a part that posts nothing
-  pub better_quiet : (u v : BoardView G N) → IsLater u v → v.entries ≡ u.entries → IsBetter m total u v
-  better_quiet u v later same = record { later = later; posted = grows_none (IsLawfulEntry m total) u.entries v.entries same }
 
 -- a serial search
 pub better_serial : {S G N : Type 0} (m : GameModel S) (side : Side) (most : ℕ) (u v : BoardView G N) (x y : VisitsView) → IsSerialKept m side most u v x y → IsBetter m u.total u v
@@ -79,11 +72,6 @@ module _ {S G N : Type 0} (m : GameModel S) (game : IsGame m) (s : S) (v : Board
         two,
         one,
       ) refl
-
--- numbers of one word are one number
-pub enclosure_met : {S : Type 0} (m : GameModel S) (game : IsGame m) (s : S) (lower upper : ℤ) → IsEnclosure m lower upper s → of_z w64 lower ≡ of_z w64 upper → lower ≡ upper
-enclosure_met m game s lower upper both met =
-    sym (to_z-of_z w64 lower (range_fits m game lower both.lower_low both.lower_high)) ∙ ap (to_z w64) met ∙ to_z-of_z w64 upper (range_fits m game upper both.upper_low both.upper_high)
 
 -- where both bounds are one number, each is as tight as pure plans can make it
 pub serial_met : {S G N : Type 0} (m : GameModel S) (game : IsGame m) (s : S) (v : BoardView G N) → Reachable m s

@@ -158,14 +158,6 @@ after_cols : (h : HeldMoves) (end : StepEnd) → (held_after h end).most_cols �
 after_cols h (Grown row col) = refl
 after_cols h (Done lower upper) = refl
 
--- fewer moves are left to add
-pub fewer_left : (h new : HeldMoves) (end : StepEnd) → new ≡ held_after h end → (count_held h < count_held new) × (count_held new ≤ count_moves new)
-    → count_moves new - count_held new < count_moves h - count_held h
-fewer_left h new end after rises =
-    let rows = ap (λ (k : HeldMoves). k.most_rows) after ∙ after_rows h end in
-    let cols = ap (λ (k : HeldMoves). k.most_cols) after ∙ after_cols h end in
-    omega (arith, rises.0, rises.1, rows, cols)
-
 module _ {S G N : Type 0} {m : GameModel S} {s : S} (goes_on : 1 ≤ m.rank s) where
   pub growing_none : {xs : KeptRows} {held : HeldMoves} {v : WorkView G N} → IsGame m → HasKept m v → IsFirstHeld m s held → AreChildRows m v.board s xs → IsGrowing m s xs held v v
   growing_none game kept first children = let two = first.two in let some = game.width_low in record {

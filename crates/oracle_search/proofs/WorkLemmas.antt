@@ -1,5 +1,5 @@
 -- What one part of a search after another keeps.
-use Rattle.std.proofs.Common.{◌≡◌, ◌⊎◌, inl, inr, ⊎_elim, ℕ, ◌+◌, ◌*◌, ◌/◌, ◌≤◌, ◌<◌, ℤ, pos, ◌+ℤ◌, ◌-ℤ◌, ◌≤ℤ◌, ◌<ℤ◌, cond, true, false, Option, Some, List, [], Contains, refl, sym, ap, subst, ◌∙◌, arith}
+use Rattle.std.proofs.Common.{◌≡◌, ◌⊎◌, inl, inr, ⊎_elim, ℕ, ◌+◌, ◌*◌, ◌/◌, ◌≤◌, ◌<◌, ℤ, pos, ◌+ℤ◌, ◌-ℤ◌, ◌≤ℤ◌, ◌<ℤ◌, cond, true, Option, Some, List, [], Contains, refl, sym, ap, subst, ◌∙◌, arith}
 use Rattle.std.specs.Int.{div_ceil}
 use Rattle.std.proofs.Math.Nat.{mul-le-mul_left, mul-div_cancel_left}
 use Rattle.std.proofs.lemmas.Bool.{cases_lt}
@@ -285,11 +285,6 @@ module _ {S G N : Type 0} {m : GameModel S} where
     kept = worked.kept;
   }
 
-  pub at_children_from : {g : G} {s : S} {limit row : ℕ} {children : KeptRows} {u v : WorkView G N} → IsAtRow m g s (Some row) u → IsWorkedBelow m s limit u v → AreChildRows m v.board s children
-      → IsAtChildren m g s children v
-  at_children_from here worked children =
-      record { game = worked.board.later.game ∙ here.game; reachable = here.reachable; goes_on = here.has_row.goes_on; children = children; kept = worked.kept }
-
   pub at_children_after : {g : G} {s : S} {limit : ℕ} {old new : KeptRows} {u v : WorkView G N} → IsAtChildren m g s old u → IsWorkedBelow m s limit u v → AreChildRows m v.board s new
       → IsAtChildren m g s new v
   at_children_after here worked children =
@@ -354,16 +349,10 @@ within_not_beyond m v s gap near far = not_both (known_bound m v One s +ℤ gap)
 -- ---- pure plans
 module _ {S G N : Type 0} {m : GameModel S} {s : S} {target : ℤ} {u v : WorkView G N} {end : SearchEnd} where
   -- where bounds as tight as pure plans make them are beyond the target
-  pub pure_beyond : (w : BoardView G N) → IsLater w v.board → IsBeyond m w s target → (HasVisitsBelow m s u.visits → IsPureTight m s w) → BoundsByPure m s target u v end
+  pub pure_beyond : (w : BoardView G N) → IsLater w v.board → IsBeyond m w s target → (HasVisitsBelow m s u.turns u.visits → IsPureTight m s w) → BoundsByPure m s target u v end
   pure_beyond w later far tight = record {
     tight = λ visits not goes_on. pure_later m s later (tight visits);
     at_once = λ visits not near. absurd (within_not_beyond m w s target (pure_within m s w target (tight visits) near) far);
-  }
-
-  pub pure_full : v.settled.was_full ≡ true → BoundsByPure m s target u v end
-  pure_full full = record {
-    tight = λ visits not goes_on. let wrong : false ≡ true = sym not ∙ full in absurd (cc);
-    at_once = λ visits not near. let wrong : false ≡ true = sym not ∙ full in absurd (cc);
   }
 
 -- ---- a state that is left to another worker

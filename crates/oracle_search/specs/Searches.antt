@@ -115,9 +115,9 @@ pub record HasEnded {S G N : Type 0} (m : GameModel S) (s : S) (target : ℤ) (o
   pub turns : HasTaken m s end old new
 
 -- ---- pure plans
--- each side has as many visits left as the tree below the state has nodes
-abbrev pub HasVisitsBelow : {S : Type 0} → GameModel S → S → VisitsView → Type 0
-HasVisitsBelow m s visits = (side : Side) → tree_size m s ≤ left_on side visits
+-- no search is stopped, and each side has as many visits left as the tree below the state has nodes
+abbrev pub HasVisitsBelow : {S : Type 0} → GameModel S → S → Budget → VisitsView → Type 0
+HasVisitsBelow m s turns visits = (turns.may_stop ≡ false) × ((side : Side) → tree_size m s ≤ left_on side visits)
 
 -- the bounds known of the state are as tight as pure plans can make them
 abbrev pub IsPureTight : {S G N : Type 0} → GameModel S → S → BoardView G N → Type 0
@@ -129,8 +129,8 @@ IsPureWithin m s target = serial_bound m Two s ≤ℤ (serial_bound m One s +ℤ
 
 -- with so many visits, and no full board: the bounds are as tight as pure plans can make them, and no turn is taken where these suffice
 pub record BoundsByPure {S G N : Type 0} (m : GameModel S) (s : S) (target : ℤ) (old new : WorkView G N) (end : SearchEnd) : Type 0 where
-  pub tight : HasVisitsBelow m s old.visits → new.settled.was_full ≡ false → 1 ≤ m.rank s → IsPureTight m s new.board
-  pub at_once : HasVisitsBelow m s old.visits → new.settled.was_full ≡ false → IsPureWithin m s target → (end ≡ Reached) × (new.turns ≡ old.turns)
+  pub tight : HasVisitsBelow m s old.turns old.visits → new.settled.was_full ≡ false → 1 ≤ m.rank s → IsPureTight m s new.board
+  pub at_once : HasVisitsBelow m s old.turns old.visits → new.settled.was_full ≡ false → IsPureWithin m s target → (end ≡ Reached) × (new.turns ≡ old.turns)
 
 -- ---- states that are left to other workers
 -- the bounds known of the state are tighter than pure plans can make them

@@ -26,7 +26,7 @@ pub trait Gate {
     /// Called before an induction makes a side's row of a state.
     fn at_planned(&self) {}
 
-    /// Asked before each turn, and wherever much is done between turns.
+    /// Asked before each turn, and in serial searches once in some thousands of states.
     fn signal(&self) -> Signal {
         Signal::GoOn
     }

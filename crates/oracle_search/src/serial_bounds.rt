@@ -1,6 +1,6 @@
 //! The bounds of a state by pure plans.
 
-ghost use Rattle.std.specs.Prelude.{◌≡◌, ◌⊎◌, ◌≤◌, ◌<ℤ◌, Some, Err, IsTrue, IfSome, IfOk};
+ghost use Rattle.std.specs.Prelude.{◌≡◌, ◌⊎◌, ◌≤◌, ◌<ℤ◌, Some, Err, false, IsTrue, IfSome, IfOk};
 ghost use Rattle.sim_game.specs.Sides.{other_side, IsNoTighter, opening_bound};
 ghost use Rattle.sim_game.specs.declared.Side.{Side};
 ghost use Rattle.plan_book.specs.Serial.{serial_bound, tree_size};
@@ -13,11 +13,11 @@ ghost use Rattle.oracle_search.specs.Searches.{IsAhead, number_in, IsFoundBelow,
 use crate::gate::Gate;
 use crate::worker::{Setup, Worker};
 use bounds_board::{BoardFault, Bounds, Enclosure, Row, known_bounds};
-use serial_ab::{SerialEnd, serial_with};
+use serial_ab::{SerialEnd, Task, serial_with};
 use sim_game::{Game, Side, opening_bound};
 
 /// Bounds the state for one side, by a serial search over the whole range of payoffs. The answer is the number that it
-/// found, or none where it was cut for want of visits.
+/// found, or none where it was cut, for want of visits or since the gate stopped it.
 fn bound_side<G: Game, B: Bounds<G>, T: Gate>(
     setup: &Setup<'_, G, T>,
     s: G::State,
@@ -35,13 +35,21 @@ fn bound_side<G: Game, B: Bounds<G>, T: Gate>(
     ensures other { left_on (other_side side) worker.new.visits ≡ left_on (other_side side) worker.old.visits }
     ensures full { result ≡ Err BoardFault.Full → IsBoardFull (G.model setup.now.game) s (B.view board.new) }
     ensures found { IfOk result (λ n. IfSome n (λ x. x ≡ serial_bound (G.model setup.now.game) side s)) }
-    ensures tight { tree_size (G.model setup.now.game) s ≤ left_on side worker.old.visits
+    ensures tight { worker.old.turns.may_stop ≡ false
+        → tree_size (G.model setup.now.game) s ≤ left_on side worker.old.visits
         → IfOk result (λ _. IsNoTighter side (serial_bound (G.model setup.now.game) side s)
         (known_bound (G.model setup.now.game) (B.view board.new) side s)) }
 {
     let g = setup.game;
     let range = (opening_bound(g, Side::One), opening_bound(g, Side::Two));
-    match serial_with(g, s, row, side, range, &mut worker.serial, board) {
+    let task = Task {
+        alloc: setup.alloc,
+        game: g,
+        side,
+        interrupt: setup,
+        may_stop: worker.turns.may_stop(),
+    };
+    match serial_with(&task, s, row, range, &mut worker.serial, board) {
         Ok(end) => Ok(number_in(end)),
         Err(BoardFault::Full) => Err(BoardFault::Full),
         Err(BoardFault::NoMemory) => Err(BoardFault::NoMemory),
@@ -87,7 +95,7 @@ pub(crate) fn bound_state<G: Game, B: Bounds<G>, T: Gate>(
     ensures same { worker.new ≡ record worker.old { visits = worker.new.visits; searches = worker.new.searches } }
     ensures full { result ≡ Err BoardFault.Full → IsBoardFull (G.model setup.now.game) s (B.view board.new) }
     ensures ahead { IfOk result (λ is_ahead. IsTrue is_ahead → IsAhead (G.model setup.now.game) s (B.view board.new)) }
-    ensures tight { HasVisitsBelow (G.model setup.now.game) s worker.old.visits
+    ensures tight { HasVisitsBelow (G.model setup.now.game) s worker.old.turns worker.old.visits
         → IfOk result (λ _. IsPureTight (G.model setup.now.game) s (B.view board.new)) }
 {
     match bound_side(setup, s, row, Side::One, worker, board) {

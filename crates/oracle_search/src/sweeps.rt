@@ -7,7 +7,7 @@ ghost use Rattle.restricted_game.specs.Children.{AreChildRows};
 ghost use Rattle.oracle_search.specs.Sweeps.{HasSwept, IsSweepEnd, IsSweepDone, IsFullHeld, AreAllDone};
 ghost use Rattle.oracle_search.specs.Workers.{at_work};
 ghost use Rattle.oracle_search.specs.Searches.{IsAtRow, IsAtChildren, IsWorked, IsBoardFull, IsDone, AreDone};
-ghost use Rattle.oracle_search.specs.Finished.{AreFinished, IsClose, IsLeftBelow, IsWithin};
+ghost use Rattle.oracle_search.specs.Finished.{AreFinished, IsLeftBelow, IsWithin};
 
 use crate::ends::Stop;
 use crate::gap::{gap_at, is_within, linear_left_gap};

@@ -14,7 +14,7 @@ use crate::gate::{Gate, Signal};
 use indexmap::IndexSet;
 use matrix_game::{SolverKind, StageSolver, Turns};
 use restricted_game::{ChildRows, StageBuffers};
-use serial_ab::{SerialWorker, TranspositionTable, Visits};
+use serial_ab::{Interrupt, SerialWorker, TranspositionTable, Visits};
 use sim_game::{Game, NoMemory};
 use std::alloc::Global;
 use std::marker::Model;
@@ -30,6 +30,12 @@ pub struct Setup<'a, G: Game, T: Gate> {
     /// How many workers search on the board.
     pub workers: u32,
     pub gate: &'a T,
+}
+
+impl<G: Game, T: Gate> Interrupt for Setup<'_, G, T> {
+    fn is_raised(&self) -> bool {
+        self.gate.signal() == Signal::Stop
+    }
 }
 
 /// How much the memory of a worker's serial searches may hold, some 80 bytes each, and how it solves stages.

@@ -322,6 +322,18 @@ impl Game for OshiZumo {
         self.next(s, a, b)
     }
 
+    #[inline]
+    fn mirrored_place(&self, s: State) -> Option<u64> {
+        if self.setting.one != self.setting.two || self.setting.place != 0 {
+            return None;
+        }
+        let coins = u64::from(self.setting.one) + 1;
+        let size = i64::from(self.setting.size);
+        let from_end = (size + 1 - i64::from(s.place)).unsigned_abs();
+        let front = from_end.wrapping_mul(coins).wrapping_add(u64::from(s.two));
+        Some(front.wrapping_mul(coins).wrapping_add(u64::from(s.one)))
+    }
+
     ghost lawful = { λ game. oshi_zumo_is_game game.setting game.valid };
 
     ghost numbered = { λ game. oshi_zumo_numbered game.setting game.valid };

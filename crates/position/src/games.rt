@@ -230,6 +230,18 @@ pub fn totals(alloc: Global, text: &PositionText) -> Result<Seq<i32>, NoMemory>
     }
 }
 
+/// Builds the game of the text: for each game its fields, what a refusal becomes, and what is built.
+macro_rules! built {
+    ($text:expr; $($name:ident { $($field:ident),+ }, $refused:path => $game:expr;)+) => {
+        match $text {
+            $(PositionText::$name { $($field),+ } => match $game {
+                Ok(game) => Ok(AnyGame::$name(game)),
+                Err(fault) => Err($refused(fault)),
+            },)+
+        }
+    };
+}
+
 /// The game of the position, or the first of its rules that the position breaks within the limits. Takes no memory: the
 /// game borrows the text and its totals.
 pub fn build<'a>(
@@ -243,90 +255,26 @@ pub fn build<'a>(
         (λ game. (fault_of limits text.now ≡ None) × IsGameOf text.now game)
         (λ fault. fault_of limits text.now ≡ Some fault) }
 {
-    match text {
-        PositionText::Goofspiel {
-            one,
-            two,
-            prizes,
-            score,
-            pay,
-        } => match Goofspiel::new(
-            one.as_slice(),
-            two.as_slice(),
-            prizes.as_slice(),
-            *score,
-            *pay,
-        ) {
-            Ok(game) => Ok(AnyGame::Goofspiel(game)),
-            Err(fault) => Err(InputError::Goofspiel(fault)),
-        },
-        PositionText::OshiZumo {
-            size,
-            one,
-            two,
-            least,
-            place,
-        } => match OshiZumo::new(limits, *size, *one, *two, *least, *place) {
-            Ok(game) => Ok(AnyGame::OshiZumo(game)),
-            Err(fault) => Err(InputError::OshiZumo(fault)),
-        },
-        PositionText::Tron {
-            height,
-            width,
-            walls,
-            one,
-            two,
-        } => match Tron::new(*height, *width, walls.as_slice(), *one, *two) {
-            Ok(game) => Ok(AnyGame::Tron(game)),
-            Err(fault) => Err(InputError::Tron(fault)),
-        },
-        PositionText::GoofspielDrawn {
-            one,
-            two,
-            prizes,
-            score,
-            pay,
-        } => match GoofspielDrawn::new(
-            one.as_slice(),
-            two.as_slice(),
-            prizes.as_slice(),
-            *score,
-            *pay,
-        ) {
-            Ok(game) => Ok(AnyGame::GoofspielDrawn(game)),
-            Err(fault) => Err(InputError::Goofspiel(fault)),
-        },
-        PositionText::Pursuit {
-            nodes,
-            edges,
-            one,
-            two,
-            rounds,
-        } => match Pursuit::new(limits, *nodes, edges.as_slice(), *one, *two, *rounds) {
-            Ok(game) => Ok(AnyGame::Pursuit(game)),
-            Err(fault) => Err(InputError::Pursuit(fault)),
-        },
-        PositionText::Table {
-            ranks,
-            moves,
-            values,
-            cells,
-            draws,
-            rewards,
-        } => {
-            let setting = Setting {
+    built! { text;
+        Goofspiel { one, two, prizes, score, pay }, InputError::Goofspiel =>
+            Goofspiel::new(one.as_slice(), two.as_slice(), prizes.as_slice(), *score, *pay);
+        OshiZumo { size, one, two, least, place }, InputError::OshiZumo =>
+            OshiZumo::new(limits, *size, *one, *two, *least, *place);
+        Tron { height, width, walls, one, two }, InputError::Tron =>
+            Tron::new(*height, *width, walls.as_slice(), *one, *two);
+        GoofspielDrawn { one, two, prizes, score, pay }, InputError::Goofspiel =>
+            GoofspielDrawn::new(one.as_slice(), two.as_slice(), prizes.as_slice(), *score, *pay);
+        Pursuit { nodes, edges, one, two, rounds }, InputError::Pursuit =>
+            Pursuit::new(limits, *nodes, edges.as_slice(), *one, *two, *rounds);
+        Table { ranks, moves, values, cells, draws, rewards }, InputError::Table =>
+            Table::new(limits, Setting {
                 ranks: ranks.as_slice(),
                 moves: moves.as_slice(),
                 values: values.as_slice(),
                 cells: cells.as_slice(),
                 draws: draws.as_slice(),
                 rewards: rewards.as_slice(),
-            };
-            match Table::new(limits, setting, totals.as_slice()) {
-                Ok(game) => Ok(AnyGame::Table(game)),
-                Err(fault) => Err(InputError::Table(fault)),
-            }
-        }
+            }, totals.as_slice());
     }
 }
 

@@ -1,5 +1,5 @@
 -- What one part of a search after another keeps.
-use Rattle.std.proofs.Common.{◌≡◌, ⊎_elim, ℕ, zero, suc, ◌+◌, ◌<◌, ◌≤◌, ℤ, Result, Ok, Err, OnOk, List, [], ◌++◌, refl, sym, ap, subst, ◌∙◌, append_assoc, append-nil, arith}
+use Rattle.std.proofs.Common.{◌≡◌, ⊎_elim, Bool, ℕ, zero, suc, ◌+◌, ◌<◌, ◌≤◌, ℤ, Result, Ok, Err, OnOk, List, [], ◌++◌, refl, sym, ap, subst, ◌∙◌, append_assoc, append-nil, arith}
 use Rattle.std.proofs.lemmas.Bool.{cases_lt}
 use Rattle.sums.specs.Sums.{count_below}
 use Rattle.std.proofs.lemmas.List.Elements.{All-append, All-nil}
@@ -11,7 +11,7 @@ use Rattle.bounds_board.specs.Views.{BoardView, IsLater}
 use Rattle.bounds_board.proofs.ViewLemmas.{later_refl, later_trans, seen_later}
 use Rattle.serial_ab.specs.declared.stop.Stop.{Stop}
 use Rattle.serial_ab.specs.declared.stop.Stop.TheVariants.{Cut, Full, NoMemory}
-use Rattle.serial_ab.specs.Counts.{VisitsView, Counts, IsCut}
+use Rattle.serial_ab.specs.Counts.{VisitsView, Counts, WasCut}
 use Rattle.serial_ab.specs.Searches.{IsPureEntry, IsSerialKept, IsGoodNumber, Stops, EndsWith}
 use Rattle.serial_ab.proofs.CountLemmas.{counts_none, counts_after, cut_after}
 
@@ -69,7 +69,7 @@ module _ {S G N : Type 0} {m : GameModel S} {side : Side} where
     pub part_more : {w : BoardView G N} → IsSerialKept m side (f i) v w y z → IsSerialKept m side (count_below (i + 1) f) u w x z
     part_more q = kept_after before q (count_part f i (i + 1) (omega arith))
 
-    pub part_cut : i < n → IsCut side (f i) y z → IsCut side (count_below n f) x z
+    pub part_cut : {may_stop : Bool} → i < n → WasCut may_stop side (f i) y z → WasCut may_stop side (count_below n f) x z
     part_cut l q = cut_after before.visits (count_part f i n l) q
 
 -- where a part stops, the whole stops

@@ -1,5 +1,5 @@
 -- The serial bounds of a root, by what two searches over the whole range found.
-use Rattle.std.proofs.Common.{◌≡◌, ◌≢◌, ⊎_elim, Result, Ok, Err, OnOk, ℕ, ◌+◌, ◌≤◌, ℤ, ◌≤ℤ◌, ◌<ℤ◌, w64, SFits, to_z, of_z, sym, ap, ◌∙◌, arith}
+use Rattle.std.proofs.Common.{◌≡◌, ◌≢◌, ⊎_elim, Result, Ok, Err, OnOk, false, ℕ, ◌+◌, ◌≤◌, ℤ, ◌≤ℤ◌, ◌<ℤ◌, w64, SFits, to_z, of_z, refl, sym, ap, ◌∙◌, arith}
 use Rattle.std.proofs.lemmas.Int.{ints, to_z-of_z}
 use Rattle.sim_game.specs.declared.Side.{Side}
 use Rattle.sim_game.specs.declared.Side.TheVariants.{One, Two}
@@ -10,7 +10,7 @@ use Rattle.sim_game.proofs.ReachLemmas.{reachable_root}
 use Rattle.plan_book.specs.Serial.{serial_bound, tree_size}
 use Rattle.bounds_board.specs.Views.{BoardView, WasFull}
 use Rattle.bounds_board.proofs.FullLemmas.{rows_too_few}
-use Rattle.serial_ab.specs.Counts.{VisitsView, Counts, IsCut, spent_on, left_on}
+use Rattle.serial_ab.specs.Counts.{VisitsView, Counts, IsCut, WasCut, spent_on, left_on}
 use Rattle.serial_ab.specs.Roots.{IsSearchable, IsRootValue}
 use Rattle.serial_ab.specs.Searches.{EndsWith, IsFound}
 use Rattle.serial_ab.specs.declared.stop.Stop.{Stop}
@@ -58,14 +58,15 @@ had_left side v r not none = let some : ¬ (left_on side v ≡ 0) = λ e. not (n
 -- how a search of the root over the whole range ends
 pub root_ends : {S G N : Type 0} (m : GameModel S) (game : IsGame m) (side : Side) (v : BoardView G N) (old new : VisitsView) (r : Result ℤ Stop) → IsSearchable m
     → (left_on side old ≡ 0 → r ≡ Err Cut) → OnOk r (spent_on side old + 2 ≤ spent_on side new)
-    → EndsWith (IsFound m side m.root (opening_bound m side) (opening_bound m (other_side side)) v) (IsCut side (tree_size m m.root) old new) (WasFull m v (LeadsTo m m.root)) r
+    → EndsWith (IsFound m side m.root (opening_bound m side) (opening_bound m (other_side side)) v) (WasCut false side (tree_size m m.root) old new)
+    (WasFull m v (LeadsTo m m.root)) r
     → EndsWith (IsRootValue m side old new) (IsCut side (tree_size m m.root) old new) (1 ≤ left_on side old × WasFull m v (LeadsTo m m.root)) r
 root_ends m game side v old new (Ok x) searched none entered found = record {
   value = (whole_range m game side m.root v x (reachable_root m) found (whole_wide m game side searched)).0;
   had_left = λ _. had_left side old (Ok x) (λ e. cc) none;
   entered = λ _. entered;
 }
-root_ends m game side v old new (Err Cut) searched none entered cut = cut
+root_ends m game side v old new (Err Cut) searched none entered cut = cut refl
 root_ends m game side v old new (Err Full) searched none entered full = (had_left side old (Err Full) (λ e. cc) none, full)
 root_ends m game side v old new (Err NoMemory) searched none entered h = h
 

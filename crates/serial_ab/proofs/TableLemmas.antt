@@ -1,5 +1,5 @@
 -- What a transposition table holds, and how that stays true.
-use Rattle.std.proofs.Common.{◌≡◌, ◌⊎◌, ⊎_elim, inl, inr, ◌≤◌, ℕ, ℤ, nat_eq, true, cond, Some, Result, Ok, Err, IfOk, OnErr, List, [], refl, sym, subst, arith}
+use Rattle.std.proofs.Common.{◌≡◌, ◌⊎◌, ⊎_elim, inl, inr, ◌≤◌, ℕ, ℤ, nat_eq, Bool, true, cond, Some, Result, Ok, Err, IfOk, OnErr, List, [], refl, sym, subst, arith}
 use Rattle.std.proofs.lemmas.Bool.{cases_Bool, cond-true, cond-false, eqb-true}
 use Rattle.std.proofs.lemmas.Bool.Decides.{Decides-int_eq}
 use Rattle.std.specs.Cmp.{first_so, second_so}
@@ -16,7 +16,7 @@ use Rattle.serial_ab.specs.declared.transpositions.Memo.{Memo}
 use Rattle.serial_ab.specs.declared.transpositions.Query.{Query}
 use Rattle.serial_ab.specs.declared.stop.Stop.{Stop}
 use Rattle.serial_ab.specs.declared.stop.Stop.TheVariants.{Cut, Full, NoMemory}
-use Rattle.serial_ab.specs.Counts.{VisitsView, IsCut}
+use Rattle.serial_ab.specs.Counts.{VisitsView, IsCut, WasCut}
 use Rattle.serial_ab.specs.Searches.{IsFound, EndsWith}
 use Rattle.serial_ab.specs.Tables.{TableView, same_query, told, Tells}
 use Rattle.serial_ab.specs.Values.{inner_nodes}
@@ -93,5 +93,5 @@ recall_ends F L y (Err Cut) f c ok cut err = c cut
 recall_ends F L y (Err Full) f c ok cut err = absurd (cc)
 recall_ends F L y (Err NoMemory) f c ok cut err = tt
 
-pub cut_more : {side : Side} {a b : ℕ} {u v : VisitsView} → a ≤ b → IsCut side a u v → IsCut side b u v
-cut_more h cut = record { none_left = cut.none_left; too_few = omega (arith, cut.too_few) }
+pub cut_more : {may_stop : Bool} {side : Side} {a b : ℕ} {u v : VisitsView} → a ≤ b → IsCut side a u v → WasCut may_stop side b u v
+cut_more h cut whole = record { none_left = cut.none_left; too_few = omega (arith, cut.too_few) }

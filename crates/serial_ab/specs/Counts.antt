@@ -1,5 +1,5 @@
 -- Visits of a search, counted for each side by itself.
-use Rattle.std.specs.Prelude.{◌≡◌, ℕ, ◌+◌, ◌-◌, ◌<◌, ◌≤◌}
+use Rattle.std.specs.Prelude.{◌≡◌, ℕ, ◌+◌, ◌-◌, ◌<◌, ◌≤◌, Bool, false}
 use Rattle.sim_game.specs.declared.Side.{Side}
 use Rattle.sim_game.specs.declared.Side.TheVariants.{One, Two}
 use Rattle.sim_game.specs.Sides.{other_side}
@@ -28,6 +28,10 @@ pub record Counts (side : Side) (most : ℕ) (old new : VisitsView) : Type 0 whe
 pub record IsCut (side : Side) (need : ℕ) (old new : VisitsView) : Type 0 where
   pub none_left : left_on side new ≡ 0
   pub too_few : left_on side old < need
+
+-- the search was cut for want of visits, unless it may be stopped
+abbrev pub WasCut : Bool → Side → ℕ → VisitsView → VisitsView → Type 0
+WasCut may_stop side need old new = may_stop ≡ false → IsCut side need old new
 
 -- visits were counted, with the same limit
 pub record HasCounted (old new : VisitsView) : Type 0 where

@@ -1,9 +1,9 @@
 -- How a part of a search ends, and what it keeps.
-use Rattle.std.specs.Prelude.{◌≡◌, ℕ, ◌+◌, ◌≤◌, ℤ, Result, OnOk}
+use Rattle.std.specs.Prelude.{◌≡◌, ℕ, ◌+◌, ◌≤◌, ℤ, Bool, Result, OnOk}
 use Rattle.sim_game.specs.declared.Side.{Side}
 use Rattle.sim_game.specs.Model.{GameModel, LeadsTo}
 use Rattle.bounds_board.specs.Views.{BoardView, WasFull}
-use Rattle.serial_ab.specs.Counts.{spent_on, IsCut}
+use Rattle.serial_ab.specs.Counts.{spent_on, WasCut}
 use Rattle.serial_ab.specs.Searches.{EndsWith, IsSerialKept}
 use Rattle.serial_ab.specs.Transpositions.{AreRemembered}
 use Rattle.serial_ab.specs.declared.stop.Stop.{Stop}
@@ -11,10 +11,10 @@ use Rattle.serial_ab.specs.declared.task.SerialWorker.{SerialWorker}
 
 -- a part of the search of a state, of so many nodes: what it keeps, and the number that it finds by at least one visit,
 -- or why it finds none
-pub record IsPart {S G N : Type 0} (m : GameModel S) (side : Side) (s : S) (nodes : ℕ) (Found : ℤ → Type 0)
+pub record IsPart {S G N : Type 0} (m : GameModel S) (may_stop : Bool) (side : Side) (s : S) (nodes : ℕ) (Found : ℤ → Type 0)
     (old new : BoardView G N) (before after : SerialWorker) (result : Result ℤ Stop) : Type 0 where
   pub kept : IsSerialKept m side nodes old new before.visits after.visits
   pub remembered : AreRemembered m new after.table
   pub same_limit : after.table.limit ≡ before.table.limit
-  pub ends : EndsWith Found (IsCut side nodes before.visits after.visits) (WasFull m new (LeadsTo m s)) result
+  pub ends : EndsWith Found (WasCut may_stop side nodes before.visits after.visits) (WasFull m new (LeadsTo m s)) result
   pub below : OnOk result (spent_on side before.visits + 1 ≤ spent_on side after.visits)

@@ -45,7 +45,7 @@ pub record IsWindow {S : Type 0} (m : GameModel S) (side : Side) (s : S) (worse 
   pub wide : IsTighter side better worse
   pub differ : IsTighter side (opening_bound m (other_side side)) (opening_bound m side)
 
--- why a search has no number: no visit is left, the board is full, or there is no memory
+-- why a search has no number: it was cut, the board is full, or there is no memory
 abbrev pub Stops : Type 0 → Type 0 → Stop → Type 0
 Stops WasCut IsBoardFull Cut = WasCut
 Stops WasCut IsBoardFull Full = IsBoardFull

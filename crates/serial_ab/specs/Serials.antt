@@ -1,5 +1,5 @@
 -- What a serial search of a state finds and keeps.
-use Rattle.std.specs.Prelude.{◌≡◌, ◌≢◌, ◌+◌, ◌≤◌, ℤ, Result, Ok, Err, IfOk}
+use Rattle.std.specs.Prelude.{◌≡◌, ◌≢◌, ◌+◌, ◌≤◌, ℤ, Bool, false, Result, Ok, Err, IfOk}
 use Rattle.sim_game.specs.declared.Side.{Side}
 use Rattle.sim_game.specs.declared.Side.TheVariants.{One, Two}
 use Rattle.sim_game.specs.Model.{GameModel, LeadsTo}
@@ -14,15 +14,16 @@ use Rattle.serial_ab.specs.Searches.{IsSerialKept}
 use Rattle.serial_ab.specs.declared.windowed.SerialEnd.{SerialEnd}
 use Rattle.serial_ab.specs.declared.windowed.SerialEnd.TheVariants.{Cut}
 
--- a search for a side with the window from low to high: what it does to the board and to the visits, and how it ends
-pub record IsSerialEnd {S G N : Type 0} (m : GameModel S) (side : Side) (s : S) (low high : ℤ)
+-- a search for a side with the window from low to high, which may be stopped or not: what it does to the board and to the
+-- visits, and how it ends
+pub record IsSerialEnd {S G N : Type 0} (m : GameModel S) (may_stop : Bool) (side : Side) (s : S) (low high : ℤ)
     (old new : BoardView G N) (before after : VisitsView) (result : Result SerialEnd BoardFault) : Type 0 where
   pub kept : IsSerialKept m side (tree_size m s) old new before after
   pub value : IfOk result (IsValue low high (serial_bound m side s))
-  -- for want of visits
-  pub cut : result ≡ Ok Cut → left_on side after ≡ 0
+  -- for want of visits, unless it may be stopped
+  pub cut : may_stop ≡ false → result ≡ Ok Cut → left_on side after ≡ 0
   pub none_left : left_on side before ≡ 0 → result ≡ Ok Cut
-  pub enough : tree_size m s ≤ left_on side before → result ≢ Ok Cut
+  pub enough : may_stop ≡ false → tree_size m s ≤ left_on side before → result ≢ Ok Cut
   -- the state itself costs a visit, ends too
   pub entered : 1 ≤ left_on side before → spent_on side before + 1 ≤ spent_on side after
   -- and so does a child, where the state is no end

@@ -7,6 +7,7 @@ ghost use Rattle.plan_book.specs.Books.{Grows};
 ghost use Rattle.bounds_board.specs.Views.{IsLater, known_bound};
 ghost use Rattle.serial_ab.specs.Searches.{IsReplied, IsPureEntry};
 
+use crate::interrupt::Interrupt;
 use crate::stop::Stop;
 use crate::task::Task;
 use bounds_board::{Bounds, Row, known_bounds};
@@ -58,8 +59,8 @@ pub(crate) fn pure_weights(
 }
 
 /// Posts the step by one move over the numbers at its children, where its bound is tighter than what is known of the state.
-pub(crate) fn post_move<G: Game, B: Bounds<G>>(
-    task: &Task<G>,
+pub(crate) fn post_move<G: Game, I: Interrupt, B: Bounds<G>>(
+    task: &Task<'_, G, I>,
     s: G::State,
     row: Row,
     own: u32,

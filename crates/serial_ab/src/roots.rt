@@ -11,6 +11,7 @@ ghost use Rattle.serial_ab.specs.Searches.{EndsWith, IsSerialKept};
 ghost use Rattle.serial_ab.specs.Transpositions.{AreRemembered};
 ghost use Rattle.serial_ab.specs.Roots.{IsSearchable, IsRootValue, IsRootEnd};
 
+use crate::interrupt::NoInterrupt;
 use crate::search::search_state;
 use crate::stop::Stop;
 use crate::task::{SerialWorker, Task, Window};
@@ -141,6 +142,8 @@ fn search_root<G: Game, B: Bounds<G>>(
         alloc: worker.alloc,
         game: g,
         side,
+        interrupt: &NoInterrupt,
+        may_stop: false,
     };
     search_state(&task, g.root(), None, range, worker, board)
 }

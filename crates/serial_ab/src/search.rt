@@ -1,6 +1,6 @@
 //! The search: a state, its moves, a move, a pair of moves, its draws. One stack of numbers, `reads`, serves them all:
 //! a move pushes the numbers of its turns, and pops them when it is left or done.
-ghost use Rattle.std.specs.Prelude.{◌≡◌, ◌+◌, ◌*◌, ◌<◌, ◌≤◌, ℤ, ◌+ℤ◌, ◌-ℤ◌, unsigned_abs, Some, Err, IfSome, IfOk, OnOk, OnErr};
+ghost use Rattle.std.specs.Prelude.{◌≡◌, ◌+◌, ◌*◌, ◌<◌, ◌≤◌, ℤ, ◌+ℤ◌, ◌-ℤ◌, unsigned_abs, Some, Err, true, IsTrue, IfSome, IfOk, OnOk, OnErr};
 ghost use Rattle.sim_game.specs.declared.TheConstants.{MOST_TURNS};
 ghost use Rattle.sim_game.specs.Model.{Reachable, LeadsTo};
 ghost use Rattle.sim_game.specs.Sides.{other_side, opening_bound, move_of_one, move_of_two, draws_of, IsTighter};
@@ -12,6 +12,7 @@ ghost use Rattle.serial_ab.specs.Transpositions.{AreRemembered};
 ghost use Rattle.serial_ab.specs.Parts.{IsPart};
 ghost use Rattle.serial_ab.specs.Searches.{IsWindow, IsFound, IsOpened, IsMoveFound, IsPairFound};
 
+use crate::interrupt::Interrupt;
 use crate::moves::{keep, post_move};
 use crate::stop::Stop;
 use crate::task::{SerialWorker, Task, Window};
@@ -23,10 +24,13 @@ use sim_game::{CHANCE, Game, Side, end_bound, opening_bound, state_bound, turn_r
 /// The least rank of a state whose search is stored. Below it a search is cheaper than a look-up.
 const STORED_RANK: u32 = 3;
 
+/// So many states are entered, some half a millisecond, before the interrupt is asked again.
+const BETWEEN_ASKS: u32 = 4096;
+
 /// The number of a state. Its row is claimed where it is not known.
 #[cycle(serial)]
-pub(crate) fn search_state<G: Game, B: Bounds<G>>(
-    task: &Task<G>,
+pub(crate) fn search_state<G: Game, I: Interrupt, B: Bounds<G>>(
+    task: &Task<'_, G, I>,
     s: G::State,
     known: Option<Row>,
     window: Window,
@@ -38,7 +42,7 @@ pub(crate) fn search_state<G: Game, B: Bounds<G>>(
     requires reachable { Reachable (G.model task.now.game) s }
     requires known { IfSome known (IsOpened (G.model task.now.game) task.now.side s (B.view board.old)) }
     requires window { IsWindow (G.model task.now.game) task.now.side s window.worse window.better }
-    ensures ends { IsPart (G.model task.now.game) task.now.side s
+    ensures ends { IsPart (G.model task.now.game) task.now.may_stop task.now.side s
         (tree_size (G.model task.now.game) s)
         (IsFound (G.model task.now.game) task.now.side s window.worse window.better (B.view board.new))
         (B.view board.old) (B.view board.new) worker.old worker.new result }
@@ -53,6 +57,9 @@ pub(crate) fn search_state<G: Game, B: Bounds<G>>(
         return Err(Stop::Cut);
     }
     worker.visits.spend(task.side);
+    if is_stopped(task, &mut worker.unasked) {
+        return Err(Stop::Cut);
+    }
     if task.game.rank(s) == 0 {
         return Ok(end_bound(task.game, s));
     }
@@ -62,11 +69,24 @@ pub(crate) fn search_state<G: Game, B: Bounds<G>>(
     }
 }
 
+/// Whether the search is stopped. The interrupt is asked now and then, at a state that is entered: `unasked` counts the
+/// states since.
+fn is_stopped<G: Game, I: Interrupt>(task: &Task<'_, G, I>, unasked: &mut u32) -> bool
+    ensures { IsTrue result → task.now.may_stop ≡ true }
+{
+    if *unasked < BETWEEN_ASKS {
+        *unasked += 1;
+        return false;
+    }
+    *unasked = 0;
+    task.may_stop && task.interrupt.is_raised()
+}
+
 /// The number of a state that is no end. Where a search of it with the same window was stored, its number is the
 /// answer, for the visits that it took.
 #[cycle(serial)]
-fn search_inner<G: Game, B: Bounds<G>>(
-    task: &Task<G>,
+fn search_inner<G: Game, I: Interrupt, B: Bounds<G>>(
+    task: &Task<'_, G, I>,
     s: G::State,
     row: Row,
     window: Window,
@@ -79,7 +99,7 @@ fn search_inner<G: Game, B: Bounds<G>>(
     requires goes_on { 1 ≤ (G.model task.now.game).rank s }
     requires row { IsOpened (G.model task.now.game) task.now.side s (B.view board.old) row }
     requires window { IsWindow (G.model task.now.game) task.now.side s window.worse window.better }
-    ensures ends { IsPart (G.model task.now.game) task.now.side s
+    ensures ends { IsPart (G.model task.now.game) task.now.may_stop task.now.side s
         (inner_nodes (G.model task.now.game) task.now.side s)
         (IsFound (G.model task.now.game) task.now.side s window.worse window.better (B.view board.new))
         (B.view board.old) (B.view board.new) worker.old worker.new result }
@@ -128,8 +148,8 @@ fn recall(side: Side, memo: &Memo, visits: &mut Visits) -> Result<i64, Stop>
 }
 
 /// The row of a state that is no end: the known one, or one that is claimed.
-fn row_of<G: Game, B: Bounds<G>>(
-    task: &Task<G>,
+fn row_of<G: Game, I: Interrupt, B: Bounds<G>>(
+    task: &Task<'_, G, I>,
     s: G::State,
     known: Option<Row>,
     board: &mut B,
@@ -156,8 +176,8 @@ fn row_of<G: Game, B: Bounds<G>>(
 
 /// The number of a state that is no end, by a search of its moves.
 #[cycle(serial)]
-fn search_moves<G: Game, B: Bounds<G>>(
-    task: &Task<G>,
+fn search_moves<G: Game, I: Interrupt, B: Bounds<G>>(
+    task: &Task<'_, G, I>,
     s: G::State,
     row: Row,
     window: Window,
@@ -170,7 +190,7 @@ fn search_moves<G: Game, B: Bounds<G>>(
     requires goes_on { 1 ≤ (G.model task.now.game).rank s }
     requires row { IsOpened (G.model task.now.game) task.now.side s (B.view board.old) row }
     requires window { IsWindow (G.model task.now.game) task.now.side s window.worse window.better }
-    ensures ends { IsPart (G.model task.now.game) task.now.side s
+    ensures ends { IsPart (G.model task.now.game) task.now.may_stop task.now.side s
         (inner_nodes (G.model task.now.game) task.now.side s)
         (IsFound (G.model task.now.game) task.now.side s window.worse window.better (B.view board.new))
         (B.view board.old) (B.view board.new) worker.old worker.new result }
@@ -196,8 +216,8 @@ fn search_moves<G: Game, B: Bounds<G>>(
 
 /// The number of an own move. The move is left where it can't be better than the window's worse end.
 #[cycle(serial)]
-fn search_move<G: Game, B: Bounds<G>>(
-    task: &Task<G>,
+fn search_move<G: Game, I: Interrupt, B: Bounds<G>>(
+    task: &Task<'_, G, I>,
     s: G::State,
     row: Row,
     own: u32,
@@ -212,7 +232,7 @@ fn search_move<G: Game, B: Bounds<G>>(
     requires own_move { own < (G.model task.now.game).moves task.now.side s }
     requires row { (B.view board.old).key_at row ≡ Some ((G.model task.now.game).key s) }
     requires window { IsWindow (G.model task.now.game) task.now.side s window.worse window.better }
-    ensures ends { IsPart (G.model task.now.game) task.now.side s
+    ensures ends { IsPart (G.model task.now.game) task.now.may_stop task.now.side s
         (move_nodes (G.model task.now.game) task.now.side s own)
         (IsMoveFound (G.model task.now.game) task.now.side s own window.worse window.better (B.view board.new))
         (B.view board.old) (B.view board.new) worker.old worker.new result }
@@ -266,8 +286,8 @@ fn with_reward(reward: i64, found: i64) -> i64
 /// The number of an own move and a reply; the numbers of its turns, each a reward and the number of the state that
 /// follows, are added to the reads.
 #[cycle(serial)]
-fn search_pair<G: Game, B: Bounds<G>>(
-    task: &Task<G>,
+fn search_pair<G: Game, I: Interrupt, B: Bounds<G>>(
+    task: &Task<'_, G, I>,
     s: G::State,
     own: u32,
     reply: u32,
@@ -282,7 +302,7 @@ fn search_pair<G: Game, B: Bounds<G>>(
     requires own_move { own < (G.model task.now.game).moves task.now.side s }
     requires reply { reply < (G.model task.now.game).moves (other_side task.now.side) s }
     requires window { IsWindow (G.model task.now.game) task.now.side s window.worse window.better }
-    ensures { IsPart (G.model task.now.game) task.now.side s
+    ensures { IsPart (G.model task.now.game) task.now.may_stop task.now.side s
         (pair_nodes (G.model task.now.game) task.now.side s own reply)
         (IsPairFound (G.model task.now.game) task.now.side s own reply window.worse window.better (B.view board.new)
         worker.old.reads.items worker.new.reads.items)
@@ -305,8 +325,8 @@ fn search_pair<G: Game, B: Bounds<G>>(
 
 /// The number of an own move and a reply with several draws, each searched over the whole range.
 #[cycle(serial)]
-fn search_draws<G: Game, B: Bounds<G>>(
-    task: &Task<G>,
+fn search_draws<G: Game, I: Interrupt, B: Bounds<G>>(
+    task: &Task<'_, G, I>,
     s: G::State,
     own: u32,
     reply: u32,
@@ -323,7 +343,7 @@ fn search_draws<G: Game, B: Bounds<G>>(
     requires draws { draws ≡ draws_of (G.model task.now.game) task.now.side s own reply }
     requires wide { IsTighter task.now.side (opening_bound (G.model task.now.game) (other_side task.now.side))
         (opening_bound (G.model task.now.game) task.now.side) }
-    ensures { (floor ceiling : ℤ) → IsPart (G.model task.now.game) task.now.side s
+    ensures { (floor ceiling : ℤ) → IsPart (G.model task.now.game) task.now.may_stop task.now.side s
         (pair_nodes (G.model task.now.game) task.now.side s own reply)
         (IsPairFound (G.model task.now.game) task.now.side s own reply floor ceiling (B.view board.new)
         worker.old.reads.items worker.new.reads.items)

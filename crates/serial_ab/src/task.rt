@@ -1,17 +1,21 @@
 //! What all parts of a search share.
 ghost use Rattle.std.specs.Prelude.{◌≡◌};
 
+use crate::interrupt::Interrupt;
 use crate::transpositions::TranspositionTable;
 use crate::visits::Visits;
 use sim_game::{Game, Side};
 use std::alloc::Global;
 
-/// The game, and the side that discloses its moves.
+/// The game, the side that discloses its moves, and what may stop the search.
 #[derive(Clone, Copy)]
-pub(crate) struct Task<G: Game> {
-    pub(crate) alloc: Global,
-    pub(crate) game: G,
-    pub(crate) side: Side,
+pub struct Task<'a, G: Game, I: Interrupt> {
+    pub alloc: Global,
+    pub game: G,
+    pub side: Side,
+    pub interrupt: &'a I,
+    /// Whether the interrupt is heeded.
+    pub may_stop: bool,
 }
 
 /// The window of a search, from the end that is worse for its side to the better one, in millionths of a payoff.
@@ -29,6 +33,8 @@ pub struct SerialWorker {
     pub(crate) alloc: Global,
     // The numbers at the children of the moves that are searched.
     pub(crate) reads: Vec<i64>,
+    // How many states were entered since the interrupt was asked.
+    pub(crate) unasked: u32,
 }
 
 impl SerialWorker {
@@ -42,6 +48,7 @@ impl SerialWorker {
             table,
             alloc,
             reads: Vec::new(alloc),
+            unasked: 0,
         }
     }
 }

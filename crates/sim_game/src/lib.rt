@@ -206,6 +206,14 @@ pub trait Game: Copy {
         Ok(())
     }
 
+    /// The place of the state in which the sides are exchanged, if the position is its own mirror image: what One gets from
+    /// there on, Two gets from here on. Proposals alone read it: nothing is promised of it, and no bound rests on it.
+    fn mirrored_place(&self, _s: Self::State) -> Option<u64>
+        requires { Reachable (model self.now) _s }
+    {
+        None
+    }
+
     ghost lawful: { (g : Self) → IsGame (model g) };
 
     ghost numbered: { (g : Self) → IsNumbering (model g) (numbering g) };

@@ -61,7 +61,7 @@ module _ {S : Type 0} (m : GameModel S) (ask : Ask) (may_stop : Bool) (x : Found
     none_spent : All (λ n. n ≡ 0) (spent_of x.turns) → All (λ t. t.spent ≡ 0) x.turns
     none_spent each = All-from_recursion (λ t. t.spent ≡ 0) x.turns (from_spent (λ n. n ≡ 0) x.turns (recursion_from_All (λ n. n ≡ 0) (spent_of x.turns) each))
 
-    in_sheet : (side : Side) (sheet : Sheet) (bound : ℤ) → IsFoundPlan m ask (IsIdle m ask x) side sheet bound → (needs_newest r ≡ false → is_long sheet ≡ false)
+    in_sheet : (side : Side) (sheet : Sheet) (bound : ℤ) → IsFoundPlan m ask may_stop (IsIdle m ask x) side sheet bound → (needs_newest r ≡ false → is_long sheet ≡ false)
         → IsSheetInRange (limits_of (version_of r)) side ask.weight sheet
     in_sheet side sheet bound plan short =
         let few = plan.few in let rows = asks.rows in let weight = asks.weight in let total = plan.total_is in

@@ -89,9 +89,9 @@ pub record IsSolution {S : Type 0} (m : GameModel S) (text : PositionText) (ask 
   pub spent : r.outcome ≡ Spent → TooFewTurns m ask
   pub stopped : r.outcome ≡ Stopped → may_stop ≡ true
   -- with a row for each state and a visit for each node of the tree
-  pub pure_lower : HasRoom m ask → HasVisits m ask → serial_bound m One m.root ≤ℤ r.lower
-  pub pure_upper : HasRoom m ask → HasVisits m ask → r.upper ≤ℤ serial_bound m Two m.root
-  pub at_once : HasRoom m ask → HasVisits m ask → IsPureClose m ask
+  pub pure_lower : HasRoom m ask → HasVisits m ask may_stop → serial_bound m One m.root ≤ℤ r.lower
+  pub pure_upper : HasRoom m ask → HasVisits m ask may_stop → r.upper ≤ℤ serial_bound m Two m.root
+  pub at_once : HasRoom m ask → HasVisits m ask may_stop → IsPureClose m ask
       → (r.outcome ≡ Closed) × All (λ n. n ≡ 0) r.spent
 
 -- what the rows show of an outcome short of the resolution

@@ -7,13 +7,17 @@ ghost use Rattle.serial_ab.specs.Transpositions.{AreRemembered};
 
 use crate::games::cards_to_four;
 use bounds_board::{BoardFault, Bounds, PlainBoard};
-use serial_ab::{SerialEnd, SerialWorker, TranspositionTable, Visits, serial_with};
+use serial_ab::{
+    NoInterrupt, SerialEnd, SerialWorker, Task, TranspositionTable, Visits, serial_with,
+};
 use sim_game::{Game, Side, opening_bound};
 use std::alloc::Global;
 use std::test::Fail;
 
-// Searches the root for a side over the whole range, with so many visits: how that ended, and the visits that it took.
+// Searches the root for a side over the whole range, with so many visits, and nothing stops it: how that ended, and the
+// visits that it took.
 fn search_root<G: Game, B: Bounds<G>>(
+    alloc: Global,
     g: G,
     side: Side,
     limit: u64,
@@ -34,7 +38,14 @@ fn search_root<G: Game, B: Bounds<G>>(
         Ok(row) => row,
         Err(_) => return Err(BoardFault::Full),
     };
-    match serial_with(g, root, row, side, window, worker, board) {
+    let task = Task {
+        alloc,
+        game: g,
+        side,
+        interrupt: &NoInterrupt,
+        may_stop: false,
+    };
+    match serial_with(&task, root, row, window, worker, board) {
         Ok(end) => Ok((end, worker.visits.spent(side))),
         Err(fault) => Err(fault),
     }
@@ -55,16 +66,16 @@ fn a_table_tells_what_was_searched(rt: HostRuntime) -> Result<(), Fail> {
     assert!(rt; opening_bound(g, Side::One) < opening_bound(g, Side::Two));
     let mut board = PlainBoard::new(alloc, g, 1024, 8192)?;
     let mut worker = worker_with(alloc, 1000);
-    let (first, spent) = search_root(g, Side::One, 100000, &mut worker, &mut board)?;
+    let (first, spent) = search_root(alloc, g, Side::One, 100000, &mut worker, &mut board)?;
     let kept = worker.table.len();
     assert!(rt;
         kept >= 2,
         "{kept} searches of states of three turns and more"
     );
-    let again = search_root(g, Side::One, spent, &mut worker, &mut board)?;
+    let again = search_root(alloc, g, Side::One, spent, &mut worker, &mut board)?;
     assert_eq!(rt; again, (first, spent));
     let few = spent.saturating_sub(1);
-    let cut = search_root(g, Side::One, few, &mut worker, &mut board)?;
+    let cut = search_root(alloc, g, Side::One, few, &mut worker, &mut board)?;
     assert_eq!(rt; cut, (SerialEnd::Cut, few));
     assert_eq!(rt; worker.table.len(), kept);
     Ok(())
@@ -78,11 +89,11 @@ fn a_small_table_changes_no_answer(rt: HostRuntime) -> Result<(), Fail> {
     assert!(rt; opening_bound(g, Side::One) < opening_bound(g, Side::Two));
     let mut board = PlainBoard::new(alloc, g, 1024, 8192)?;
     let mut worker = worker_with(alloc, 1000);
-    let want = search_root(g, Side::Two, 100000, &mut worker, &mut board)?;
+    let want = search_root(alloc, g, Side::Two, 100000, &mut worker, &mut board)?;
     for limit in 0..2 {
         let mut board = PlainBoard::new(alloc, g, 1024, 8192)?;
         let mut worker = worker_with(alloc, limit);
-        let found = search_root(g, Side::Two, 100000, &mut worker, &mut board)?;
+        let found = search_root(alloc, g, Side::Two, 100000, &mut worker, &mut board)?;
         assert_eq!(rt; found, want);
         assert_eq!(rt; worker.table.len(), limit);
     }

@@ -2,7 +2,6 @@ use Rattle.std.proofs.Common.{rules, ℕ, ◌+◌, ◌<◌, pos, Some, Err, leng
 use Rattle.std.proofs.lemmas.Int.{to_z-of_z}
 use Rattle.std.proofs.lemmas.Result.{IfOk-weaker}
 use Rattle.std.proofs.lemmas.List.Elements.{All-get_or, All-contains}
-use Rattle.matrix_game.specs.Budget.{Budget, left_of}
 use Rattle.restricted_game.proofs.ChildLemmas.{no_child_rows, child_rows_later}
 use Rattle.oracle_search.specs.declared.ends.Stop.TheVariants as stops
 use Rattle.oracle_search.specs.Finished.{IsClose}
@@ -348,7 +347,7 @@ told g t c = worked_read (worked_after (worked_read (worked_none c.requires.here
 
 -- the bounds are as tight as pure plans make them
 tight : (g : given.Over) (t : ℕ) (c : state::search_row-After-ended_early g t) → let m = g.G.Game.model c.args.setup.now.game in
-    HasVisitsBelow m c.args.s c.args.worker.now.visits → IsPureTight m c.args.s (g.B.Bounds.view c.ended_early.new.board)
+    HasVisitsBelow m c.args.s c.args.worker.now.turns c.args.worker.now.visits → IsPureTight m c.args.s (g.B.Bounds.view c.ended_early.new.board)
 tight g t c visits = pure_later (g.G.Game.model c.args.setup.now.game) c.args.s c.ended_early.ensures.later (c.in-Ok.ensures.tight visits)
 
 pub state::search_row-returns-then-gap_at-eq0-clause-worked : goal.state::search_row-returns-then-gap_at-eq0-clause-worked

@@ -1,9 +1,9 @@
-use Rattle.induction.specs.Keys.{key_place}
 use Rattle.std.proofs.Common.{rules, ◌≡◌, ◌≤◌, ℕ, ℤ, w64, SFits, to_z, arith, subst, ap, ◌∙◌}
 use Rattle.std.proofs.lemmas.Int.{to_z-of_z}
 use Rattle.sim_game.specs.Sides.{other_side}
 use Rattle.plan_book.specs.Steps.{worth}
 use Rattle.induction.specs.Certified.{turn_numbers}
+use Rattle.induction.specs.Places.{place_word}
 use Rattle.induction.proofs.BoundLemmas.{IsLeast, least_taken, least_kept, best_step}
 use Rattle.induction.proofs.bounds.best_bound.Goals as goal
 use Rattle.induction.proofs.bounds.best_bound.Goals.{then-is_tighter, else-is_tighter}
@@ -42,5 +42,5 @@ returns g c =
     let is : IsLeast side f (m.moves (other_side side) c.args.s) least = subst (λ (n : ℕ). IsLeast side f n least) all c.loop-reply.invariant.least in
     rw (to_z-of_z w64 c.quotient.result fits)
     (best_step m game side c.args.s c.args.total c.args.weights.now c.args.rows.now c.requires.reachable c.requires.goes_on c.requires.some c.requires.whole
-    (key_place c.args.places.now) c.requires.placed
+    (g.G.Game.numbering c.args.g).place (place_word c.args.bounds.now) c.requires.placed
     least c.quotient.result is c.quotient.ensures)

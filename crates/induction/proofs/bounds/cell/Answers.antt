@@ -1,5 +1,5 @@
 use Rattle.std.proofs.Common.{rules, ◌≡◌, ◌<◌, w64, SFits, arith}
-use Rattle.induction.specs.Keys.{key_place}
+use Rattle.induction.specs.Places.{place_word}
 use Rattle.std.proofs.lemmas.Int.{ints, to_z-of_z}
 use Rattle.sim_game.specs.Sides.{draws_of, chance_of, child_of, turn_reward}
 use Rattle.sim_game.proofs.RewardLemmas.{reward_small}
@@ -26,6 +26,7 @@ weighted-sum-requires-clause-light g c =
 pub with_reward-number-requires : goal.with_reward-number-requires
 with_reward-number-requires g c =
     let m = g.G.Game.model c.args.g in
+    let place = (g.G.Game.numbering c.args.g).place in
     let game = g.met.G.Game.lawful c.args.g in
     let side = c.args.side in
     let u : c.loop-d.d < draws_of m side c.args.s c.args.own c.args.reply = rw (c.draws-d-end.ensures, c.move_of_one-a.ensures, c.move_of_two-b.ensures) at c.loop-d-test.true in
@@ -38,12 +39,13 @@ with_reward-number-requires g c =
       reward = reward_small m game side c.args.s c.args.own c.args.reply c.loop-d.d c.requires.reachable
           (side_turn m side c.args.s c.args.own c.args.reply c.loop-d.d c.requires.own c.requires.reply u);
       bound = within_small m game (child_of m side c.args.s c.args.own c.args.reply c.loop-d.d) _ reach
-          (bound_within m game side c.args.rows.now (key_place c.args.places.now) (child_of m side c.args.s c.args.own c.args.reply c.loop-d.d) c.requires.placed reach);
+          (bound_within m game side c.args.rows.now place (place_word c.args.bounds.now) (child_of m side c.args.s c.args.own c.args.reply c.loop-d.d) c.requires.placed reach);
     })
 
 pub weighted-sum-requires-clause-small : goal.weighted-sum-requires-clause-small
 weighted-sum-requires-clause-small g c =
     let m = g.G.Game.model c.args.g in
+    let place = (g.G.Game.numbering c.args.g).place in
     let game = g.met.G.Game.lawful c.args.g in
     let side = c.args.side in
     let u : c.loop-d.d < draws_of m side c.args.s c.args.own c.args.reply = rw (c.draws-d-end.ensures, c.move_of_one-a.ensures, c.move_of_two-b.ensures) at c.loop-d-test.true in
@@ -55,7 +57,8 @@ weighted-sum-requires-clause-small g c =
     let number = rw (to_z-of_z w64 c.bound_by-bound.result fits, to_z-of_z w64 c.turn_reward.result fits_reward, c.bound_by-bound.ensures, child, reward) at c.with_reward-number.ensures in
     rw (to_z-of_z w64 c.with_reward-number.result fits_number, number)
     (within_small m game c.args.s _ c.requires.reachable
-    (number_within m game side c.args.s c.args.own c.args.reply c.requires.reachable c.requires.own c.requires.reply c.args.rows.now (key_place c.args.places.now) c.requires.placed c.loop-d.d u))
+    (number_within m game side c.args.s c.args.own c.args.reply c.requires.reachable c.requires.own c.requires.reply
+    c.args.rows.now place (place_word c.args.bounds.now) c.requires.placed c.loop-d.d u))
 
 pub loop-d-preserved : goal.loop-d-preserved
 loop-d-preserved g c =
@@ -87,7 +90,8 @@ returns-clause-value g c =
 pub returns-clause-small : goal.returns-clause-small
 returns-clause-small g c =
     let m = g.G.Game.model c.args.g in
+    let place = (g.G.Game.numbering c.args.g).place in
     let game = g.met.G.Game.lawful c.args.g in
     rw (returns-clause-value g c)
     (within_small m game c.args.s _ c.requires.reachable
-    (cell_by_rows m game c.args.side c.args.s c.args.own c.args.reply c.requires.reachable c.requires.own c.requires.reply c.args.rows.now (key_place c.args.places.now) c.requires.placed))
+    (cell_by_rows m game c.args.side c.args.s c.args.own c.args.reply c.requires.reachable c.requires.own c.requires.reply c.args.rows.now place (place_word c.args.bounds.now) c.requires.placed))

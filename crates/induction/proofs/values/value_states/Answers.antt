@@ -18,10 +18,10 @@ returns-in_err-take_rank-clause-err g c =
     let many = length c.in_ok-states.states.items in
     let Many = HasUndecided m (c.args.values.now.rows + 1) in
     let old = c.args.values.now.turns in
-    let new = c.loop-below.values.turns in
+    let new = c.loop-half.values.turns in
     err_is (λ e. e ≡ NoMemory) _ _ c.from_residual-in_err-take_rank.ensures.1 (λ e is.
     stopped_at m Many 0 many old new e (no_memory Many new e is) c.in_ok-states.ensures.listed.known_are.undecided
-    (none_missing c.loop-below.missing many old new c.loop-below.invariant.spent))
+    (none_missing c.loop-half.missing many old new c.loop-half.invariant.spent))
 
 pub returns-in_err-give-clause-err : goal.returns-in_err-give-clause-err
 returns-in_err-give-clause-err g c =
@@ -32,18 +32,18 @@ returns-in_err-give-clause-err g c =
     let stopped : c.from_residual-in_err-give.result ≡ Err c.in_err-give.field-0.0 = search rules in
     rw stopped (stopped_at m Many 0 many c.args.values.now.turns new c.in_err-give.field-0.0 (reason_up Many new c.in_err-give.field-0.0 c.in_err-give.ensures.err)
     c.in_ok-states.ensures.listed.known_are.undecided
-    (none_missing (c.loop-below.missing - length c.take_rank.new.chosen.items) many c.args.values.now.turns new
-    (missing_less c.loop-below.missing many (length c.take_rank.new.chosen.items) c.args.values.now.turns c.loop-below.values.turns new c.in_ok-take_rank.ensures.few c.loop-below.invariant.spent
-    (rw c.deref-in-loop-below.ensures.value at c.give.ensures.spent))))
+    (none_missing (c.loop-half.missing - length c.take_rank.new.chosen.items) many c.args.values.now.turns new
+    (missing_less c.loop-half.missing many (length c.take_rank.new.chosen.items) c.args.values.now.turns c.loop-half.values.turns new c.in_ok-take_rank.ensures.few c.loop-half.invariant.spent
+    (rw c.deref-in-loop-half.ensures.value at c.give.ensures.spent))))
 
-pub loop-below-preserved : goal.loop-below-preserved
-loop-below-preserved g c =
-    let long : c.len-missing-in-loop-below.result ≡ length c.take_rank.new.chosen.items = search rules in
+pub loop-half-preserved : goal.loop-half-preserved
+loop-half-preserved g c =
+    let long : c.len-missing-in-loop-half.result ≡ length c.take_rank.new.chosen.items = search rules in
     record {
-      rows = c.give.ensures.rows ∙ c.loop-below.invariant.rows;
+      rows = c.give.ensures.rows ∙ c.loop-half.invariant.rows;
       spent = rw long
-          (missing_less c.loop-below.missing (length c.in_ok-states.states.items) (length c.take_rank.new.chosen.items) c.args.values.now.turns c.loop-below.values.turns c.give.new.self.turns
-          c.in_ok-take_rank.ensures.few c.loop-below.invariant.spent (rw c.deref-in-loop-below.ensures.value at c.give.ensures.spent));
+          (missing_less c.loop-half.missing (length c.in_ok-states.states.items) (length c.take_rank.new.chosen.items) c.args.values.now.turns c.loop-half.values.turns c.give.new.self.turns
+          c.in_ok-take_rank.ensures.few c.loop-half.invariant.spent (rw c.deref-in-loop-half.ensures.value at c.give.ensures.spent));
     }
 
 pub returns-clause-valued : goal.returns-clause-valued
@@ -53,5 +53,5 @@ returns-clause-valued g c =
       count = many;
       undecided = c.in_ok-states.ensures.listed.known_are.undecided;
       few = c.in_ok-states.ensures.listed.few;
-      spent = none_missing c.loop-below.missing many c.args.values.now.turns c.loop-below.values.turns c.loop-below.invariant.spent;
+      spent = none_missing c.loop-half.missing many c.args.values.now.turns c.loop-half.values.turns c.loop-half.invariant.spent;
     }

@@ -1,10 +1,10 @@
-use Rattle.std.proofs.Common.{◌≤◌, ℕ, sym, subst}
+use Rattle.std.proofs.Common.{◌≤◌, ℕ, sym, ap, subst, ◌∙◌}
 use Rattle.sim_game.specs.declared.Side.{Side}
 use Rattle.sim_game.specs.declared.Side.TheVariants.{One, Two}
 use Rattle.sim_game.specs.Sides.{IsNoTighter}
 use Rattle.sim_game.proofs.SideLemmas.{looser_trans}
 use Rattle.plan_book.specs.Serial.{serial_bound, tree_size}
-use Rattle.oracle_search.specs.Workers.{at_work}
+use Rattle.oracle_search.specs.Workers.{WorkerView, at_work}
 use Rattle.oracle_search.specs.Searches.{IsWorked}
 use Rattle.bounds_board.specs.Views.{known_bound}
 use Rattle.bounds_board.proofs.KnownLemmas.{known_later}
@@ -61,11 +61,12 @@ returns-in-Ok-bound_side-clause-tight g c visits = tight where
       (known_bound (g.G.Game.model c.args.setup.now.game) (g.B.Bounds.view c.known_bounds-last.new.board) side c.args.s)
   tight One =
       let m = g.G.Game.model c.args.setup.now.game in
-      looser_trans One _ _ _ (c.in-Ok.ensures.tight (visits One)) (known_later m (g.B.Bounds.view c.bound_side.new.board) (g.B.Bounds.view c.known_bounds-last.new.board) One c.args.s
+      looser_trans One _ _ _ (c.in-Ok.ensures.tight visits.0 (visits.1 One)) (known_later m (g.B.Bounds.view c.bound_side.new.board) (g.B.Bounds.view c.known_bounds-last.new.board) One c.args.s
       (later_trans _ _ _ c.known_bounds-enclosure.ensures.later (later_trans _ _ _ c.bound_side-in-Ok.ensures.worked.board.later c.known_bounds-last.ensures.later)))
   tight Two =
       let m = g.G.Game.model c.args.setup.now.game in
-      looser_trans Two _ _ _ (c.in-Ok-bound_side.ensures.tight (subst (λ (x : ℕ). tree_size m c.args.s ≤ x) (sym c.bound_side.ensures.other) (visits Two)))
+      looser_trans Two _ _ _ (c.in-Ok-bound_side.ensures.tight (ap (λ (w : WorkerView). w.turns.may_stop) c.bound_side.ensures.same ∙ visits.0)
+      (subst (λ (x : ℕ). tree_size m c.args.s ≤ x) (sym c.bound_side.ensures.other) (visits.1 Two)))
       (known_later m (g.B.Bounds.view c.bound_side-in-Ok.new.board) (g.B.Bounds.view c.known_bounds-last.new.board) Two c.args.s c.known_bounds-last.ensures.later)
 
 pub returns-in-Ok-bound_side-clause-ahead : goal.returns-in-Ok-bound_side-clause-ahead

@@ -1,4 +1,4 @@
-use Rattle.std.proofs.Common.{rules, length, Err, Some, ◌≡◌, ◌-◌, ◌<◌, ◌≤◌, ℕ, [], ◌∷◌, ◌++◌, w64, ℤ, pos, ◌+ℤ◌, ◌-ℤ◌, ◌*ℤ◌, to_z, of_z, SFits, append-nil, refl, sym, ap, subst, ◌∙◌, arith}
+use Rattle.std.proofs.Common.{rules, length, true, Err, Some, ◌≡◌, ◌-◌, ◌<◌, ◌≤◌, ℕ, [], ◌∷◌, ◌++◌, w64, ℤ, pos, ◌+ℤ◌, ◌-ℤ◌, ◌*ℤ◌, to_z, of_z, SFits, append-nil, refl, sym, ap, subst, ◌∙◌, arith}
 use Rattle.std.proofs.lemmas.Int.{ints, to_z-of_z}
 use Rattle.std.proofs.lemmas.Grind.{common_steps}
 use Rattle.sums.specs.Sums.{sum_below, count_below}
@@ -10,7 +10,7 @@ use Rattle.plan_book.specs.Entries.{concat_below}
 use Rattle.plan_book.specs.Serial.{tree_size}
 use Rattle.plan_book.specs.Steps.{rounded}
 use Rattle.bounds_board.specs.Views.{WasFull}
-use Rattle.serial_ab.specs.Counts.{IsCut}
+use Rattle.serial_ab.specs.Counts.{WasCut}
 use Rattle.serial_ab.specs.Transpositions.{AreRemembered}
 use Rattle.serial_ab.specs.Values.{turn_value, pair_value, pair_nodes, move_nodes, inner_nodes}
 use Rattle.serial_ab.specs.Searches.{IsSerialKept, IsWindow, IsReplied, IsFound, IsMoveFound, IsPairFound, IsGoodNumber}
@@ -174,8 +174,8 @@ search_draws-returns-in_err-found g t c =
       remembered = c.search_state.ensures.ends.remembered;
       ends = rw stopped (stops_below (WasFull m (g.B.Bounds.view c.search_state.new.board) (LeadsTo m c.drawn-child.result))
           (WasFull m (g.B.Bounds.view c.search_state.new.board) (LeadsTo m c.args.s)) c.in_err-found.field-0.0
-          (λ (cut : IsCut c.args.task.now.side (tree_size m c.drawn-child.result) c.loop-d.worker.visits c.search_state.new.worker.visits). part_cut nodes c.loop-d.d
-          (draws_of m c.args.task.now.side c.args.s c.args.own c.args.reply) c.loop-d.invariant.kept d.0 (rw d.1 at cut))
+          (λ (cut : WasCut c.args.task.now.may_stop c.args.task.now.side (tree_size m c.drawn-child.result) c.loop-d.worker.visits c.search_state.new.worker.visits).
+          part_cut nodes c.loop-d.d (draws_of m c.args.task.now.side c.args.s c.args.own c.args.reply) c.loop-d.invariant.kept d.0 (rw d.1 at cut))
           (λ (full : WasFull m (g.B.Bounds.view c.search_state.new.board) (LeadsTo m c.drawn-child.result)). full_below m (g.met.G.Game.lawful c.args.task.now.game)
           (g.B.Bounds.view c.search_state.new.board) c.args.task.now.side c.args.s c.args.own c.args.reply c.loop-d.d c.requires.own_move c.requires.reply d.0 (rw d.1 at full))
           c.in_err-found.ensures.ends.ends);
@@ -635,8 +635,8 @@ search_pair-returns-in_err-found g t c =
       remembered = c.search_state.ensures.ends.remembered;
       ends = rw stopped (stops_below (WasFull m (g.B.Bounds.view c.search_state.new.board) (LeadsTo m c.drawn-child.result))
           (WasFull m (g.B.Bounds.view c.search_state.new.board) (LeadsTo m c.args.s)) c.in_err-found.field-0.0
-          (λ (cut : IsCut c.args.task.now.side (tree_size m c.drawn-child.result) c.args.worker.now.visits c.search_state.new.worker.visits). rw one.0
-          (cut_after {a = 0} counts_none (omega arith) (rw one.1 at cut)))
+          (λ (cut : WasCut c.args.task.now.may_stop c.args.task.now.side (tree_size m c.drawn-child.result) c.args.worker.now.visits c.search_state.new.worker.visits).
+          rw one.0 (cut_after {a = 0} counts_none (omega arith) (rw one.1 at cut)))
           (λ (full : WasFull m (g.B.Bounds.view c.search_state.new.board) (LeadsTo m c.drawn-child.result)). full_below m (g.met.G.Game.lawful c.args.task.now.game)
           (g.B.Bounds.view c.search_state.new.board) c.args.task.now.side c.args.s c.args.own c.args.reply 0 c.requires.own_move c.requires.reply some (rw one.1 at full))
           c.in_err-found.ensures.ends.ends);
@@ -665,6 +665,19 @@ search_state-returns-then-left-eq0-clause-ends g t c = record {
   ends = search rules;
   below = search rules;
 }
+
+pub search_state-returns-then-is_stopped-clause-ends :
+    goal.search_state-returns-then-is_stopped-clause-ends
+search_state-returns-then-is_stopped-clause-ends g t c =
+    let tree = tree_moves (g.G.Game.model c.args.task.now.game) (g.met.G.Game.lawful c.args.task.now.game) c.args.task.now.side c.args.s c.requires.reachable in
+    let allowed : c.args.task.now.may_stop ≡ true = c.if-is_stopped.ensures refl in
+    record {
+      kept = kept_after {a = 1} {b = 0} (kept_counted c.spend.ensures.counts) kept_none (omega arith);
+      same_limit = refl;
+      remembered = c.requires.remembered;
+      ends = λ whole. absurd (cc);
+      below = search rules;
+    }
 
 pub search_state-returns-then-rank-eq0-clause-ends :
     goal.search_state-returns-then-rank-eq0-clause-ends

@@ -14,11 +14,11 @@ search_state-requires-clause-window g c =
     let worse = simp to_z-of_z at c.worse.ensures in
     let better = simp to_z-of_z at c.better.ensures in
     rw (to_z-of_z w64 c.worse.result fw, to_z-of_z w64 c.better.result fb, worse, better)
-    (range_window (g.G.Game.model c.args.g) (g.met.G.Game.lawful c.args.g) c.args.side c.args.s c.args.window.0 c.args.window.1 c.requires.reachable c.requires.window)
+    (range_window (g.G.Game.model c.args.task.now.game) (g.met.G.Game.lawful c.args.task.now.game) c.args.task.now.side c.args.s c.args.window.0 c.args.window.1 c.requires.reachable c.requires.window)
 
 pub returns-in-Ok : goal.returns-in-Ok
 returns-in-Ok g c =
-    let m = g.G.Game.model c.args.g in
+    let m = g.G.Game.model c.args.task.now.game in
     let v = g.B.Bounds.view c.search_state.new.board in
     let f0 : SFits w64 c.args.window.0 = search rules in
     let f1 : SFits w64 c.args.window.1 = search rules in
@@ -27,7 +27,7 @@ returns-in-Ok g c =
     let fx : SFits w64 c.in-Ok.value = search rules in
     let worse = simp to_z-of_z at c.worse.ensures in
     let better = simp to_z-of_z at c.better.ensures in
-    let game : IsGame m = g.met.G.Game.lawful c.args.g in
+    let game : IsGame m = g.met.G.Game.lawful c.args.task.now.game in
     let found = rw (to_z-of_z w64 c.worse.result fw, to_z-of_z w64 c.better.result fb, worse, better) at c.in-Ok.ensures.ends.ends in
     let placed = simp to_z-of_z at c.placed.ensures in
     let whole = not_cut c.args.window.0 c.args.window.1 c.in-Ok.value c.placed.result placed in
@@ -36,14 +36,14 @@ returns-in-Ok g c =
       same_limit = c.search_state.ensures.ends.same_limit;
       ends = record {
         kept = c.search_state.ensures.ends.kept;
-        value = value_of m c.args.side c.args.s c.args.window.0 c.args.window.1 v c.in-Ok.value c.placed.result c.requires.window.wide found placed;
-        cut = λ e. let same : c.placed.result ≡ Cut = cc in absurd (whole same);
+        value = value_of m c.args.task.now.side c.args.s c.args.window.0 c.args.window.1 v c.in-Ok.value c.placed.result c.requires.window.wide found placed;
+        cut = λ _ e. let same : c.placed.result ≡ Cut = cc in absurd (whole same);
         none_left = λ e. let none = c.search_state.ensures.none_left e in let is = c.in-Ok.is in cc;
-        enough = λ h e. let same : c.placed.result ≡ Cut = cc in whole same;
+        enough = λ _ h e. let same : c.placed.result ≡ Cut = cc in whole same;
         entered = c.search_state.ensures.entered;
         below = λ goes _. let ok = c.search_state.ensures.below goes in let is = c.in-Ok.is in search rules;
-        seen = λ goes. shown m c.args.side c.args.s c.args.window.0 c.args.window.1 v c.in-Ok.value c.placed.result goes c.requires.window.wide found placed;
-        whole = λ p q goes _. whole_known m game c.args.side c.args.s v c.in-Ok.value c.requires.reachable goes (rw (p, q) at c.requires.window.wide) (rw (p, q) at found);
+        seen = λ goes. shown m c.args.task.now.side c.args.s c.args.window.0 c.args.window.1 v c.in-Ok.value c.placed.result goes c.requires.window.wide found placed;
+        whole = λ p q goes _. whole_known m game c.args.task.now.side c.args.s v c.in-Ok.value c.requires.reachable goes (rw (p, q) at c.requires.window.wide) (rw (p, q) at found);
         full = λ e. cc;
       };
     }

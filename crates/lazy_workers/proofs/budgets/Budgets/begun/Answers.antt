@@ -6,9 +6,10 @@ use Rattle.lazy_workers.proofs.budgets.Budgets.begun.Goals as goal
 pub loop-worker-init : goal.loop-worker-init
 loop-worker-init c =
     let first = c.args.first in
+    let limit : HasLimit c.args.ask.now first.may_stop first = record { may = refl; no_more = c.requires.few; whole = c.requires.whole; spent = c.spent.ensures.within } in
     rw c.in_ok-push.ensures.items (rw c.in_ok-turns.ensures.items (
       refl,
-      All-cons (HasLimit c.args.ask.now c.args.first.may_stop) first [] c.requires.first (All-nil (HasLimit c.args.ask.now c.args.first.may_stop)),
+      All-cons (HasLimit c.args.ask.now first.may_stop) first [] limit (All-nil (HasLimit c.args.ask.now first.may_stop)),
       All-cons (λ t. t.spent ≤ first.spent) first [] (omega arith) (All-nil (λ t. t.spent ≤ first.spent)),
       Contains-push [] first,
     ))

@@ -1,0 +1,17 @@
+//! What stops a search.
+
+/// Asked by a search, at least once in some thousands of states that it enters.
+pub trait Interrupt {
+    /// Whether the search is to stop.
+    fn is_raised(&self) -> bool;
+}
+
+/// Stops no search.
+#[derive(Clone, Copy, Debug)]
+pub struct NoInterrupt;
+
+impl Interrupt for NoInterrupt {
+    fn is_raised(&self) -> bool {
+        false
+    }
+}

@@ -65,6 +65,7 @@ def positions() -> dict[str, dict]:
         rising = list(range(1, cards + 1))
         orders = {"rising": rising, "falling": rising[::-1]} | {f"shuffled by {seed}": shuffled(cards, seed) for seed in (1, 2, 3)}
         named |= {f"goofspiel 1 to {cards}, {order}": goofspiel(cards, prizes) for order, prizes in orders.items()}
+    named["goofspiel 1 to 13, thirteen prizes of 1"] = goofspiel(13, [1] * 13)
     for cards in range(4, 7):
         hand = list(range(1, cards + 1))
         named[f"goofspiel 1 to {cards}, drawn"] = goofspiel(cards, hand, game="goofspiel_drawn")

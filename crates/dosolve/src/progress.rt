@@ -1,6 +1,6 @@
 //! What a long search tells on standard error while it goes on.
 
-ghost use Rattle.std.specs.Prelude.{◌≡◌, ◌+◌, ◌/◌, ◌≤◌, ◌↔◌, ◌-ℤ◌, IsTrue, Some, ◌++◌, codes, decimal, unsigned_abs};
+ghost use Rattle.std.specs.Prelude.{◌≡◌, ◌+◌, ◌/◌, ◌≤◌, ◌↔◌, ◌≤ℤ◌, ◌-ℤ◌, IsTrue, Some, ◌++◌, codes, decimal, unsigned_abs};
 ghost use Rattle.std.specs.Fmt.{signed_decimal};
 
 use std::env::{Env, FillError};
@@ -220,6 +220,7 @@ struct BoundedLine {
 
 impl BoundedLine {
     fn new(line: Line, lower: i64, upper: i64) -> BoundedLine
+        requires { lower ≤ℤ upper }
         ensures { result ≡ record {
           line = line;
           lower = lower;

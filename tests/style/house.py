@@ -5,9 +5,6 @@ of src/ defined in two crates, at most ten wrong bodies a crate, each crate on t
 docs/DEFINITIONS.md in the place that is given there.
 
     tests/style/house.py      prints what breaks a rule, and ends with 1 if something does
-
-What broke a rule when it was made is listed below (LONG, DOUBLE). These lists only shrink: an entry that the code no
-longer needs is a fault too, and is taken out.
 """
 import re
 import sys
@@ -19,26 +16,6 @@ TOP = Path(__file__).resolve().parents[2]
 CRATES = TOP / "crates"
 MOST_COLUMNS, MOST_PROOF_COLUMNS, MOST_PARAMETERS, MOST_CLAUSES, MOST_LINES, MOST_EDITS = 120, 200, 7, 10, 40, 10
 
-# Contracts of more than ten clauses, with how many they have.
-LONG = {
-    "devices write": 13,
-    "lazy_workers join_all": 12,
-    "matrix_game lane_reply": 11,
-    "matrix_game play": 12,
-    "matrix_game reply": 11,
-    "oracle_search search": 11,
-    "oracle_search take_turn": 14,
-    "restricted_game claim": 11,
-    "restricted_game post_both": 12,
-    "restricted_game post_plan": 11,
-    "restricted_game read_child": 11,
-    "restricted_game step": 21,
-    "restricted_game step_over": 20,
-    "serial_ab post_move": 11,
-    "shared_board claim_row": 12,
-}
-# Names of types that mean something else in another crate.
-DOUBLE = {"Cell", "Cells", "Line", "Reply", "Stop", "Table", "Task"}
 # Crates of tests alone, which have whole reports as literals.
 TESTS = {"worked_rows", "worked_runs"}
 # Names that mean one thing in each of several crates: every game has its own setting, rules and refusals, and a reader
@@ -138,7 +115,7 @@ def wide(path, most, skipped):
 
 
 def faults_of_sources():
-    long, where = set(), defaultdict(set)
+    where = defaultdict(set)
     for path in sorted(CRATES.glob("*/src/**/*.rt")):
         place = path.relative_to(CRATES)
         crate = place.parts[0]
@@ -156,16 +133,10 @@ def faults_of_sources():
             if f.length > MOST_LINES:
                 yield f"{place}:{f.line}: the body of {f.name} has {f.length} lines"
             if f.clauses > MOST_CLAUSES:
-                key = f"{crate} {f.name}"
-                long.add(key)
-                if f.clauses > LONG.get(key, MOST_CLAUSES):
-                    yield f"{place}:{f.line}: the contract of {f.name} has {f.clauses} clauses"
-    double = {name for name, crates in where.items() if len(crates) > 1 and name not in OF_GAMES}
-    for name in sorted(double - DOUBLE):
-        yield f"the type {name} is defined in {', '.join(sorted(where[name]))}"
-    for word, listed, needed in (("LONG", set(LONG), long), ("DOUBLE", DOUBLE, double)):
-        for name in sorted(listed - needed):
-            yield f"{word} no longer needs {name}: take it out of tests/style/house.py"
+                yield f"{place}:{f.line}: the contract of {f.name} has {f.clauses} clauses"
+    for name, crates in sorted(where.items()):
+        if len(crates) > 1 and name not in OF_GAMES:
+            yield f"the type {name} is defined in {', '.join(sorted(crates))}"
 
 
 def faults_of_proofs():

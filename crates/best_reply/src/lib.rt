@@ -11,7 +11,7 @@ use sums::weighted;
 
 /// A reply, what the weights are worth there, and whether the reply is not held yet.
 #[derive(Clone, Copy, PartialEq, Eq, Debug)]
-pub struct Reply {
+pub struct BestReply {
     /// The number of the move, from 0.
     pub place: u32,
     /// The sum of weight times cell, in millionths, over the moves of the other side.
@@ -21,7 +21,7 @@ pub struct Reply {
 
 /// The column in which the weights `p` of the rows pay least: the least held one of that sum, else the first.
 /// The cells stand row by row, in millionths of a payoff to One.
-pub fn reply_two(cells: &[i64], cols: u32, p: &[u32], held: &[u32]) -> Reply
+pub fn reply_two(cells: &[i64], cols: u32, p: &[u32], held: &[u32]) -> BestReply
     requires some_row { 1 ≤ length p.now }
     requires few_rows { length p.now ≤ MOST_MOVES }
     requires some_col { 1 ≤ cols }
@@ -38,7 +38,7 @@ pub fn reply_two(cells: &[i64], cols: u32, p: &[u32], held: &[u32]) -> Reply
 
 /// The row in which the weights `v` of the columns pay most: the least held one of that sum, else the first.
 /// The cells stand row by row, in millionths of a payoff to One.
-pub fn reply_one(cells: &[i64], cols: u32, v: &[u32], held: &[u32]) -> Reply
+pub fn reply_one(cells: &[i64], cols: u32, v: &[u32], held: &[u32]) -> BestReply
     requires some_col { 1 ≤ cols }
     requires few_cols { cols ≤ MOST_MOVES }
     requires weights { length v.now ≡ cols }
@@ -64,7 +64,7 @@ fn is_fresh(held: &[u32], reply: u32) -> bool
 }
 
 // Whether a reply of this worth comes before the best one so far.
-fn comes_before(side: Side, best: Reply, sum: i64, fresh: bool) -> bool
+fn comes_before(side: Side, best: BestReply, sum: i64, fresh: bool) -> bool
     ensures { MatchBool result
         (IsBefore side best.sum best.fresh sum fresh)
         (IsBehind side best.sum best.fresh sum fresh) }
@@ -134,7 +134,7 @@ fn find_reply(
     replies: u32,
     weights: &[u32],
     held: &[u32],
-) -> Reply
+) -> BestReply
     requires table { IsPayoffTable side cells.now cols (length weights.now) replies }
     requires cols { cols ≤ MOST_MOVES }
     requires some { 1 ≤ replies }
@@ -142,7 +142,7 @@ fn find_reply(
     ensures { IsBestReply side (worth_in side cells.now cols weights.now) replies
         held.now result.place result.sum result.fresh }
 {
-    let mut best = Reply {
+    let mut best = BestReply {
         place: 0,
         sum: worth(side, cells, cols, replies, weights, 0),
         fresh: is_fresh(held, 0),
@@ -151,7 +151,7 @@ fn find_reply(
         let sum = worth(side, cells, cols, replies, weights, reply);
         let fresh = is_fresh(held, reply);
         if comes_before(side, best, sum, fresh) {
-            best = Reply {
+            best = BestReply {
                 place: reply,
                 sum,
                 fresh,

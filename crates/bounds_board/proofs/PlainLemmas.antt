@@ -193,7 +193,6 @@ entry_weaker m total P Q e f h = record {
   low = h.low;
   high = h.high;
   numbers = h.numbers;
-  listed = h.listed;
   step = h.step;
   backed = h.backed;
   known = λ own reply draw p q d w. f _ _ (child_reachable m e.side h.state own reply draw h.reachable p q d) (h.known own reply draw p q d w);

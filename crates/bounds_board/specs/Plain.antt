@@ -1,5 +1,6 @@
 -- What holds of a plain board, and what callers see of it.
 use Rattle.std.specs.Prelude.{◌≡◌, ℕ, ◌≤◌, List, All, Contains, slice_get}
+use Rattle.sums.specs.declared.TheConstants.{LEAST_WEIGHT, MOST_WEIGHT}
 use Rattle.sim_game.specs.declared.Side.{Side}
 use Rattle.sim_game.specs.Model.{GameModel}
 use Rattle.sim_game.specs.Resolution.{IsFineWeight}
@@ -10,9 +11,9 @@ use Rattle.bounds_board.specs.Slots.{keys_of, slot_bound, IsHashTable}
 use Rattle.bounds_board.specs.Views.{BoardView, IsInnerKey}
 
 pub record IsPlain {S : Type 0} (m : GameModel S) (heads : List ℕ) (slots : List Slot) (total : ℕ) (entries : List Entry) : Type 0 where
-  pub total_low : 8192 ≤ total
+  pub total_low : LEAST_WEIGHT ≤ total
   pub total_fine : IsFineWeight m total
-  pub total_high : total ≤ 1048576
+  pub total_high : total ≤ MOST_WEIGHT
   pub table : IsHashTable heads (keys_of slots)
   pub inner : All (IsInnerKey m) (keys_of slots)
   pub bounds : All (λ slot. (side : Side) → slot_bound slot side ≡ best_posted m entries side slot.key) slots

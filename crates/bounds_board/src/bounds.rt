@@ -1,5 +1,6 @@
 //! What a search asks of a board.
 ghost use Rattle.std.specs.Prelude.{◌≡◌, ◌++◌, ◌∷◌, [], ℕ, ◌≤◌, Some, IfOk, IfErr, OnOk, OnErr, IsSome};
+ghost use Rattle.sums.specs.declared.TheConstants.{LEAST_WEIGHT, MOST_WEIGHT};
 ghost use Rattle.sim_game.specs.Model.{Reachable};
 ghost use Rattle.sim_game.specs.Resolution.{IsFineWeight};
 ghost use Rattle.bounds_board.specs.Views.{BoardView, IsLater, IsInnerKey, IsFull, IsPostable, IsRead, IsEnclosure, bound_in};
@@ -56,9 +57,9 @@ pub trait Bounds<G: Game> {
     /// What the weights of each entry sum to.
     fn total(&self) -> u32
         ensures total { result ≡ (view self.now).total }
-        ensures low { 8192 ≤ result }
+        ensures low { LEAST_WEIGHT ≤ result }
         ensures fine { IsFineWeight (G.model (view self.now).game) result }
-        ensures high { result ≤ 1048576 };
+        ensures high { result ≤ MOST_WEIGHT };
 
     /// The row that has the key, claimed if need be. It takes no memory.
     fn claim(&mut self, key: u64) -> Result<Row, Full>

@@ -1,5 +1,6 @@
 //! The board of one thread.
 ghost use Rattle.std.specs.Prelude.{◌≡◌, ℕ, ◌≤◌, [], All, Contains, IfOk, length, nat_eq};
+ghost use Rattle.sums.specs.declared.TheConstants.{LEAST_WEIGHT, MOST_WEIGHT};
 ghost use Rattle.sim_game.specs.declared.TheConstants.{MOST_ROWS};
 ghost use Rattle.sim_game.specs.Resolution.{IsFineWeight};
 ghost use Rattle.bounds_board.specs.Plain.{plain_view};
@@ -51,9 +52,9 @@ impl<G: Game> PlainBoard<G> {
     pub fn new(alloc: Global, game: G, rows: u32, total: u32) -> Result<PlainBoard<G>, NoMemory>
         requires rows_low { 1 ≤ rows }
         requires rows_high { rows ≤ MOST_ROWS }
-        requires total_low { 8192 ≤ total }
+        requires total_low { LEAST_WEIGHT ≤ total }
         requires total_fine { IsFineWeight (G.model game) total }
-        requires total_high { total ≤ 1048576 }
+        requires total_high { total ≤ MOST_WEIGHT }
         ensures game { IfOk result (λ b. b.game ≡ game) }
         ensures rows { IfOk result (λ b. b.rows ≡ rows) }
         ensures keys { IfOk result (λ b. b.keys ≡ []) }

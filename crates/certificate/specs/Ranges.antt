@@ -1,6 +1,7 @@
 -- The reports that have a text: each number is in its range.
 use Rattle.std.specs.Prelude.{◌≡◌, ℕ, ◌≤◌, pos, unsigned_abs, length, map, All}
 use Rattle.std.specs.List.Sorted.{IsStrictlyIncreasing}
+use Rattle.sums.specs.declared.TheConstants.{LEAST_WEIGHT, MOST_WEIGHT}
 use Rattle.sim_game.specs.declared.Side.{Side}
 use Rattle.sim_game.specs.declared.Side.TheVariants.{One, Two}
 use Rattle.plan_book.specs.declared.Sheet.{Sheet}
@@ -14,7 +15,7 @@ pub record IsRowInRange (row : SheetRow) : Type 0 where
   pub key : row.key ≤ 9223372036854775807
   pub bound : unsigned_abs row.bound ≤ 4000000000
   pub moves : Within 1 64 (length row.weights)
-  pub weights : All (λ w. w ≤ 1048576) row.weights
+  pub weights : All (λ w. w ≤ MOST_WEIGHT) row.weights
 
 -- a sheet of the side with the total, within the limits, whose keys rise
 pub record IsSheetInRange (limits : Limits) (side : Side) (total : ℕ) (sheet : Sheet) : Type 0 where
@@ -28,7 +29,7 @@ pub record IsSheetInRange (limits : Limits) (side : Side) (total : ℕ) (sheet :
 -- a report within the limits of its version
 pub record IsInRange (r : Report) : Type 0 where
   pub position : IsPositionInRange r.position
-  pub weight : Within 8192 1048576 r.weight
+  pub weight : Within LEAST_WEIGHT MOST_WEIGHT r.weight
   pub turns : r.turns ≤ 1099511627776
   pub asked : Between (pos 0) (pos 8000000000) r.asked
   pub resolution : Between (pos 0) (pos 99999999999) r.resolution

@@ -1,5 +1,6 @@
 -- The report that a text spells, or its first fault.
 use Rattle.std.specs.Prelude.{ℕ, zero, suc, ◌+◌, ℤ, pos, neg_ℤ, Bool, true, false, ◌==◌, List, [], ◌∷◌, length, codes, nat_lt, bytes_eq, find, if◌then◌else◌, Option, Some, None, option_and_then, Result, Ok, Err}
+use Rattle.sums.specs.declared.TheConstants.{LEAST_WEIGHT, MOST_WEIGHT}
 use Rattle.sim_game.specs.declared.Side.TheVariants as sides
 use Rattle.plan_book.specs.declared.SheetRow.{SheetRow}
 use Rattle.certificate.specs.declared.error.TextError.{TextError}
@@ -94,7 +95,7 @@ head u = or_head (version_line u)
 -- what the search was asked, and what it can reach: weight, turns, gap asked and resolution
 unfoldable pub terms : Reads (ℕ × ℕ × ℤ × ℤ)
 terms = made_by (λ x. (x.0, x.1.0, x.1.1.0, x.1.1.1)) (
-    natural_line (codes "weight") 8192 1048576
+    natural_line (codes "weight") LEAST_WEIGHT MOST_WEIGHT
     followed_by natural_line (codes "turns") 0 1099511627776
     followed_by integer_line (codes "asked") (pos 0) (pos 8000000000)
     followed_by integer_line (codes "resolution") (pos 0) (pos 99999999999))

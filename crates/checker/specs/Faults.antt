@@ -1,6 +1,7 @@
 -- What can be wrong with a row of a sheet, and which fault is the first.
 use Rattle.std.specs.Prelude.{◌≡◌, ℕ, ◌<◌, ◌≤◌, ℤ, pos, ◌*ℤ◌, ◌≤ℤ◌, Option, None, Some, List, slice_get, map, take, All}
 use Rattle.std.specs.List.Sorted.{IsStrictlyIncreasing}
+use Rattle.sums.specs.declared.TheConstants.{LEAST_WEIGHT, MOST_WEIGHT}
 use Rattle.sim_game.specs.Model.{GameModel}
 use Rattle.sim_game.specs.declared.Side.TheVariants.{One, Two}
 use Rattle.sim_game.specs.Sides.{other_side, IsNoTighter, IsTighter, state_bound, over_turns}
@@ -16,7 +17,7 @@ use Rattle.checker.specs.declared.verdict.Why.TheVariants.{Weights, Bound, Idle,
 
 -- a sheet that a report's text can have
 pub record IsReadable (sheet : Sheet) : Type 0 where
-  pub total : Within 8192 1048576 sheet.total
+  pub total : Within LEAST_WEIGHT MOST_WEIGHT sheet.total
   pub rows : All IsRowInRange sheet.rows
   pub rising : IsStrictlyIncreasing (map (λ row. row.key) sheet.rows)
 

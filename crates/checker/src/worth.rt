@@ -1,6 +1,7 @@
 //! What the weights of a row are worth over the bounds of its sheet.
 
 ghost use Rattle.std.specs.Prelude.{◌≡◌, ◌<◌, ◌≤◌, length, All, pos, ◌+ℤ◌, ◌*ℤ◌, unsigned_abs};
+ghost use Rattle.sums.specs.declared.TheConstants.{MOST_WEIGHT, MOST_BOUND, MOST_REWARD};
 ghost use Rattle.sim_game.specs.Model.{Reachable};
 ghost use Rattle.sim_game.specs.Sides.{other_side};
 ghost use Rattle.checker.specs.Faults.{IsReadable, cell_of, worth_of};
@@ -11,7 +12,7 @@ use sim_game::{CHANCE, Game, turn_reward};
 
 /// A number of a turn with a weight.
 fn weighted(weight: u32, number: i64) -> i64
-    requires light { weight ≤ 1048576 }
+    requires light { weight ≤ MOST_WEIGHT }
     requires small { unsigned_abs number ≤ 12000000000 }
     ensures value { result ≡ pos weight *ℤ number }
     ensures small { unsigned_abs result ≤ 12582912000000000 }
@@ -21,8 +22,8 @@ fn weighted(weight: u32, number: i64) -> i64
 
 /// A turn's reward, with a bound at the state that follows.
 fn with_reward(reward: i64, bound: i64) -> i64
-    requires reward { unsigned_abs reward ≤ 8000000000 }
-    requires bound { unsigned_abs bound ≤ 4000000000 }
+    requires reward { unsigned_abs reward ≤ MOST_REWARD }
+    requires bound { unsigned_abs bound ≤ MOST_BOUND }
     ensures { result ≡ reward +ℤ bound }
 {
     reward + bound
@@ -40,7 +41,7 @@ pub(crate) fn worth<G: Game>(
     requires readable { IsReadable sheet.now }
     requires reachable { Reachable (G.model g) s }
     requires one_each { length weights.now ≡ (G.model g).moves sheet.now.side s }
-    requires light { All (λ w. w ≤ 1048576) weights.now }
+    requires light { All (λ w. w ≤ MOST_WEIGHT) weights.now }
     requires reply { reply < (G.model g).moves (other_side sheet.now.side) s }
     ensures value { result ≡ worth_of (G.model g) sheet.now weights.now s reply }
     ensures small { unsigned_abs result ≤ 805306368000000000 }

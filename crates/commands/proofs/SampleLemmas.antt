@@ -11,7 +11,7 @@ use Rattle.fields.specs.Ranges.{IsByteList, IsAskInRange, IsPositionInRange}
 use Rattle.certificate.specs.declared.report.Outcome.{Outcome}
 use Rattle.certificate.specs.declared.report.Outcome.TheVariants.{Closed, Settled, Spent, Full, Stopped}
 use Rattle.certificate.specs.declared.report.Report.{Report}
-use Rattle.goofspiel.specs.CardLaws.{few_cards}
+use Rattle.goofspiel.specs.laws.Cards.{few_cards}
 use Rattle.goofspiel.specs.declared.Goofspiel.{Goofspiel as GoofspielGame}
 use Rattle.goofspiel.specs.Rules.{goofspiel_game}
 use Rattle.position.specs.declared.games.AnyGame.TheVariants.{Goofspiel}

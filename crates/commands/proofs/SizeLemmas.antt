@@ -23,8 +23,8 @@ use Rattle.goofspiel.specs.declared.Pay.TheVariants.{Margin}
 use Rattle.goofspiel.specs.declared.Setting.{Setting}
 use Rattle.goofspiel.specs.declared.State.{State}
 use Rattle.goofspiel.specs.Cards.{members, cards, packed, rising}
-use Rattle.goofspiel.specs.CardLaws.{cards_packed, card_bid}
-use Rattle.goofspiel.specs.Laws.{goofspiel_is_game}
+use Rattle.goofspiel.specs.laws.Cards.{cards_packed, card_bid}
+use Rattle.goofspiel.specs.laws.Game.{goofspiel_is_game}
 use Rattle.goofspiel.specs.Position.{prizes_of, IsPosition, IsSettingOf}
 use Rattle.goofspiel.specs.Rules.{won, won_by, next_prize, score_after, after_bids, deal_of, state_of, goofspiel_game}
 use Rattle.commands.specs.Samples.{sample_cards, rotated_left, sample_prizes}

@@ -3,7 +3,7 @@
 ghost use Rattle.std.specs.Prelude.{◌≡◌, [], ◌<◌, ◌≤◌, ◌+◌, ◌-◌, ◌^◌, ◌↔◌, ◌⊎◌, min, length, Some, Contains, IsErr, IfOk, OnOk, MatchResult, vec_capacity};
 ghost use Rattle.std.specs.Io.KnownBytes.{WriteAppends};
 ghost use Rattle.devices.specs.Causes.{HasCause, IsCalm};
-ghost use Rattle.devices.specs.Memory.{room_left};
+ghost use Rattle.devices.specs.Memory.{room_left, CountsCall};
 
 use crate::pieces::is_listed;
 use crate::{Failed, Sink};
@@ -93,10 +93,7 @@ impl Sink for MemorySink {
         // Each call that fails is counted and each call, both up to the last value of the type. All else stays.
         ensures faults { MatchResult result (λ _. self.new.faults ≡ self.old.faults)
             (λ _. self.new.faults ≡ min (self.old.faults + 1) (2 ^ 64 - 1)) }
-        ensures counted { self.new.calls ≡ min (self.old.calls + 1) (2 ^ 64 - 1) }
-        ensures listed { self.new.failing ≡ self.old.failing }
-        ensures chunk { self.new.chunk ≡ self.old.chunk }
-        ensures room { self.new.room ≡ self.old.room }
+        ensures counted { CountsCall self.old self.new }
     {
         let number = self.calls;
         self.calls = self.calls.saturating_add(1);

@@ -86,7 +86,7 @@ impl<'a, R: Clock + Env + Eprint> Progress<'a, R> {
         let now = u64::try_from(elapsed.as_millis()).unwrap_or(u64::MAX);
         if is_due(told.load(Ordering::SeqCst), now) {
             told.store(now, Ordering::SeqCst);
-            self.write(worker, Line::at(worker, turns, now));
+            self.write(worker, ProgressLine::at(worker, turns, now));
         }
     }
 
@@ -126,7 +126,7 @@ impl<'a, R: Clock + Env + Eprint> Progress<'a, R> {
     }
 
     /// A search goes on whether its progress can be written or not.
-    fn write(&self, worker: u32, line: Line) {
+    fn write(&self, worker: u32, line: ProgressLine) {
         let Some(bounds) = self.bounds.get(worker as usize) else {
             return;
         };
@@ -169,18 +169,18 @@ impl<R: Clock + Env + Eprint> Progress<'_, R> {
 
 /// What is told of a worker: the turns that it has spent, and the seconds since the start.
 #[derive(Drop)]
-struct Line {
+struct ProgressLine {
     worker: u32,
     turns: u64,
     seconds: u64,
 }
 
-impl Line {
+impl ProgressLine {
     /// What is told at a time, in milliseconds since the start.
-    fn at(worker: u32, turns: u64, now: u64) -> Line
+    fn at(worker: u32, turns: u64, now: u64) -> ProgressLine
         ensures { result ≡ record { worker = worker; turns = turns; seconds = now / 1000 } }
     {
-        Line {
+        ProgressLine {
             worker,
             turns,
             seconds: seconds_of(now),
@@ -195,12 +195,12 @@ fn seconds_of(milliseconds: u64) -> u64
     milliseconds / 1000
 }
 
-impl fmt::Display for Line {
+impl fmt::Display for ProgressLine {
     ghost output = { λ l. Some (codes "worker " ++ decimal l.worker ++ codes " turns " ++ decimal l.turns
         ++ codes " seconds " ++ decimal l.seconds) };
 
     fn fmt<W: fmt::Write>(&self, f: &mut fmt::Formatter<W>) -> fmt::Result {
-        let Line {
+        let ProgressLine {
             worker,
             turns,
             seconds,
@@ -212,14 +212,14 @@ impl fmt::Display for Line {
 /// The same with the bounds at the root, in millionths of a payoff, and how far these are apart.
 #[derive(Drop)]
 struct BoundedLine {
-    line: Line,
+    line: ProgressLine,
     lower: i64,
     upper: i64,
     gap: u64,
 }
 
 impl BoundedLine {
-    fn new(line: Line, lower: i64, upper: i64) -> BoundedLine
+    fn new(line: ProgressLine, lower: i64, upper: i64) -> BoundedLine
         requires { lower ≤ℤ upper }
         ensures { result ≡ record {
           line = line;

@@ -1,6 +1,7 @@
 //! Induction: serial searches of the root first, then plans that floats propose and exact sums certify.
 
 ghost use Rattle.std.specs.Prelude.{◌≡◌, ◌≤◌, ◌⊎◌, ◌-ℤ◌, ◌<ℤ◌, ◌≤ℤ◌, true, unsigned_abs, MatchBool, IfOk, IfSome};
+ghost use Rattle.sums.specs.declared.TheConstants.{MOST_BOUND};
 ghost use Rattle.sim_game.specs.Resolution.{IsFineWeight};
 ghost use Rattle.fields.specs.Ranges.{IsAskInRange};
 ghost use Rattle.fields.specs.declared.ask.SearchMethod.TheVariants.{Induction};
@@ -175,8 +176,8 @@ fn chosen<G: Game>(
 
 /// Whether bounds are no further apart than the gap.
 fn is_near(lower: i64, upper: i64, gap: i64) -> bool
-    requires lower { unsigned_abs lower ≤ 4000000000 }
-    requires upper { unsigned_abs upper ≤ 4000000000 }
+    requires lower { unsigned_abs lower ≤ MOST_BOUND }
+    requires upper { unsigned_abs upper ≤ MOST_BOUND }
     ensures { MatchBool result ((upper -ℤ lower) ≤ℤ gap) (gap <ℤ (upper -ℤ lower)) }
 {
     upper - lower <= gap
@@ -184,8 +185,8 @@ fn is_near(lower: i64, upper: i64, gap: i64) -> bool
 
 /// Whether bounds are no further apart than the gap asked, or than the resolution.
 fn is_enough(lower: i64, upper: i64, asked: i64, resolution: i64) -> bool
-    requires lower { unsigned_abs lower ≤ 4000000000 }
-    requires upper { unsigned_abs upper ≤ 4000000000 }
+    requires lower { unsigned_abs lower ≤ MOST_BOUND }
+    requires upper { unsigned_abs upper ≤ MOST_BOUND }
     ensures { result ≡ true → ((upper -ℤ lower) ≤ℤ asked) ⊎ ((upper -ℤ lower) ≤ℤ resolution) }
 {
     if is_near(lower, upper, asked) {

@@ -9,7 +9,7 @@ use Rattle.goofspiel.specs.declared.Setting.{Setting}
 use Rattle.goofspiel.specs.Cards.{rising}
 use Rattle.goofspiel.specs.DrawnRules.{DrawnDeal, after_draw, draw_count, drawn_key_of, drawn_left, first_deal}
 use Rattle.goofspiel.specs.Counts.{choose}
-use Rattle.goofspiel.specs.DealLaws.{spread}
+use Rattle.goofspiel.specs.Deals.{spread}
 use Rattle.goofspiel.specs.Position.{first_fault}
 use Rattle.goofspiel.specs.Places.{deals}
 use Rattle.sums.specs.Sums.{count_below}

@@ -15,7 +15,7 @@ use Rattle.std.specs.List.{All, list_any, position_or_len}
 use Rattle.state_key.specs.Sets.{is_in, with_number}
 use Rattle.state_key.proofs.SetLemmas.{bit_clear, filter_agrees, in_with, members_count, ones_with, with_below}
 use Rattle.goofspiel.specs.Cards.{cards, members, rising}
-use Rattle.goofspiel.specs.CardLaws.{few_cards}
+use Rattle.goofspiel.specs.laws.Cards.{few_cards}
 use Rattle.goofspiel.specs.declared.Setting.{Setting}
 use Rattle.text.specs.Faults.{is_outside}
 use Rattle.goofspiel.specs.Position.{repeat_after, prizes_of, IsHandOf, IsPosition}

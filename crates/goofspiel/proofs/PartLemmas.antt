@@ -10,12 +10,12 @@ use Rattle.std.proofs.Math.Nat.{pow-succ', div-eq_of_lt, div-div-eq-div-mul}
 use Rattle.std.specs.Int.Count.{ones, ones_step}
 use Rattle.state_key.proofs.SetLemmas.{members_count, members_induction}
 use Rattle.state_key.specs.Sets.{members}
-use Rattle.goofspiel.specs.CardLaws.{IsRisingFrom, rising_weaker}
+use Rattle.goofspiel.specs.laws.Cards.{IsRisingFrom, rising_weaker}
 use Rattle.goofspiel.specs.Counts.{choose}
 use Rattle.goofspiel.specs.declared.places.TheConstants.{FRONT, REST}
-use Rattle.goofspiel.specs.DrawnLaws.{members_full}
+use Rattle.goofspiel.specs.laws.Drawn.{members_full}
 use Rattle.goofspiel.specs.Places.{is_part, IsPartOf, bits_number, part_number}
-use Rattle.goofspiel.specs.PlaceLaws.{part_tail}
+use Rattle.goofspiel.specs.laws.Places.{part_tail}
 
 -- ---- the number of a part of a rising list, card by card
 -- how many numbers of the list are above a number

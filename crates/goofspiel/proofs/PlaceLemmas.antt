@@ -7,11 +7,12 @@ use Rattle.goofspiel.specs.declared.drawn.DrawnState.{DrawnState}
 use Rattle.goofspiel.specs.declared.Setting.{Setting}
 use Rattle.goofspiel.specs.declared.State.{State}
 use Rattle.goofspiel.specs.Cards.{cards, places}
-use Rattle.goofspiel.specs.DealLaws.{IsDealt, few_prizes, spread}
-use Rattle.goofspiel.specs.DrawnLaws.{root_undrawn}
+use Rattle.goofspiel.specs.Deals.{IsDealt, spread}
+use Rattle.goofspiel.specs.laws.Deals.{few_prizes}
+use Rattle.goofspiel.specs.laws.Drawn.{root_undrawn}
 use Rattle.goofspiel.specs.DrawnRules.{drawn_game}
-use Rattle.goofspiel.specs.PlaceLaws.{HasParts, deal_below, drawn_below, drawn_parts}
-use Rattle.goofspiel.specs.Places.{IsPartOf, part_number, deals, hands, deal_number, drawn_far, later, sets, drawn_deals_with, drawn_number}
+use Rattle.goofspiel.specs.Places.{HasParts, IsPartOf, part_number, deals, hands, deal_number, drawn_far, later, sets, drawn_deals_with, drawn_number}
+use Rattle.goofspiel.specs.laws.Places.{deal_below, drawn_below, drawn_parts}
 use Rattle.goofspiel.specs.Position.{IsPosition}
 use Rattle.goofspiel.proofs.CountLemmas.{choose_few}
 

@@ -4,7 +4,7 @@ use Rattle.goofspiel.specs.declared.Pay.{Pay}
 use Rattle.goofspiel.specs.declared.Setting.{Setting}
 use Rattle.goofspiel.specs.Position.{IsSettingOf}
 use Rattle.goofspiel.specs.Cards.{packed}
-use Rattle.goofspiel.specs.CardLaws.{cards_packed}
+use Rattle.goofspiel.specs.laws.Cards.{cards_packed}
 
 pub one_setting : (one two prizes : List ℕ) (score : ℤ) (pay : Pay) (g h : Setting) → IsSettingOf one two prizes score pay g → IsSettingOf one two prizes score pay h → g ≡ h
 one_setting one two prizes score pay g h p q =

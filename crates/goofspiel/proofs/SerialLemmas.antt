@@ -16,9 +16,9 @@ use Rattle.plan_book.specs.Steps.{rounded, cell}
 use Rattle.goofspiel.specs.declared.Pay.{Pay}
 use Rattle.goofspiel.specs.declared.Pay.TheVariants.{Margin, Prizes}
 use Rattle.goofspiel.specs.declared.Setting.{Setting}
-use Rattle.goofspiel.specs.DrawnLaws.{drawn_is_game}
+use Rattle.goofspiel.specs.laws.Drawn.{drawn_is_game}
 use Rattle.goofspiel.specs.DrawnRules.{drawn_game}
-use Rattle.goofspiel.specs.Laws.{goofspiel_is_game}
+use Rattle.goofspiel.specs.laws.Game.{goofspiel_is_game}
 use Rattle.goofspiel.specs.Position.{IsPosition}
 use Rattle.goofspiel.specs.Rules.{goofspiel_game}
 use Rattle.goofspiel.specs.SameTree.{with_pay, HasSameSerialBounds}

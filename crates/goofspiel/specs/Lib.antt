@@ -1,13 +1,10 @@
-pub mod CardLaws
 pub mod Cards
 pub mod Counts
-pub mod DealLaws
-pub mod DrawnLaws
+pub mod Deals
 pub mod DrawnRules
-pub mod Laws
-pub mod PlaceLaws
 pub mod Places
 pub mod Position
 pub mod Refusals
 pub mod Rules
 pub mod SameTree
+pub mod laws

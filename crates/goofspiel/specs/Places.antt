@@ -8,8 +8,7 @@ use Rattle.goofspiel.specs.declared.Setting.{Setting}
 use Rattle.goofspiel.specs.declared.State.{State}
 use Rattle.goofspiel.specs.Cards.{cards, places}
 use Rattle.goofspiel.specs.Counts.{choose}
-use Rattle.goofspiel.specs.DealLaws.{spread}
-use Rattle.goofspiel.specs.Laws.{gone}
+use Rattle.goofspiel.specs.Deals.{gone, spread}
 use Rattle.goofspiel.specs.Position.{prizes_of}
 
 -- ---- parts of a list
@@ -38,6 +37,11 @@ bits_number (suc count) set = (if set % 2 == 1 then choose count (ones set) else
 -- how many deals there are of so many hands of each side, with scores so far from the first one
 abbrev pub deals : ℕ → ℕ → ℕ
 deals hands far = (2 * far + 1) * (hands * hands)
+
+-- both hands are parts of those at the root
+pub record HasParts (g : Setting) (s : State) : Type 0 where
+  pub one : IsPartOf (cards g.one) (cards s.one)
+  pub two : IsPartOf (cards g.two) (cards s.two)
 
 -- how many hands of so many cards each side has
 abbrev pub hands : Setting → ℕ → ℕ

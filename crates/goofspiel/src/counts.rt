@@ -1,7 +1,7 @@
 //! How many hands and deals there are.
 ghost use Rattle.std.specs.Prelude.{◌≡◌, ◌^◌, ◌≤◌, length, sum};
 ghost use Rattle.goofspiel.specs.Counts.{choose};
-ghost use Rattle.goofspiel.specs.DealLaws.{spread};
+ghost use Rattle.goofspiel.specs.Deals.{spread};
 ghost use Rattle.goofspiel.specs.Places.{deals};
 ghost use Rattle.sums.specs.Sums.{count_below};
 
@@ -67,6 +67,19 @@ pub(crate) fn spread(pay: Pay, prizes: &[u8]) -> u32
 {
     match pay {
         Pay::Margin | Pay::Win => prize_sum(prizes),
+        Pay::Prizes => 0,
+    }
+}
+
+/// How far the score can be from the first one where prizes of this sum were bid for.
+#[inline]
+pub(crate) fn far_by(pay: Pay, spent: u32) -> u32
+    requires { spent ≤ 3315 }
+    ensures is { result ≡ spread pay spent }
+    ensures few { result ≤ 3315 }
+{
+    match pay {
+        Pay::Margin | Pay::Win => spent,
         Pay::Prizes => 0,
     }
 }

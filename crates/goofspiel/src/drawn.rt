@@ -4,12 +4,12 @@
 ghost use Rattle.std.specs.Prelude.{◌≡◌, ℕ, ℤ, List, ◌+◌, ◌*◌, ◌<◌, ◌≤◌, ◌^◌, max, length, slice_index, sum, MatchResult, None, Some};
 ghost use Rattle.goofspiel.specs.declared.Pay.TheVariants.{Margin, Prizes};
 ghost use Rattle.goofspiel.specs.SameTree.{with_pay, HasSameSerialBounds, HasSameTree};
-ghost use Rattle.goofspiel.specs.DrawnLaws.{drawn_is_game};
+ghost use Rattle.goofspiel.specs.laws.Drawn.{drawn_is_game};
 ghost use Rattle.goofspiel.specs.DrawnRules.{drawn_deal_of, drawn_game, drawn_left, KeepsDrawnRules};
 ghost use Rattle.sim_game.specs.Model.{Reachable};
 ghost use Rattle.std.specs.List.{sum_by};
 ghost use Rattle.goofspiel.specs.Cards.{places};
-ghost use Rattle.goofspiel.specs.PlaceLaws.{drawn_numbered};
+ghost use Rattle.goofspiel.specs.laws.Places.{drawn_numbered};
 ghost use Rattle.goofspiel.specs.Places.{drawn_deals_with, drawn_far, drawn_numbering, sets};
 ghost use Rattle.goofspiel.specs.Position.{first_fault, prizes_of, IsPosition, IsSettingOf};
 ghost use Rattle.goofspiel.specs.Rules.{high_of, low_of};
@@ -18,7 +18,7 @@ ghost use Rattle.sums.specs.Sums.{count_below};
 use crate::counts::{choose, deals, spread};
 use crate::hands::{hands_key, play, won_by};
 use crate::places::{deal_number, is_mirrored, mirrored_number, part_number};
-use crate::sets::{number_at, size, take_out};
+use crate::sets::{count_below_gone, number_at, size, take_out};
 use crate::transitions::{NextDeals, NextDraws, Part, add_deals, parts_without};
 use crate::{Goofspiel, GoofspielError, Pay, Setting, State};
 use sim_game::{CHANCE, Game, Side, Transition};
@@ -332,6 +332,20 @@ impl Game for GoofspielDrawn {
                 .wrapping_add(below)
                 .wrapping_add(u64::from(s.place)),
         )
+    }
+
+    // As for known prizes; and each state is listed behind one whose prize is the last in order of those that are gone.
+    fn first_listed(&self, side: Side, s: DrawnState) -> u32 {
+        let gone = self.root().undrawn & !s.undrawn;
+        let is_last = 15 <= u32::from(s.place) + gone.leading_zeros();
+        match self.setting.pay {
+            Pay::Margin | Pay::Win => 0,
+            Pay::Prizes if !is_last => self.moves(side, s),
+            Pay::Prizes => match side {
+                Side::One => count_below_gone(self.setting.one, s.hands.one),
+                Side::Two => count_below_gone(self.setting.two, s.hands.two),
+            },
+        }
     }
 
     fn add_transitions(

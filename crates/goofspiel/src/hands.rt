@@ -2,7 +2,7 @@
 ghost use Rattle.std.specs.Prelude.{◌≡◌, ◌<◌, ◌≤◌, ◌^◌, length, unsigned_abs};
 ghost use Rattle.goofspiel.specs.Cards.{cards};
 ghost use Rattle.goofspiel.specs.Rules.{after_bids, deal_of, goofspiel_key, score_after, state_of, won, won_by};
-ghost use Rattle.goofspiel.specs.DealLaws.{FitsKey};
+ghost use Rattle.goofspiel.specs.Deals.{FitsKey};
 
 use crate::sets::{number_at, take_out};
 use crate::{Pay, State};

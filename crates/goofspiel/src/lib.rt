@@ -4,8 +4,8 @@
 ghost use Rattle.std.specs.Prelude.{◌≡◌, ◌+◌, ◌*◌, ◌<◌, ◌≤◌, ◌^◌, length, sum, unsigned_abs, MatchResult, None, Some};
 ghost use Rattle.goofspiel.specs.declared.Pay.TheVariants.{Margin, Prizes};
 ghost use Rattle.goofspiel.specs.declared.Setting.{Setting};
-ghost use Rattle.goofspiel.specs.Laws.{goofspiel_is_game};
-ghost use Rattle.goofspiel.specs.PlaceLaws.{goofspiel_numbered};
+ghost use Rattle.goofspiel.specs.laws.Game.{goofspiel_is_game};
+ghost use Rattle.goofspiel.specs.laws.Places.{goofspiel_numbered};
 ghost use Rattle.goofspiel.specs.Places.{deals_with, far_with, goofspiel_numbering};
 ghost use Rattle.goofspiel.specs.SameTree.{with_pay, HasSameSerialBounds, HasSameTree};
 ghost use Rattle.goofspiel.specs.Position.{first_fault, prizes_of, IsPosition, IsSettingOf};
@@ -23,7 +23,7 @@ mod refusals;
 mod sets;
 mod transitions;
 
-use counts::{choose, deals, pairs_below, spread};
+use counts::{choose, deals, far_by, pairs_below, spread};
 pub use drawn::{
     DrawnState, GoofspielDrawn, drawn_margin_by_prizes, drawn_position_has_one_game,
     drawn_same_serial_bounds, keeps_drawn_rules,
@@ -34,7 +34,7 @@ pub use position::position_has_one_game;
 use position::{
     check_cards, check_lengths, check_prizes, check_score, hand_of, prize_array, prize_sum,
 };
-use sets::{number_at, size};
+use sets::{count_below_gone, number_at, size};
 use sim_game::{CHANCE, Game, Side, Transition};
 use std::alloc::AllocError;
 use thiserror::Error;
@@ -221,9 +221,14 @@ impl Goofspiel {
         ensures is { result ≡ count_below size (deals_with self.now.setting) }
         ensures few { result ≤ size * 2 ^ 39 }
     {
+        let count = self.setting.count as u32;
+        let mut spent = prize_sum(&self.setting.prizes[..count as usize]);
         let mut sum = 0;
         for left in 0..size {
-            sum += deals(choose(self.setting.count as u32, left), self.spread(left));
+            sum += deals(choose(count, left), far_by(self.setting.pay, spent));
+            if left < count {
+                spent -= self.setting.prizes[(count - left - 1) as usize] as u32;
+            }
         }
         sum
     }
@@ -358,6 +363,19 @@ impl Game for Goofspiel {
         let left = self.rank(s);
         let number = mirrored_number(&self.setting, self.spread(left), s);
         Some(self.deals_below(left).wrapping_add(number))
+    }
+
+    // Where prizes are paid, a state is what its hands are: it is listed behind the one from which each side has bid the
+    // greatest card that is gone.
+    #[inline]
+    fn first_listed(&self, side: Side, s: State) -> u32 {
+        match self.setting.pay {
+            Pay::Margin | Pay::Win => 0,
+            Pay::Prizes => match side {
+                Side::One => count_below_gone(self.setting.one, s.one),
+                Side::Two => count_below_gone(self.setting.two, s.two),
+            },
+        }
     }
 
     fn add_transitions(

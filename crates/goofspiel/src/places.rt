@@ -2,9 +2,8 @@
 ghost use Rattle.std.specs.Prelude.{◌≡◌, ℕ, ◌+◌, ◌*◌, ◌/◌, ◌<◌, ◌≤◌, ◌^◌, pos, ◌+ℤ◌, ◌-ℤ◌, ◌≤ℤ◌, unsigned_abs};
 ghost use Rattle.std.specs.Int.Count.{ones};
 ghost use Rattle.goofspiel.specs.Cards.{members};
-ghost use Rattle.goofspiel.specs.DealLaws.{spread, IsDealt};
-ghost use Rattle.goofspiel.specs.PlaceLaws.{HasParts};
-ghost use Rattle.goofspiel.specs.Places.{bits_number, deal_number, part_number, IsPartOf};
+ghost use Rattle.goofspiel.specs.Deals.{spread, IsDealt};
+ghost use Rattle.goofspiel.specs.Places.{bits_number, deal_number, part_number, HasParts, IsPartOf};
 ghost use Rattle.goofspiel.specs.Position.{IsPosition};
 
 use crate::counts::choose;

@@ -38,3 +38,13 @@ pub(crate) fn take_out(set: u16, low: u8, place: u32) -> (u8, u16)
     let number = number_at(set, low, place);
     (number, set - (1 << (number - low)))
 }
+
+/// How many members of a part of a set are below the greatest member that the part is without.
+#[inline]
+pub(crate) fn count_below_gone(set: u16, part: u16) -> u32 {
+    let gone = set & !part;
+    if gone == 0 {
+        return 0;
+    }
+    (part & u16::MAX.wrapping_shr(gone.leading_zeros())).count_ones()
+}

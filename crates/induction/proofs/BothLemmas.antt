@@ -1,19 +1,42 @@
 -- The sheets of both sides: what was spent for each, and why one gave up.
-use Rattle.std.proofs.Common.{◌≡◌, ⊎_elim, ℕ, ◌+◌, ◌/◌, ◌<◌, ◌≤◌, Bool, true, false, Result, Ok, Err, length, refl, ◌∙◌, arith}
+use Rattle.std.proofs.Common.{◌≡◌, ⊎_elim, ℕ, List, ◌+◌, ◌/◌, ◌<◌, ◌≤◌, Bool, true, false, Result, Ok, Err, length, refl, sym, subst, ◌∙◌, arith}
 use Rattle.std.proofs.lemmas.Bool.{cases_lt}
 use Rattle.sim_game.specs.declared.Side.{Side}
 use Rattle.sim_game.specs.declared.Side.TheVariants.{One, Two}
 use Rattle.sim_game.specs.Model.{GameModel}
 use Rattle.plan_book.specs.declared.Sheet.{Sheet}
+use Rattle.plan_book.specs.Sheets.{row_at, IsLawful}
 use Rattle.matrix_game.specs.Budget.{Budget, IsSameBudget, left_of, after_stop}
 use Rattle.matrix_game.proofs.BudgetLemmas.{budget_after, stop_left, stop_same}
+use Rattle.induction.specs.declared.PlannedState.{PlannedState}
 use Rattle.induction.specs.declared.gave_up.GaveUp.{GaveUp}
 use Rattle.induction.specs.declared.gave_up.GaveUp.TheVariants.{TooManyStates, Spent, NoMemory}
+use Rattle.induction.specs.Certified.{HasBestBounds}
+use Rattle.induction.specs.Planned.{planned, weights_of_row, IsWholePlan}
 use Rattle.induction.specs.Induced.{of_side, own_turns, AreBothSheets, HasPlanned, IsOwnSheet}
 use Rattle.induction.specs.Spent.{HasSpent, IsReason, IsStopped}
 use Rattle.induction.specs.Undecided.{HasUndecided}
+use Rattle.induction.proofs.FollowLemmas.{each_row_still}
 use Rattle.induction.proofs.SpentLemmas.{nothing, reason_up}
 use Rattle.induction.proofs.UndecidedLemmas.{fewer}
+
+-- a plan from the root with its bounds is the sheet of its side
+pub own_sheet : {S : Type 0} (m : GameModel S) (side : Side) (total : ℕ) (states : List (PlannedState S)) (sheet : Sheet) (old new : Budget)
+    → sheet.side ≡ side → sheet.total ≡ total → IsLawful m sheet → HasBestBounds m sheet → length sheet.rows ≡ length states
+    → ((key : ℕ) → weights_of_row (row_at sheet.rows key) ≡ weights_of_row (planned states key))
+    → IsWholePlan m side total states → HasUndecided m (length states) → HasSpent 0 (length states) old new → IsOwnSheet m side total old new (Ok sheet)
+own_sheet m side total states sheet old new is_side is_total lawful best many weights plan undecided spent = record {
+  sheet = record {
+    is_side = is_side;
+    is_total = is_total;
+    lawful = lawful;
+    best = best;
+    whole = each_row_still m side (planned states) (row_at sheet.rows) weights plan.whole;
+  };
+  undecided = subst (HasUndecided m) (sym many) undecided;
+  spent = subst (λ n. HasSpent 0 n old new) (sym many) spent;
+  err = tt;
+}
 
 -- some undecided states, each for at most a turn
 pub record HasCounted {S : Type 0} (m : GameModel S) (old new : Budget) : Type 0 where

@@ -1,13 +1,15 @@
 -- Rows that are certified one after another, children first, are a lawful sheet.
-use Rattle.std.proofs.Common.{◌≡◌, ℕ, ◌+◌, ◌<◌, ◌≤◌, ℤ, ◌+ℤ◌, Bool, false, cond, eqb, Option, None, Some, List, [], ◌∷◌, ◌++◌, map, length, take, get_or, refl, sym, ap, subst, ◌∙◌, append_assoc, length-append, arith}
-use Rattle.std.proofs.lemmas.List.{get_or_default, take_all, length-map, length_push}
+use Rattle.std.proofs.Common.{◌≡◌, ℕ, ◌+◌, ◌<◌, ◌≤◌, ℤ, ◌+ℤ◌, Bool, false, cond, eqb, Option, None, Some, List, [], ◌∷◌, ◌++◌, ◌-◌, map, length, take, drop, get_or, reverse, inl, inr, refl, sym, ap, subst, ◌∙◌, append_assoc, length-append, arith}
+use Rattle.std.proofs.lemmas.List.{get_or_default, get_or_append_left, get_or-append-add, get_or-drop, get_or-take, length-drop, take_all, length-map, length_push, reverse-append, reverse-reverse}
 use Rattle.std.proofs.lemmas.List.Elements.{All-weaker, All-push, All-nil}
+use Rattle.std.proofs.lemmas.Bool.{cases_lt}
 use Rattle.std.proofs.lemmas.Cmp.{nat_eq_equiv}
-use Rattle.std.proofs.lemmas.List.Sorted.{All-permutation, IsPermutation-map, length_permutation}
+use Rattle.std.proofs.lemmas.List.Sorted.{All-permutation, IsPermutation-map, IsPermutation-reverse, IsPermutation-sym, length_permutation}
 use Rattle.std.proofs.lemmas.Map.Keys.{IsDistinct-IsPermutation}
 use Rattle.std.specs.List.{All, IsDistinct}
 use Rattle.std.specs.List.Sorted.{IsNonDecreasingBy, IsPermutation}
-use Rattle.std.specs.Option.{is_some}
+use Rattle.std.specs.Option.{is_some, option_to_list}
+use Rattle.std.specs.Prelude.{IsSome, pos, unwrap_or}
 use Rattle.sim_game.specs.declared.Side.{Side}
 use Rattle.sim_game.specs.Model.{GameModel, IsGame, Reachable}
 use Rattle.sim_game.specs.Numbers.{Numbering, IsNumbering}
@@ -24,7 +26,7 @@ use Rattle.plan_book.proofs.StepLemmas.{step_mono}
 use Rattle.plan_book.proofs.TakenLemmas.{row_pushed}
 use Rattle.induction.specs.declared.PlannedState.{PlannedState}
 use Rattle.induction.specs.Planned.{open_row, planned, weights_of_row, IsPlannedState, ArePlanned}
-use Rattle.induction.specs.Certified.{IsBoundWord, ArePlaced, turn_numbers, IsBestStep, HasBestBounds}
+use Rattle.induction.specs.Certified.{IsBoundWord, ArePlaced, turn_numbers, IsBestStep, IsOpenState, IsBestOf, AreBestBounds, AreNextBounds, HasBestBounds}
 use Rattle.induction.proofs.RowLemmas.{opened, weights_opened, keys_opened, state_keys, keys_open, planned_moved, reached_by, placed_more, next_is_new, filled_more, row_moved, rows_rise}
 use Rattle.induction.proofs.BoundLemmas.{child_reachable}
 
@@ -129,6 +131,11 @@ module _ {S : Type 0} (m : GameModel S) (game : IsGame m) (n : Numbering S) (num
       let falls = game.rank_falls s (turn_of side own reply d) r legal in
       ap (λ (x : ℤ). turn_reward m side s own reply d +ℤ x) (kept_bound (child_of m side s own reply d) (child_reachable m game side s own reply r a b d u) (omega (arith, falls, low)))
 
+  -- the row takes nothing from the bounds of states of no higher rank
+  pub best_later : (s : S) (used : List ℕ) (bound : ℤ) → Reachable m s → m.rank s ≤ p.rank → IsBestStep m side s total used rows bound
+      → IsBestStep m side s total used (rows ++ row ∷ []) bound
+  best_later s used bound r low step = best_over m side s total used rows (rows ++ row ∷ []) bound (agrees s used bound r low) step
+
   pub certified_more : AreCertified m n.place side total (planned ps) states (i + 1) (rows ++ row ∷ []) now
   certified_more =
       let top_low : old.top ≤ p.rank = subst (λ (x : PlannedState S). old.top ≤ x.rank) (sym is) (old.above i p (omega arith) h) in
@@ -187,31 +194,192 @@ module _ {S : Type 0} (m : GameModel S) (side : Side) (total : ℕ) (ps done res
   pub ordered_next : AreOrdered m side total ps ((done ++ p ∷ []) ++ left)
   ordered_next = subst (AreOrdered m side total ps) moved_on ordered_here
 
-  pub certified_next : IsGame m → (n : Numbering S) → IsNumbering m n → (rows : List SheetRow) (row : SheetRow) (words now : ℕ → ℕ) (word : ℕ)
-      → AreCertified m n.place side total (planned ps) (done ++ rest) (length done) rows words
-      → row.key ≡ p.key → row.weights ≡ p.weights → IsBestStep m side p.state total p.weights rows row.bound → IsBoundWord (Some row) word
-      → ((q : ℕ) → now q ≡ cond (eqb (n.place p.state) q) word (words q))
-      → AreCertified m n.place side total (planned ps) ((done ++ p ∷ []) ++ left) (length (done ++ p ∷ [])) (rows ++ row ∷ []) now
-  certified_next game n numbered rows row words now word old key weights best is put =
-      let here : AreCertified m n.place side total (planned ps) (done ++ p ∷ left) (length done) rows words =
-      subst (λ (l : List (PlannedState S)). AreCertified m n.place side total (planned ps) (done ++ l) (length done) rows words) split old in
-      let more : AreCertified m n.place side total (planned ps) (done ++ p ∷ left) (length done + 1) (rows ++ row ∷ []) now =
-      certified_more m game n numbered side total ps (done ++ p ∷ left) ordered_here (length done) p (there done left p) (item_there done left p) rows row words now word
-      here key weights best is put in
-      subst (λ (k : ℕ). AreCertified m n.place side total (planned ps) ((done ++ p ∷ []) ++ left) k (rows ++ row ∷ []) now) (sym (length_push done p))
-      (subst (λ (l : List (PlannedState S)). AreCertified m n.place side total (planned ps) l (length done + 1) (rows ++ row ∷ []) now) moved_on more)
+  pub certified_here : (number : S → ℕ) (rows : List SheetRow) (words : ℕ → ℕ) → AreCertified m number side total (planned ps) (done ++ rest) (length done) rows words
+      → AreCertified m number side total (planned ps) (done ++ p ∷ left) (length done) rows words
+  certified_here number rows words old = subst (λ (l : List (PlannedState S)). AreCertified m number side total (planned ps) (done ++ l) (length done) rows words) split old
+
+  module _ (game : IsGame m) (n : Numbering S) (numbered : IsNumbering m n) (rows : List SheetRow) (row : SheetRow) (words now : ℕ → ℕ) (word : ℕ)
+      (old : AreCertified m n.place side total (planned ps) (done ++ rest) (length done) rows words) (key : row.key ≡ p.key) (weights : row.weights ≡ p.weights)
+      (best : IsBestStep m side p.state total p.weights rows row.bound) (held : IsBoundWord (Some row) word)
+      (put : (q : ℕ) → now q ≡ cond (eqb (n.place p.state) q) word (words q)) where
+    pub certified_next : AreCertified m n.place side total (planned ps) ((done ++ p ∷ []) ++ left) (length (done ++ p ∷ [])) (rows ++ row ∷ []) now
+    certified_next =
+        let more : AreCertified m n.place side total (planned ps) (done ++ p ∷ left) (length done + 1) (rows ++ row ∷ []) now =
+        certified_more m game n numbered side total ps (done ++ p ∷ left) ordered_here (length done) p (there done left p) (item_there done left p) rows row words now word
+        (certified_here n.place rows words old) key weights best held put in
+        subst (λ (k : ℕ). AreCertified m n.place side total (planned ps) ((done ++ p ∷ []) ++ left) k (rows ++ row ∷ []) now) (sym (length_push done p))
+        (subst (λ (l : List (PlannedState S)). AreCertified m n.place side total (planned ps) l (length done + 1) (rows ++ row ∷ []) now) moved_on more)
+
+    pub best_next : (q : PlannedState S) (bound : ℤ) → IsOpenState m side total q → q.rank ≡ p.rank → IsBestOf m side total rows q bound → IsBestOf m side total (rows ++ row ∷ []) q bound
+    best_next q bound ready level step =
+        best_later m game n numbered side total ps (done ++ p ∷ left) ordered_here (length done) p (there done left p) (item_there done left p) rows row words now word
+        (certified_here n.place rows words old) key weights best held put q.state q.weights bound ready.reachable (let same = ready.is_rank in omega (arith, same, level)) step
 
   pub no_word : (number : S → ℕ) (rows : List SheetRow) (words : ℕ → ℕ) → AreCertified m number side total (planned ps) (done ++ rest) (length done) rows words → words (number p.state) ≡ 0
   no_word number rows words old =
-      let here : AreCertified m number side total (planned ps) (done ++ p ∷ left) (length done) rows words =
-      subst (λ (l : List (PlannedState S)). AreCertified m number side total (planned ps) (done ++ l) (length done) rows words) split old in
       let new : is_some (row_at rows p.key) ≡ false =
-      next_is_new (done ++ p ∷ left) (length done) p rows ordered_here.distinct (there done left p) (item_there done left p) here.filled in
-      none_held (row_at rows (m.key p.state)) (words (number p.state)) (here.placed.held p.state (reached_reachable m side (planned ps) p.state planned_next.reached))
+      next_is_new (done ++ p ∷ left) (length done) p rows ordered_here.distinct (there done left p) (item_there done left p) (certified_here number rows words old).filled in
+      none_held (row_at rows (m.key p.state)) (words (number p.state)) (old.placed.held p.state (reached_reachable m side (planned ps) p.state planned_next.reached))
       (ap (λ (k : ℕ). is_some (row_at rows k)) planned_next.is_key ∙ new)
 
 pub none_left : {X : Type 0} (done rest : List X) (n : ℕ) → n ≡ length rest → n ≡ 0 → length (done ++ rest) ≤ length done
 none_left done rest n long none = rw length-append (omega (arith, long, none))
+
+-- ---- the states that are left, with bounds of the last of them
+-- the states that are left, those of higher rank first, with the bounds that are at hand
+pub record AreLeft {S : Type 0} (m : GameModel S) (number : S → ℕ) (side : Side) (total : ℕ) (ps states : List (PlannedState S)) (bounds : List ℤ)
+    (rows : List SheetRow) (words : ℕ → ℕ) : Type 0 where
+  pub done : List (PlannedState S)
+  pub order : AreOrdered m side total ps (done ++ reverse states)
+  pub certified : AreCertified m number side total (planned ps) (done ++ reverse states) (length done) rows words
+  pub next : AreNextBounds m side total rows states bounds
+
+open_here : {S : Type 0} (m : GameModel S) (side : Side) (total : ℕ) (ps : List (PlannedState S)) (p : PlannedState S) → IsPlannedState m side total (planned ps) p → IsOpenState m side total p
+open_here m side total ps p is = record { reachable = reached_reachable m side (planned ps) p.state is.reached; is_rank = is.is_rank; goes_on = is.goes_on; whole = is.whole }
+
+pub open_left : {S : Type 0} (m : GameModel S) (side : Side) (total : ℕ) (ps done states : List (PlannedState S)) → AreOrdered m side total ps (done ++ reverse states)
+    → All (IsOpenState m side total) states
+open_left {S} m side total ps done states order =
+    let turned : All (IsOpenState m side total) (reverse states) = λ k d h.
+    subst (IsOpenState m side total) (get_or-append-add done (reverse states) k d)
+    (open_here m side total ps _ (order.plan (length done + k) d (rw length-append (omega (arith, h))))) in
+    All-permutation (IsOpenState m side total) (reverse states) states (IsPermutation-sym states (reverse states) (IsPermutation-reverse states)) turned
+
+pub none_next : {S : Type 0} (m : GameModel S) (side : Side) (total : ℕ) (rows : List SheetRow) (states : List (PlannedState S)) → AreNextBounds m side total rows states []
+none_next m side total rows states = record {
+  start = length states;
+  reach = omega arith;
+  level = λ j k d h g. absurd (omega (arith, h));
+  each = λ k d b h. absurd (omega (arith, h));
+}
+
+pub all_left : {S : Type 0} (m : GameModel S) (number : S → ℕ) (side : Side) (total : ℕ) (ps sorted states : List (PlannedState S)) (words : ℕ → ℕ)
+    → AreOrdered m side total ps sorted → states ≡ reverse sorted → ((place : ℕ) → words place ≡ 0) → AreLeft m number side total ps states [] [] words
+all_left m number side total ps sorted states words order turned none =
+    let back : reverse states ≡ sorted = ap reverse turned ∙ reverse-reverse sorted in
+    record {
+      done = [];
+      order = subst (AreOrdered m side total ps) (sym back) order;
+      certified = none_certified m number side total (planned ps) (reverse states) words none;
+      next = none_next m side total [] states;
+    }
+
+-- the bounds of a run of last states
+pub run_next : {S : Type 0} (m : GameModel S) (side : Side) (total : ℕ) (rows : List SheetRow) (states run : List (PlannedState S)) (start : ℕ) (bounds : List ℤ)
+    → start < length states → run ≡ take (length states - start) (drop start states) → AreBestBounds m side total rows run bounds
+    → ((k : ℕ) (d : PlannedState S) → start ≤ k → k < length states → (get_or states k d).rank ≡ (get_or states (length states - 1) d).rank)
+    → AreNextBounds m side total rows states bounds
+run_next {S} m side total rows states run start bounds within is best level =
+    let all : take (length states - start) (drop start states) ≡ drop start states = take_all (length states - start) (drop start states) (rw length-drop (omega arith)) in
+    let part : length run ≡ length states - start = ap length (is ∙ all) ∙ length-drop start states in
+    let long : start + length bounds ≡ length states = (let many = best.as_many in omega (arith, many, part, within)) in
+    record {
+      start = start;
+      reach = long;
+      level = λ j k d h g. level (start + j) d (omega arith) (omega (arith, long, h)) ∙ sym (level (start + k) d (omega arith) (omega (arith, long, g)));
+      each = λ k d b h.
+          let at : get_or run k d ≡ get_or states (start + k) d =
+          ap (λ (xs : List (PlannedState S)). get_or xs k d) is ∙ get_or-take (length states - start) (drop start states) k d (omega (arith, long, h)) ∙ get_or-drop start states k d in
+          let many = best.as_many in
+          subst (λ (q : PlannedState S). IsBestOf m side total rows q (get_or bounds k b)) at (best.each k d b (omega (arith, many, h)));
+    }
+
+-- the bound of a further state
+pub bound_pushed : {S : Type 0} (m : GameModel S) (side : Side) (total : ℕ) (rows : List SheetRow) (states : List (PlannedState S)) (found : List ℤ) (n : ℕ) (p : PlannedState S) (x : ℤ)
+    → length found ≡ n → n < length states → p ≡ get_or states n p → IsBestOf m side total rows p x
+    → ((k : ℕ) (d : PlannedState S) (b : ℤ) → k < n → IsBestOf m side total rows (get_or states k d) (get_or found k b))
+    → (k : ℕ) (d : PlannedState S) (b : ℤ) → k < n + 1 → IsBestOf m side total rows (get_or states k d) (get_or (found ++ x ∷ []) k b)
+bound_pushed {S} m side total rows states found n p x long within is best old k d b h = elim (cases_lt k n) [
+  | inl before ↦
+      subst (λ (y : ℤ). IsBestOf m side total rows (get_or states k d) y) (sym (get_or_append_left found (x ∷ []) b k (omega (arith, long, before)))) (old k d b before)
+  | inr behind ↦
+      let last : k ≡ n = omega (arith, behind, h) in
+      let state : p ≡ get_or states k d = is ∙ get_or_default states n p d within ∙ ap (λ (j : ℕ). get_or states j d) (sym last) in
+      let value : x ≡ get_or (found ++ x ∷ []) k b =
+      item_there found [] x ∙ get_or_default (found ++ x ∷ []) (length found) x b (there found [] x) ∙ ap (λ (j : ℕ). get_or (found ++ x ∷ []) j b) (long ∙ sym last) in
+      subst (λ (q : PlannedState S). IsBestOf m side total rows q (get_or (found ++ x ∷ []) k b)) state (subst (λ (y : ℤ). IsBestOf m side total rows p y) value best)
+]
+
+-- the bound that is taken is the last one
+pub taken_last : (found others : List ℤ) (o : Option ℤ) (x : ℤ) → found ≡ others ++ option_to_list o → IsSome o → x ≡ unwrap_or o (pos 0) → found ≡ others ++ x ∷ []
+taken_last found others (Some y) x e is same = rw same e
+taken_last found others None x e is same = absurd (cc)
+
+module _ {S : Type 0} (m : GameModel S) (game : IsGame m) (n : Numbering S) (numbered : IsNumbering m n) (side : Side) (total : ℕ) (ps states left : List (PlannedState S))
+    (found others : List ℤ) (p : PlannedState S) (bound : ℤ) (rows : List SheetRow) (words : ℕ → ℕ)
+    (old : AreLeft m n.place side total ps states found rows words) (popped : states ≡ left ++ p ∷ []) where
+  pub last_first : reverse states ≡ p ∷ reverse left
+  last_first = ap reverse popped ∙ reverse-append left (p ∷ [])
+
+  pub planned_last : IsPlannedState m side total (planned ps) p
+  planned_last = planned_next m side total ps old.done (reverse states) (reverse left) p last_first old.order
+
+  pub reachable_last : Reachable m p.state
+  reachable_last = reached_reachable m side (planned ps) p.state planned_last.reached
+
+  pub no_word_last : words (n.place p.state) ≡ 0
+  no_word_last = no_word m side total ps old.done (reverse states) (reverse left) p last_first old.order n.place rows words old.certified
+
+  module _ (taken : found ≡ others ++ bound ∷ []) where
+    long : old.next.start + length others ≡ length left
+    long =
+        let all = old.next.reach in
+        let one : length states ≡ length left + 1 = ap length popped ∙ length_push left p in
+        let two : length found ≡ length others + 1 = ap length taken ∙ length_push others bound in
+        omega (arith, all, one, two)
+
+    more : length others < length found
+    more = let two : length found ≡ length others + 1 = ap length taken ∙ length_push others bound in omega (arith, two)
+
+    at_last : get_or states (old.next.start + length others) p ≡ p
+    at_last = ap (λ (k : ℕ). get_or states k p) long ∙ ap (λ (xs : List (PlannedState S)). get_or xs (length left) p) popped ∙ sym (item_there left [] p)
+
+    value : get_or found (length others) bound ≡ bound
+    value = ap (λ (xs : List ℤ). get_or xs (length others) bound) taken ∙ sym (item_there others [] bound)
+
+    pub best_last : IsBestOf m side total rows p bound
+    best_last = subst (λ (q : PlannedState S). IsBestOf m side total rows q bound) at_last
+        (subst (λ (x : ℤ). IsBestOf m side total rows (get_or states (old.next.start + length others) p) x) value (old.next.each (length others) p bound more))
+
+    kept : (k : ℕ) (d : PlannedState S) → k < length others → get_or states (old.next.start + k) d ≡ get_or left (old.next.start + k) d
+    kept k d h = ap (λ (xs : List (PlannedState S)). get_or xs (old.next.start + k) d) popped ∙ get_or_append_left left (p ∷ []) d (old.next.start + k) (omega (arith, long, h))
+
+    value_kept : (k : ℕ) (b : ℤ) → k < length others → get_or found k b ≡ get_or others k b
+    value_kept k b h = ap (λ (xs : List ℤ). get_or xs k b) taken ∙ get_or_append_left others (bound ∷ []) b k h
+
+    same_rank : (k : ℕ) (d : PlannedState S) → k < length others → (get_or left (old.next.start + k) d).rank ≡ p.rank
+    same_rank k d h =
+        let size : length states ≡ length left + 1 = ap length popped ∙ length_push left p in
+        let at : get_or states (old.next.start + length others) d ≡ p =
+        sym (get_or_default states (old.next.start + length others) p d (omega (arith, long, size))) ∙ at_last in
+        ap (λ (q : PlannedState S). q.rank) (sym (kept k d h)) ∙ old.next.level k (length others) d (omega (arith, more, h)) more ∙ ap (λ (q : PlannedState S). q.rank) at
+
+    module _ (row : SheetRow) (now : ℕ → ℕ) (word : ℕ) (key : row.key ≡ p.key) (weights : row.weights ≡ p.weights) (worth : row.bound ≡ bound) (held : IsBoundWord (Some row) word)
+        (put : (q : ℕ) → now q ≡ cond (eqb (n.place p.state) q) word (words q)) where
+      best_row_here : IsBestStep m side p.state total p.weights rows row.bound
+      best_row_here = subst (λ (x : ℤ). IsBestOf m side total rows p x) (sym worth) best_last
+
+      order_then : AreOrdered m side total ps ((old.done ++ p ∷ []) ++ reverse left)
+      order_then = ordered_next m side total ps old.done (reverse states) (reverse left) p last_first old.order
+
+      pub left_then : AreLeft m n.place side total ps left others (rows ++ row ∷ []) now
+      left_then = record {
+        done = old.done ++ p ∷ [];
+        order = order_then;
+        certified = certified_next m side total ps old.done (reverse states) (reverse left) p last_first old.order game n numbered rows row words now word old.certified key weights
+            best_row_here held put;
+        next = record {
+          start = old.next.start;
+          reach = long;
+          level = λ j k d h g. same_rank j d h ∙ sym (same_rank k d g);
+          each = λ k d b h.
+              best_next m side total ps old.done (reverse states) (reverse left) p last_first old.order game n numbered rows row words now word old.certified key weights best_row_here held put
+              (get_or left (old.next.start + k) d) (get_or others k b)
+              (open_left m side total ps (old.done ++ p ∷ []) left order_then (old.next.start + k) d (omega (arith, long, h))) (same_rank k d h)
+              (subst (λ (q : PlannedState S). IsBestOf m side total rows q (get_or others k b)) (kept k d h)
+              (subst (λ (x : ℤ). IsBestOf m side total rows (get_or states (old.next.start + k) d) x) (value_kept k b h) (old.next.each k d b (omega (arith, more, h)))));
+        };
+      }
 
 -- ---- all of them
 module _ {S : Type 0} (m : GameModel S) (game : IsGame m) (side : Side) (total : ℕ) (ps states : List (PlannedState S)) (order : AreOrdered m side total ps states)

@@ -1,10 +1,12 @@
 -- States that a walk from the root down comes to.
-use Rattle.std.proofs.Common.{◌≡◌, ℕ, ◌<◌, ◌≤◌, Bool, true, false, cond, eqb, Option, None, Some, List, [], ◌∷◌, ◌++◌, map, length, get_or, inl, inr, ◌+◌, append_assoc, refl, sym, ap, subst, ◌∙◌, arith}
+use Rattle.std.proofs.Common.{◌≡◌, ◌||◌, ℕ, ◌<◌, ◌≤◌, Bool, true, false, cond, eqb, Option, None, Some, List, [], ◌∷◌, ◌++◌, map, length, take, get_or, inl, inr, ◌+◌, refl, sym, ap, subst, ◌∙◌, arith}
 use Rattle.std.proofs.lemmas.Cmp.{nat_eq_equiv}
 use Rattle.std.proofs.lemmas.Bool.{cases_lt}
-use Rattle.std.proofs.lemmas.List.{map-append, get_or_default, length_push}
-use Rattle.std.proofs.lemmas.List.Elements.{All-weaker, All-push, All-nil, All-cons, All-append, All-map}
-use Rattle.std.proofs.lemmas.Map.Keys.{IsDistinct-push}
+use Rattle.std.proofs.lemmas.List.{map-append, get_or_default, get_or-map, get_or-take, length-map, length_push, take-append-le, take_more}
+use Rattle.std.proofs.lemmas.List.Folds.{list_any-append}
+use Rattle.std.proofs.Math.Seq.{take-length}
+use Rattle.std.proofs.lemmas.List.Elements.{All-weaker, All-push, All-nil, All-map}
+use Rattle.std.proofs.lemmas.Map.Keys.{IsDistinct-push, apart_from_distinct}
 use Rattle.std.specs.List.{All, IsDistinct, list_any}
 use Rattle.std.specs.Option.{IsSome, is_some}
 use Rattle.std.specs.Prelude.{IsSomeAnd}
@@ -17,17 +19,21 @@ use Rattle.plan_book.specs.declared.SheetRow.{SheetRow}
 use Rattle.plan_book.specs.Children.{children_of}
 use Rattle.plan_book.specs.Plans.{AreWeights}
 use Rattle.plan_book.specs.Sheets.{row_at, IsKeptHistory, IsReached}
+use Rattle.plan_book.proofs.BestLemmas.{reached_root}
 use Rattle.plan_book.proofs.ExpectedLemmas.{is_same}
 use Rattle.plan_book.proofs.FoundLemmas.{row_listed}
+use Rattle.plan_book.proofs.LookupLemmas.{row_keys}
 use Rattle.plan_book.proofs.SheetLemmas.{found, reached_reachable}
 use Rattle.plan_book.proofs.TakenLemmas.{row_pushed}
 use Rattle.plan_book.proofs.GatherLemmas.{child_place}
-use Rattle.plan_book.proofs.WalkLemmas.{IsBelow, item_below, turn_parts, reply_move}
+use Rattle.plan_book.proofs.WalkLemmas.{item_below, turn_parts, reply_move}
 use Rattle.induction.specs.declared.PlannedState.{PlannedState}
-use Rattle.induction.specs.Planned.{open_row, planned, weights_of_row, IsPlannedState, HasNext, HasEachRow, IsWholePlan, AreFollowed, IsVisited}
-use Rattle.induction.proofs.RowLemmas.{same_tests, state_keys, keys_open, reached_by}
+use Rattle.induction.specs.Listed.{GoesOn}
+use Rattle.induction.specs.Planned.{open_row, planned, weights_of_row, IsPlannedState, HasNext, HasEachRow, IsWholePlan}
+use Rattle.induction.specs.Planned.{AreFollowed, AreMet, HasCome, HasMetNext, IsKept, IsMetState, met_before, met_now}
+use Rattle.induction.proofs.RowLemmas.{no_row, same_tests, state_keys, keys_open, reached_by}
 use Rattle.induction.proofs.UndecidedLemmas.{none_known, known_more}
-use Rattle.induction.specs.Undecided.{IsUndecided, KnowsUndecided}
+use Rattle.induction.specs.Undecided.{IsUndecided, HasUndecided, KnowsUndecided}
 
 -- ---- more rows
 -- the list grew at its end
@@ -65,172 +71,242 @@ module _ {S : Type 0} (m : GameModel S) (side : Side) (rows others : ℕ → Opt
 pub reached_still : {S : Type 0} (m : GameModel S) (side : Side) (old new : List (PlannedState S)) (s : S) → Extends old new → IsReached m side (planned old) s → IsReached m side (planned new) s
 reached_still m side old new s grown r = reached_up m side (planned old) (planned new) (planned_still old new grown) s r
 
-pub extends_none : {X : Type 0} (xs : List X) → Extends xs xs
-extends_none xs = record { more = []; joins = nothing xs }
-  where
-    nothing : {Y : Type 0} (ys : List Y) → ys ≡ ys ++ []
-    nothing [] = refl
-    nothing (y ∷ ys) = ap (λ (zs : List _). y ∷ zs) (nothing ys)
-
 -- ---- the walk
-pub none_followed : {S : Type 0} (m : GameModel S) (number : S → ℕ) (side : Side) (total : ℕ) (seen : ℕ → Bool) → ((place : ℕ) → seen place ≡ false) → AreFollowed m number side total seen []
+pub none_met : {S : Type 0} (m : GameModel S) (number : S → ℕ) (side : Side) (total : ℕ) (seen : ℕ → Bool) → ((place : ℕ) → seen place ≡ false) → AreFollowed m number side total seen [] []
 unfolding IsDistinct
-none_followed m number side total seen none = record {
-  plan = record { distinct = tt; each = All-nil _ };
-  undecided = All-nil _;
-  places = λ s reach. none (number s);
-  known = none_known m number seen 0 refl;
+none_met m number side total seen none = record {
+  are_met = record {
+    plan = record { distinct = tt; each = All-nil _ };
+    undecided = All-nil _;
+    first = refl;
+    few = omega arith;
+    each = All-nil _;
+    distinct = tt;
+    places = λ s reach. none (number s);
+    known = none_known m number seen 0 refl;
+  };
+  next = All-nil _;
 }
 
-is_some_step : (here : Bool) (row : SheetRow) (seen : Bool) (r : Option SheetRow) → seen ≡ is_some r → cond here true seen ≡ is_some (cond here (Some row) r)
-is_some_step true row seen r h = refl
-is_some_step false row seen r h = h
+-- ---- one state more is met
+any_step : (here x : Bool) → cond here true x ≡ (x || (here || false))
+any_step true true = refl
+any_step true false = refl
+any_step false true = refl
+any_step false false = refl
 
 module _ {S : Type 0} (m : GameModel S) (game : IsGame m) (n : Numbering S) (numbered : IsNumbering m n) (side : Side) (total : ℕ) (seen now : ℕ → Bool)
-    (states : List (PlannedState S)) (p : PlannedState S)
-    (old : AreFollowed m n.place side total seen states) (is_key : m.key p.state ≡ p.key) (is_rank : m.rank p.state ≡ p.rank) (mine : IsUndecided m p.state)
-    (reached : IsReached m side (planned states) p.state) (whole : AreWeights (m.moves side p.state) total p.weights) (new : seen (n.place p.state) ≡ false)
-    (put : (q : ℕ) → now q ≡ cond (eqb (n.place p.state) q) true (seen q)) where
-  pub pushed : Extends states (states ++ p ∷ [])
+    (met : List S) (states : List (PlannedState S)) (s : S)
+    (old : AreMet m n.place side total seen met states) (reached : IsReached m side (planned states) s) (mine : IsUndecided m s) (new : seen (n.place s) ≡ false)
+    (put : (q : ℕ) → now q ≡ cond (eqb (n.place s) q) true (seen q)) where
+  reachable : Reachable m s
+  reachable = reached_reachable m side (planned states) s reached
+
+  met_more : AreMet m n.place side total now (met ++ s ∷ []) states
+  met_more =
+      let keys : List ℕ = map m.key met in
+      let long : length keys ≡ length met = length-map met m.key in
+      record {
+        plan = old.plan;
+        undecided = old.undecided;
+        first = old.first ∙ sym (take-append-le (length states) keys (m.key s ∷ []) (let few = old.few in omega (arith, few, long))) ∙ ap (take (length states)) (sym (map-append m.key met (s ∷ [])));
+        few = (let few = old.few in let more = length_push met s in omega (arith, few, more));
+        each = All-push (IsMetState m side (planned states)) met s old.each (record { undecided = mine; reached = reached });
+        distinct = rw (map-append m.key met (s ∷ [])) (IsDistinct-push nat_eq_equiv keys (m.key s) old.distinct (sym (old.places s reachable) ∙ new));
+        places = λ t r. put (n.place t)
+            ∙ ap (λ (b : Bool). cond b true (seen (n.place t))) (same_tests m game n numbered s t reachable r ∙ nat_eq_equiv.symm (m.key s) (m.key t))
+            ∙ any_step (eqb (m.key t) (m.key s)) (seen (n.place t))
+            ∙ ap (λ (b : Bool). b || (eqb (m.key t) (m.key s) || false)) (old.places t r)
+            ∙ sym (list_any-append (eqb (m.key t)) keys (m.key s ∷ []))
+            ∙ ap (list_any (eqb (m.key t))) (sym (map-append m.key met (s ∷ [])));
+        known = subst (KnowsUndecided m n.place now) (sym (length_push met s)) (known_more m n.place seen (length met) old.known s reachable mine new now put);
+      }
+
+-- ---- the walk has come to a state
+either_true : (b x : Bool) → x ≡ true → cond b true x ≡ true
+either_true true x h = refl
+either_true false x h = h
+
+come_kept : {S : Type 0} (m : GameModel S) (number : S → ℕ) (s : S) (old new : ℕ → Bool) (met now : List S) → HasCome m number s old new met now → IsKept old new
+come_kept m number s old new met now (met_before h seen same) = λ place. rw seen (λ is. is)
+come_kept m number s old new met now (met_now mine none put grown) = λ place is. put place ∙ either_true (eqb (number s) place) (old place) is
+
+come_here : {S : Type 0} (m : GameModel S) (number : S → ℕ) (s : S) (old new : ℕ → Bool) (met now : List S) → HasCome m number s old new met now → IsUndecided m s → new (number s) ≡ true
+come_here m number s old new met now (met_before h seen same) = rw seen h
+come_here m number s old new met now (met_now mine none put grown) = λ _. put (number s) ∙ ap (λ (b : Bool). cond b true (old (number s))) (is_same (number s) (number s) refl)
+
+come_long : {S : Type 0} (m : GameModel S) (number : S → ℕ) (s : S) (old new : ℕ → Bool) (met now : List S) → HasCome m number s old new met now → length met ≤ length now
+come_long m number s old new met now (met_before h seen same) = rw same (omega arith)
+come_long m number s old new met now (met_now mine none put grown) = rw grown (let long = length_push met s in omega (arith, long))
+
+come_met : {S : Type 0} (m : GameModel S) → IsGame m → (n : Numbering S) → IsNumbering m n → (side : Side) (total : ℕ) (old new : ℕ → Bool) (met now : List S) (states : List (PlannedState S)) (s : S)
+    → AreMet m n.place side total old met states → IsReached m side (planned states) s → HasCome m n.place s old new met now → AreMet m n.place side total new now states
+come_met m game n numbered side total old new met now states s are reached (met_before h seen same) = rw (seen, same) are
+come_met m game n numbered side total old new met now states s are reached (met_now mine none put grown) =
+    rw grown (met_more m game n numbered side total old new met states s are reached mine none put)
+
+-- the root is the first
+pub root_met : {S : Type 0} (m : GameModel S) → IsGame m → (n : Numbering S) → IsNumbering m n → (side : Side) (total : ℕ) (old new : ℕ → Bool) (now : List S)
+    → ((place : ℕ) → old place ≡ false) → HasCome m n.place m.root old new [] now → AreFollowed m n.place side total new now []
+root_met {S = S} m game n numbered side total old new now none come = record {
+  are_met = come_met m game n numbered side total old new [] now [] m.root (none_met m n.place side total old none).are_met (reached_root m side (planned {S = S} [])) come;
+  next = All-nil _;
+}
+
+pub root_seen : {S : Type 0} (m : GameModel S) (number : S → ℕ) (old new : ℕ → Bool) (now : List S) → HasCome m number m.root old new [] now → IsUndecided m m.root → new (number m.root) ≡ true
+root_seen m number old new now come = come_here m number m.root old new [] now come
+
+module _ {S : Type 0} (m : GameModel S) (number : S → ℕ) (side : Side) (total : ℕ) (seen : ℕ → Bool) (met : List S) (states : List (PlannedState S))
+    (old : AreMet m number side total seen met states) where
+  pub met_go_on : All (GoesOn m) met
+  met_go_on =
+      All-weaker (IsMetState m side (planned states)) (GoesOn m) (λ s h. record { reachable = reached_reachable m side (planned states) s h.reached; no_end = h.undecided.goes_on }) met old.each
+
+  pub next_goes_on : (k : ℕ) (s : S) → k < length met → s ≡ get_or met k s → GoesOn m s
+  next_goes_on k s room is = subst (GoesOn m) (sym is) (met_go_on k s room)
+
+-- ---- the next state that was met is planned
+module _ {S : Type 0} (m : GameModel S) (number : S → ℕ) (side : Side) (total : ℕ) (seen : ℕ → Bool) (met : List S) (states : List (PlannedState S)) (p : PlannedState S)
+    (old : AreMet m number side total seen met states) (room : length states < length met) (is_next : p.state ≡ get_or met (length states) p.state)
+    (is_key : m.key p.state ≡ p.key) (is_rank : m.rank p.state ≡ p.rank) (whole : AreWeights (m.moves side p.state) total p.weights) where
+  pushed : Extends states (states ++ p ∷ [])
   pushed = record { more = p ∷ []; joins = refl }
 
-  reachable : Reachable m p.state
-  reachable = reached_reachable m side (planned states) p.state reached
+  next_is : IsMetState m side (planned states) p.state
+  next_is = subst (IsMetState m side (planned states)) (sym is_next) (old.each (length states) p.state room)
+
+  key_at : get_or (map m.key met) (length states) 0 ≡ p.key
+  key_at = get_or-map m.key met (length states) p.state 0 room ∙ ap m.key (sym is_next) ∙ is_key
 
   none : is_some (planned states p.key) ≡ false
-  none = ap (λ (k : ℕ). is_some (planned states k)) (sym is_key) ∙ sym (old.places p.state reachable) ∙ new
+  none = no_row (map open_row states) p.key (λ k l.
+      let short : length (map open_row states) ≡ length states = length-map states open_row in
+      let long : length (map m.key met) ≡ length met = length-map met m.key in
+      let earlier : k < length states = omega (arith, l, short) in
+      let here : get_or (row_keys (map open_row states)) k 0 ≡ get_or (map m.key met) k 0 =
+      ap (λ (ks : List ℕ). get_or ks k 0) (keys_open states ∙ old.first) ∙ get_or-take (length states) (map m.key met) k 0 earlier in
+      rw (here, ← key_at) (apart_from_distinct eqb (map m.key met) k (length states) 0 old.distinct earlier (omega (arith, long, room))))
 
   here : (q : ℕ) → planned (states ++ p ∷ []) q ≡ cond (eqb p.key q) (Some (open_row p)) (planned states q)
   here q = ap (λ (xs : List SheetRow). row_at xs q) (map-append open_row states (p ∷ [])) ∙ row_pushed (map open_row states) (open_row p) p.key q refl none
 
-  pub has_row : planned (states ++ p ∷ []) (m.key p.state) ≡ Some (open_row p)
+  has_row : planned (states ++ p ∷ []) (m.key p.state) ≡ Some (open_row p)
   has_row = here (m.key p.state) ∙ ap (λ (b : Bool). cond b (Some (open_row p)) (planned states (m.key p.state))) (is_same p.key (m.key p.state) (sym is_key))
 
+  reached_more : (s : S) → IsReached m side (planned states) s → IsReached m side (planned (states ++ p ∷ [])) s
+  reached_more s = reached_still m side states (states ++ p ∷ []) s pushed
+
   still : (q : PlannedState S) → IsPlannedState m side total (planned states) q → IsPlannedState m side total (planned (states ++ p ∷ [])) q
-  still q h = record {
-    is_key = h.is_key;
-    is_rank = h.is_rank;
-    goes_on = h.goes_on;
-    reached = reached_still m side states (states ++ p ∷ []) q.state pushed h.reached;
-    whole = h.whole;
-  }
+  still q h = record { is_key = h.is_key; is_rank = h.is_rank; goes_on = h.goes_on; reached = reached_more q.state h.reached; whole = h.whole }
 
-  pub followed_more : AreFollowed m n.place side total now (states ++ p ∷ [])
-  followed_more = record {
-    plan = record {
-      distinct = rw (map-append (λ (x : PlannedState S). x.key) states (p ∷ []))
-          (IsDistinct-push nat_eq_equiv (state_keys states) p.key old.plan.distinct
-          (ap (list_any (eqb p.key)) (sym (keys_open states)) ∙ sym (row_listed (map open_row states) p.key) ∙ none));
-      each = All-push (IsPlannedState m side total (planned (states ++ p ∷ []))) states p
-          (All-weaker (IsPlannedState m side total (planned states)) (IsPlannedState m side total (planned (states ++ p ∷ []))) still states old.plan.each)
-          (still p (record { is_key = is_key; is_rank = is_rank; goes_on = (let on = mine.goes_on in omega (arith, on, is_rank)); reached = reached; whole = whole }));
-    };
-    undecided = All-push (λ x. IsUndecided m x.state) states p old.undecided mine;
-    known = subst (KnowsUndecided m n.place now) (sym (length_push states p)) (known_more m n.place seen (length states) old.known p.state reachable mine new now put);
-    places = λ t r. put (n.place t)
-        ∙ ap (λ (b : Bool). cond b true (seen (n.place t))) (same_tests m game n numbered p.state t reachable r ∙ ap (λ (k : ℕ). eqb k (m.key t)) is_key)
-        ∙ is_some_step (eqb p.key (m.key t)) (open_row p) (seen (n.place t)) (planned states (m.key t)) (old.places t r) ∙ ap is_some (sym (here (m.key t)));
-  }
-
--- ---- what follows
-some_up : (o p : Option SheetRow) → ((r : SheetRow) → o ≡ Some r → p ≡ Some r) → IsSome o → IsSome p
-some_up None p up h = absurd (cc)
-some_up (Some r) p up h = rw (up r refl) refl
-
-pub found_still : {S : Type 0} (old new : List (PlannedState S)) → Extends old new → (key : ℕ) → IsSome (planned old key) → IsSome (planned new key)
-found_still old new grown key h = some_up (planned old key) (planned new key) (planned_still old new grown key) h
-
-next_still : {S : Type 0} (m : GameModel S) (side : Side) (old new : List (PlannedState S)) → Extends old new → (p : PlannedState S) → HasNext m side (planned old) p → HasNext m side (planned new) p
-next_still m side old new grown p h = λ t turn played goes. found_still old new grown _ (h t turn played goes)
-
-pub not_visited : {S : Type 0} (m : GameModel S) (side : Side) (states : List (PlannedState S)) (s : S) → (IsUndecided m s → IsSome (planned states (m.key s))) → IsVisited m side states states s
-unfolding extends_none
-not_visited m side states s found = record { more = []; joins = (extends_none states).joins; here = found; next = All-nil _ }
+  planned_more : AreMet m number side total seen met (states ++ p ∷ [])
+  planned_more =
+      let room' : length states < length (map m.key met) = (let long = length-map met m.key in omega (arith, long, room)) in
+      record {
+        plan = record {
+          distinct = rw (map-append (λ (x : PlannedState S). x.key) states (p ∷ []))
+              (IsDistinct-push nat_eq_equiv (state_keys states) p.key old.plan.distinct
+              (ap (list_any (eqb p.key)) (sym (keys_open states)) ∙ sym (row_listed (map open_row states) p.key) ∙ none));
+          each = All-push (IsPlannedState m side total (planned (states ++ p ∷ []))) states p
+              (All-weaker (IsPlannedState m side total (planned states)) (IsPlannedState m side total (planned (states ++ p ∷ []))) still states old.plan.each)
+              (still p (record { is_key = is_key; is_rank = is_rank; goes_on = (let on = next_is.undecided.goes_on in omega (arith, on, is_rank)); reached = next_is.reached; whole = whole }));
+        };
+        undecided = All-push (λ x. IsUndecided m x.state) states p old.undecided next_is.undecided;
+        first = map-append (λ (x : PlannedState S). x.key) states (p ∷ []) ∙ ap (λ (ks : List ℕ). ks ++ p.key ∷ []) old.first
+            ∙ ap (λ (k : ℕ). take (length states) (map m.key met) ++ k ∷ []) (sym key_at) ∙ sym (take_more (map m.key met) (length states) 0 room')
+            ∙ ap (λ (i : ℕ). take i (map m.key met)) (sym (length_push states p));
+        few = (let long = length_push states p in omega (arith, long, room));
+        each = All-weaker (IsMetState m side (planned states)) (IsMetState m side (planned (states ++ p ∷ [])))
+            (λ s h. record { undecided = h.undecided; reached = reached_more s h.reached }) met old.each;
+        distinct = old.distinct;
+        places = old.places;
+        known = old.known;
+      }
 
 -- ---- among the children of a state
--- the walk is at the children of a state that is reached and planned, and has visited so many of them
-pub record IsAmong {S : Type 0} (m : GameModel S) (number : S → ℕ) (side : Side) (total : ℕ) (first : List (PlannedState S)) (seen : ℕ → Bool)
-    (states : List (PlannedState S)) (s : S) (items : List S) (index : ℕ) : Type 0 where
-  pub followed : AreFollowed m number side total seen states
-  pub reached : IsReached m side (planned states) s
+-- the walk is at the children of the state that was planned last, and has come to so many of them
+pub record IsAmong {S : Type 0} (m : GameModel S) (number : S → ℕ) (side : Side) (total : ℕ) (first : List (PlannedState S)) (start seen : ℕ → Bool)
+    (least : ℕ) (met : List S) (states : List (PlannedState S)) (items : List S) (index : ℕ) : Type 0 where
+  pub are_met : AreMet m number side total seen met states
   pub mine : PlannedState S
-  pub rest : List (PlannedState S)
-  pub joins : states ≡ first ++ mine ∷ rest
-  pub is_state : mine.state ≡ s
-  pub has : planned states (m.key s) ≡ Some (open_row mine)
-  pub items_are : items ≡ children_of m side mine.weights s
-  pub next : All (HasNext m side (planned states)) rest
-  pub done : (k : ℕ) (d : S) → k < index → IsUndecided m (get_or items k d) → IsSome (planned states (m.key (get_or items k d)))
+  pub joins : states ≡ first ++ mine ∷ []
+  pub reached : IsReached m side (planned states) mine.state
+  pub has : planned states (m.key mine.state) ≡ Some (open_row mine)
+  pub items_are : items ≡ children_of m side mine.weights mine.state
+  pub next : All (HasMetNext m number side start) first
+  pub kept : IsKept start seen
+  pub long : least ≤ length met
+  pub done : (k : ℕ) (d : S) → k < index → IsUndecided m (get_or items k d) → seen (number (get_or items k d)) ≡ true
 
-pub among_first : {S : Type 0} (m : GameModel S) → IsGame m → (n : Numbering S) → IsNumbering m n → (side : Side) (total : ℕ) (seen now : ℕ → Bool)
-    (states : List (PlannedState S)) (p : PlannedState S) (items : List S)
-    → AreFollowed m n.place side total seen states → m.key p.state ≡ p.key → m.rank p.state ≡ p.rank → IsUndecided m p.state
-    → IsReached m side (planned states) p.state → AreWeights (m.moves side p.state) total p.weights → seen (n.place p.state) ≡ false
-    → ((q : ℕ) → now q ≡ cond (eqb (n.place p.state) q) true (seen q)) → items ≡ children_of m side p.weights p.state
-    → IsAmong m n.place side total states now (states ++ p ∷ []) p.state items 0
-among_first m game n numbered side total seen now states p items old is_key is_rank mine reached whole new put items_are = record {
-  followed = followed_more m game n numbered side total seen now states p old is_key is_rank mine reached whole new put;
-  reached = reached_still m side states (states ++ p ∷ []) p.state (record { more = p ∷ []; joins = refl }) reached;
+pub among_first : {S : Type 0} (m : GameModel S) (number : S → ℕ) (side : Side) (total : ℕ) (seen : ℕ → Bool) (met : List S) (states : List (PlannedState S)) (p : PlannedState S) (items : List S)
+    → AreFollowed m number side total seen met states → length states < length met → p.state ≡ get_or met (length states) p.state
+    → m.key p.state ≡ p.key → m.rank p.state ≡ p.rank → AreWeights (m.moves side p.state) total p.weights → items ≡ children_of m side p.weights p.state
+    → IsAmong m number side total states seen seen (length met) met (states ++ p ∷ []) items 0
+among_first m number side total seen met states p items old room is_next is_key is_rank whole items_are = record {
+  are_met = planned_more m number side total seen met states p old.are_met room is_next is_key is_rank whole;
+  reached = reached_more m number side total seen met states p old.are_met room is_next is_key is_rank whole p.state
+      (next_is m number side total seen met states p old.are_met room is_next is_key is_rank whole).reached;
   mine = p;
-  rest = [];
   joins = refl;
-  is_state = refl;
-  has = has_row m game n numbered side total seen now states p old is_key is_rank mine reached whole new put;
+  has = has_row m number side total seen met states p old.are_met room is_next is_key is_rank whole;
   items_are = items_are;
-  next = All-nil _;
+  next = old.next;
+  kept = λ place is. is;
+  long = omega arith;
   done = λ k d l goes. absurd (omega arith);
 }
 
 same_item : {X : Type 0} (xs : List X) (k : ℕ) (d e : X) → k < length xs → get_or xs k d ≡ get_or xs k e
 same_item xs k d e h = get_or_default xs k d e h
 
-module _ {S : Type 0} (m : GameModel S) (game : IsGame m) (number : S → ℕ) (side : Side) (total : ℕ) (first : List (PlannedState S)) (seen : ℕ → Bool)
-    (states : List (PlannedState S)) (s : S) (items : List S) (index : ℕ)
-    (at : IsAmong m number side total first seen states s items index) where
-  pub among_child : (child : S) → index < length items → child ≡ get_or items index child → IsBelow m side (planned states) s child
+module _ {S : Type 0} (m : GameModel S) (game : IsGame m) (n : Numbering S) (numbered : IsNumbering m n) (side : Side) (total : ℕ) (first : List (PlannedState S)) (start seen : ℕ → Bool)
+    (least : ℕ) (met : List S) (states : List (PlannedState S)) (items : List S) (index : ℕ)
+    (at : IsAmong m n.place side total first start seen least met states items index) where
+  among_child : (child : S) → index < length items → child ≡ get_or items index child → IsReached m side (planned states) child
   among_child child h is =
-      item_below m game side (planned states) s at.mine.weights (open_row at.mine) index child at.reached at.has refl (rw (← at.items_are) h) (rw (← at.items_are) is)
+      (item_below m game side (planned states) at.mine.state at.mine.weights (open_row at.mine) index child at.reached at.has refl (rw (← at.items_are) h) (rw (← at.items_are) is)).reached
 
-  pub among_more : (now : ℕ → Bool) (later : List (PlannedState S)) (child : S) → index < length items → child ≡ get_or items index child
-      → AreFollowed m number side total now later → IsVisited m side states later child → IsAmong m number side total first now later s items (index + 1)
-  among_more now later child h is followed visited =
-      let grown : Extends states later = record { more = visited.more; joins = visited.joins } in
+  pub child_reachable : (child : S) → index < length items → child ≡ get_or items index child → Reachable m child
+  child_reachable child h is = reached_reachable m side (planned states) child (among_child child h is)
+
+  pub among_more : (now : ℕ → Bool) (later : List S) (child : S) → index < length items → child ≡ get_or items index child → HasCome m n.place child seen now met later
+      → IsAmong m n.place side total first start now least later states items (index + 1)
+  among_more now later child h is come =
+      let stays : IsKept seen now = come_kept m n.place child seen now met later come in
       record {
-        followed = followed;
-        reached = reached_still m side states later s grown at.reached;
+        are_met = come_met m game n numbered side total seen now met later states child at.are_met (among_child child h is) come;
+        reached = at.reached;
         mine = at.mine;
-        rest = at.rest ++ visited.more;
-        joins = visited.joins ∙ ap (λ (l : List (PlannedState S)). l ++ visited.more) at.joins ∙ append_assoc first (at.mine ∷ at.rest) visited.more;
-        is_state = at.is_state;
-        has = planned_still states later grown (m.key s) (open_row at.mine) at.has;
+        joins = at.joins;
+        has = at.has;
         items_are = at.items_are;
-        next = All-append (HasNext m side (planned later)) at.rest visited.more
-            (All-weaker (HasNext m side (planned states)) (HasNext m side (planned later)) (next_still m side states later grown) at.rest at.next) visited.next;
+        next = at.next;
+        kept = λ place was. stays place (at.kept place was);
+        long = (let one = at.long in let two = come_long m n.place child seen now met later come in omega (arith, one, two));
         done = λ k d l goes. elim (cases_lt k index) [
-          | inl earlier ↦ found_still states later grown _ (at.done k d earlier goes)
+          | inl earlier ↦ stays _ (at.done k d earlier goes)
           | inr last ↦
               let same : k ≡ index = omega arith in
-              let it : get_or items k d ≡ child = ap (λ (n : ℕ). get_or items n d) same ∙ same_item items index d child h ∙ sym is in
-              subst (λ (x : S). IsSome (planned later (m.key x))) (sym it) (visited.here (subst (IsUndecided m) it goes))
+              let it : get_or items k d ≡ child = ap (λ (i : ℕ). get_or items i d) same ∙ same_item items index d child h ∙ sym is in
+              subst (λ (x : S). now (n.place x) ≡ true) (sym it) (come_here m n.place child seen now met later come (subst (IsUndecided m) it goes))
         ];
       }
 
-  mine_next : length items ≤ index → HasNext m side (planned states) at.mine
+  mine_next : length items ≤ index → HasMetNext m n.place side seen at.mine
   mine_next all = λ t turn played goes.
-      let turn' : IsTurn m s t = subst (λ (x : S). IsTurn m x t) at.is_state turn in
-      let parts = turn_parts m side s t turn' in
+      let s : S = at.mine.state in
+      let parts = turn_parts m side s t turn in
       let place = child_place m side at.mine.weights s (own_move side t) (reply_move side t) t.draw parts.own_below parts.reply_below parts.draw_below played in
-      let it : get_or items place.0 s ≡ after_turn m at.mine.state t =
-      ap (λ (xs : List S). get_or xs place.0 s) at.items_are ∙ place.2 s ∙ sym parts.is ∙ ap (λ (x : S). after_turn m x t) (sym at.is_state) in
+      let it : get_or items place.0 s ≡ after_turn m s t = ap (λ (xs : List S). get_or xs place.0 s) at.items_are ∙ place.2 s ∙ sym parts.is in
       let long : length items ≡ length (children_of m side at.mine.weights s) = ap length at.items_are in
-      subst (λ (x : S). IsSome (planned states (m.key x))) it (at.done place.0 s (let l = place.1 in omega (arith, l, long, all)) (subst (IsUndecided m) (sym it) goes))
+      subst (λ (x : S). seen (n.place x) ≡ true) it (at.done place.0 s (let l = place.1 in omega (arith, l, long, all)) (subst (IsUndecided m) (sym it) goes))
 
-  pub among_done : length items ≤ index → IsVisited m side first states s
+  pub among_done : length items ≤ index → AreFollowed m n.place side total seen met states
   among_done all = record {
-    more = at.mine ∷ at.rest;
-    joins = at.joins;
-    here = λ goes. rw at.has refl;
-    next = All-cons (HasNext m side (planned states)) at.mine at.rest (mine_next all) at.next;
+    are_met = at.are_met;
+    next = subst (All (HasMetNext m n.place side seen)) (sym at.joins)
+        (All-push (HasMetNext m n.place side seen) first at.mine
+        (All-weaker (HasMetNext m n.place side start) (HasMetNext m n.place side seen) (λ p h. λ t turn played goes. at.kept _ (h t turn played goes)) first at.next) (mine_next all));
   }
 
 -- ---- from the root
@@ -266,24 +342,38 @@ open_rows : {S : Type 0} (m : GameModel S) (side : Side) (total : ℕ) (states :
     → All (HasNext m side (planned states)) states → All (IsOpenRow m side total states) (map open_row states)
 open_rows m side total states plan next = All-map (IsOpenRow m side total states) open_row states (λ k d l. record { of = get_or states k d; is = refl; plan = plan k d l; next = next k d l })
 
-pub whole_plan : {S : Type 0} (m : GameModel S) → IsGame m → (number : S → ℕ) (side : Side) (total : ℕ) (seen : ℕ → Bool) (states : List (PlannedState S)) (s : S) → s ≡ m.root
-    → AreFollowed m number side total seen states → IsVisited m side [] states s → IsWholePlan m side total states
-whole_plan m game number side total seen states s is followed visited =
-    let all_next : All (HasNext m side (planned states)) states = subst (All (HasNext m side (planned states))) (sym visited.joins) visited.next in
-    record {
-      plan = followed.plan;
-      undecided = followed.undecided;
-      whole = each_row m side (planned states) (λ t r reach e.
-          let here = found (IsOpenRow m side total states) (map open_row states) (m.key t) r (open_rows m side total states followed.plan.each all_next) e in
-          let p : PlannedState _ = here.0.of in
-          let key : p.key ≡ r.key = ap (λ (x : SheetRow). x.key) here.0.is in
-          let same : p.state ≡ t = game.same_key p.state t (reached_reachable m side (planned states) p.state here.0.plan.reached) reach (here.0.plan.is_key ∙ key ∙ here.1) in
-          λ turn legal played mine.
-          subst (λ (x : _). IsSome (planned states (m.key (after_turn m x turn)))) same
-          (here.0.next turn (subst (λ (x : _). IsTurn m x turn) (sym same) legal) (subst (λ (x : SheetRow). 1 ≤ get_or x.weights (own_move side turn) 0) (sym here.0.is) played)
-          (subst (λ (x : _). IsUndecided m (after_turn m x turn)) (sym same) mine)))
-          (subst (λ (x : _). IsUndecided m x → IsSome (planned states (m.key x))) is visited.here);
-    }
+module _ {S : Type 0} (m : GameModel S) (game : IsGame m) (number : S → ℕ) (side : Side) (total : ℕ) (seen : ℕ → Bool) (met : List S) (states : List (PlannedState S))
+    (old : AreFollowed m number side total seen met states) (all : length met ≤ length states) where
+  all_planned : map m.key met ≡ state_keys states
+  all_planned =
+      let same : length (map m.key met) ≡ length states = (let long = length-map met m.key in let few = old.are_met.few in omega (arith, long, few, all)) in
+      sym (take-length (map m.key met)) ∙ ap (λ (i : ℕ). take i (map m.key met)) same ∙ sym old.are_met.first
+
+  has_planned : (t : S) → Reachable m t → seen (number t) ≡ true → IsSome (planned states (m.key t))
+  has_planned t reach is = row_listed (map open_row states) (m.key t) ∙ ap (list_any (eqb (m.key t))) (keys_open states ∙ sym all_planned) ∙ sym (old.are_met.places t reach) ∙ is
+
+  next_planned : All (HasNext m side (planned states)) states
+  next_planned = λ k d l. λ t turn played goes.
+      has_planned _ (reachable_turn m _ t (reached_reachable m side (planned states) _ (old.are_met.plan.each k d l).reached) turn) (old.next k d l t turn played goes)
+
+  pub as_many : HasUndecided m (length states)
+  as_many = subst (HasUndecided m) (let few = old.are_met.few in omega (arith, few, all)) old.are_met.known.undecided
+
+  pub whole_plan : (IsUndecided m m.root → seen (number m.root) ≡ true) → IsWholePlan m side total states
+  whole_plan root = record {
+    plan = old.are_met.plan;
+    undecided = old.are_met.undecided;
+    whole = each_row m side (planned states) (λ t r reach e.
+        let here = found (IsOpenRow m side total states) (map open_row states) (m.key t) r (open_rows m side total states old.are_met.plan.each next_planned) e in
+        let p : PlannedState _ = here.0.of in
+        let key : p.key ≡ r.key = ap (λ (x : SheetRow). x.key) here.0.is in
+        let same : p.state ≡ t = game.same_key p.state t (reached_reachable m side (planned states) p.state here.0.plan.reached) reach (here.0.plan.is_key ∙ key ∙ here.1) in
+        λ turn legal played mine.
+        subst (λ (x : _). IsSome (planned states (m.key (after_turn m x turn)))) same
+        (here.0.next turn (subst (λ (x : _). IsTurn m x turn) (sym same) legal) (subst (λ (x : SheetRow). 1 ≤ get_or x.weights (own_move side turn) 0) (sym here.0.is) played)
+        (subst (λ (x : _). IsUndecided m (after_turn m x turn)) (sym same) mine)))
+        (λ mine. has_planned m.root (reachable_root m) (root mine));
+  }
 
 -- a sheet with the weights of a whole plan has each row too
 pub each_row_still : {S : Type 0} (m : GameModel S) (side : Side) (rows others : ℕ → Option SheetRow) → ((key : ℕ) → weights_of_row (others key) ≡ weights_of_row (rows key)) → HasEachRow m side rows

@@ -1,5 +1,5 @@
 -- Undecided states in a list, each once, and the turns that their values take.
-use Rattle.std.proofs.Common.{◌≡◌, ℕ, ◌+◌, ◌-◌, ◌<◌, ◌≤◌, Bool, true, false, cond, eqb, List, [], ◌∷◌, ◌++◌, length, sym, subst, arith}
+use Rattle.std.proofs.Common.{◌≡◌, ℕ, ◌+◌, ◌-◌, ◌<◌, ◌≤◌, All, Bool, true, false, cond, eqb, List, [], ◌∷◌, ◌++◌, length, sym, subst, arith}
 use Rattle.std.proofs.lemmas.List.{length_push}
 use Rattle.std.proofs.lemmas.List.Elements.{All-push}
 use Rattle.sim_game.specs.Model.{GameModel, Reachable}
@@ -34,3 +34,10 @@ missing_less missing n count a b c most p q = record {
 
 pub none_missing : (missing n : ℕ) (a b : Budget) → HasSpent missing n a b → HasSpent 0 n a b
 none_missing missing n a b p = record { same = p.same; more = p.more; few = let x = p.few in omega (arith, x) }
+
+-- ---- states by when they get values
+pub all_same : {X : Type 0} (P : X → Type 0) (xs ys : List X) → xs ≡ ys → All P ys → All P xs
+all_same P xs ys e h = rw e h
+
+pub all_more : {X : Type 0} (P : X → Type 0) (xs ys : List X) (x y : X) → ys ≡ xs ++ x ∷ [] → x ≡ y → All P xs → P y → All P ys
+all_more P xs ys x y e is h here = rw (e, is) (All-push P xs y h here)

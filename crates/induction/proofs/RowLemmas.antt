@@ -155,7 +155,7 @@ placed_more {S = S} m game n numbered rows row s words now word old reach is_key
 }
 
 -- ---- no row yet
-no_row : (rows : List SheetRow) (key : ℕ) → ((k : ℕ) → k < length rows → eqb (get_or (row_keys rows) k 0) key ≡ false) → is_some (row_at rows key) ≡ false
+pub no_row : (rows : List SheetRow) (key : ℕ) → ((k : ℕ) → k < length rows → eqb (get_or (row_keys rows) k 0) key ≡ false) → is_some (row_at rows key) ≡ false
 no_row [] key h = refl
 no_row (r ∷ rows) key h = rw (h 0 (omega arith)) (no_row rows key (λ k p. h (suc k) (omega arith)))
 

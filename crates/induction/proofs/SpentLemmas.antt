@@ -1,13 +1,13 @@
 -- Turns that are spent one after another.
-use Rattle.std.proofs.Common.{◌≡◌, ◌⊎◌, ⊎_elim, ℕ, ◌+◌, Bool, false, Result, Ok, Err, IfErr, refl, sym, subst, arith}
+use Rattle.std.proofs.Common.{◌≡◌, ℕ, Bool, false, Result, Ok, Err, IfErr, refl, sym, subst, arith}
 use Rattle.std.specs.Prelude.{IsErrAnd}
-use Rattle.sim_game.specs.Model.{GameModel, Reachable}
-use Rattle.matrix_game.specs.Budget.{Budget, HasGivenUp, after_one_turn}
-use Rattle.matrix_game.proofs.BudgetLemmas.{same_budget, budget_after, one_turn_later}
+use Rattle.sim_game.specs.Model.{GameModel}
+use Rattle.matrix_game.specs.Budget.{Budget}
+use Rattle.matrix_game.proofs.BudgetLemmas.{same_budget, budget_after}
 use Rattle.induction.specs.declared.gave_up.GaveUp.{GaveUp}
 use Rattle.induction.specs.declared.gave_up.GaveUp.TheVariants.{TooManyStates, Spent, NoMemory}
-use Rattle.induction.specs.Undecided.{IsUndecided, HasUndecided, KnowsUndecided}
-use Rattle.induction.proofs.UndecidedLemmas.{none_known, one_more_undecided, spent_each}
+use Rattle.induction.specs.Undecided.{HasUndecided}
+use Rattle.induction.proofs.UndecidedLemmas.{none_known, spent_each}
 use Rattle.induction.specs.Spent.{HasSpent, HasSpentEach, IsReason, IsStopped}
 
 pub none_spent : (n : ℕ) (b : Budget) → HasSpent n n b b
@@ -20,36 +20,11 @@ spent_more i j k a b c p q = record {
   few = let x = p.few in let y = q.few in omega (arith, x, y);
 }
 
--- it was asked whether to go on, and took one turn, or none
-pub asked_spent : (n : ℕ) (a b : Budget) → (b ≡ a) ⊎ HasGivenUp a b → HasSpent 0 n a b
-asked_spent n a b either = let p : HasSpent 0 n a a = record { same = same_budget a; more = omega arith; few = omega arith } in ⊎_elim
-    (λ (same : b ≡ a). rw same p)
-    (λ (up : HasGivenUp a b). let spent = up.spent in record { same = up.same; more = omega (arith, spent); few = omega (arith, spent) })
-    either
-
-pub turn_spent : (a b c : Budget) → (b ≡ a) ⊎ HasGivenUp a b → c ≡ after_one_turn b → HasSpent 0 1 a c
-turn_spent a b c either is = let p = asked_spent 0 a b either in rw is (record {
-  same = budget_after p.same (one_turn_later b);
-  more = let x = p.more in omega (arith, x);
-  few = let x = p.few in omega (arith, x);
-})
-
--- one turn at most, for one thing more that is counted
-pub spent_one : (n : ℕ) (a b : Budget) → HasSpent 0 1 a b → HasSpent n (n + 1) a b
-spent_one n a b p = record { same = p.same; more = p.more; few = let x = p.few in omega (arith, x) }
-
 pub stopped_later : {S : Type 0} (m : GameModel S) (Many : Type 0) (i j : ℕ) (a b c : Budget) (e : GaveUp) → HasSpent i j a b → IsStopped m Many j b c e → IsStopped m Many i a c e
 stopped_later m Many i j a b c e p q = record { why = q.why; count = q.count; undecided = q.undecided; spent = spent_more i j q.count a b c p q.spent }
 
 pub stopped_at : {S : Type 0} (m : GameModel S) (Many : Type 0) (i j : ℕ) (a b : Budget) (e : GaveUp) → IsReason Many b e → HasUndecided m j → HasSpent i j a b → IsStopped m Many i a b e
 stopped_at m Many i j a b e why undecided spent = record { why = why; count = j; undecided = undecided; spent = spent }
-
--- it gave up at a state whose number is not known
-pub stopped_here : {S : Type 0} (m : GameModel S) (Many : Type 0) (number : S → ℕ) (known : ℕ → Bool) (n : ℕ) → KnowsUndecided m number known n
-    → (s : S) → Reachable m s → IsUndecided m s → known (number s) ≡ false
-    → (a b : Budget) (e : GaveUp) → HasSpent 0 1 a b → IsReason Many b e → IsStopped m Many n a b e
-stopped_here m Many number known n old s reach mine new a b e spent why =
-    stopped_at m Many n (n + 1) a b e why (one_more_undecided m number known n old s reach mine new) (spent_one n a b spent)
 
 pub reason_up : (Many : Type 0) (b : Budget) (e : GaveUp) → IsReason ⊥ b e → IsReason Many b e
 reason_up Many b TooManyStates h = absurd h

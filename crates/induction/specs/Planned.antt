@@ -1,6 +1,6 @@
 -- A plan from the root down: states with whole weights, each of which the others reach.
-use Rattle.std.specs.Prelude.{◌≡◌, ℕ, ◌≤◌, pos, Bool, Option, IsSome, option_map, is_some, List, ◌++◌, length, map, All, nat_eq, slice_index}
-use Rattle.std.specs.List.{IsDistinct}
+use Rattle.std.specs.Prelude.{◌≡◌, ℕ, ◌≤◌, pos, Bool, true, false, cond, Option, IsSome, option_map, List, [], ◌∷◌, ◌++◌, take, length, map, All, nat_eq, slice_index}
+use Rattle.std.specs.List.{IsDistinct, list_any}
 use Rattle.sim_game.specs.declared.Side.{Side}
 use Rattle.sim_game.specs.Model.{GameModel, Reachable, Turn, IsTurn, after_turn}
 use Rattle.sim_game.specs.Sides.{own_move}
@@ -51,16 +51,39 @@ pub record IsWholePlan {S : Type 0} (m : GameModel S) (side : Side) (total : ℕ
   pub whole : HasEachRow m side (planned states)
 
 -- ---- the walk from the root down
--- the states are planned and undecided, and the places that are seen are theirs
-pub record AreFollowed {S : Type 0} (m : GameModel S) (number : S → ℕ) (side : Side) (total : ℕ) (seen : ℕ → Bool) (states : List (PlannedState S)) : Type 0 where
+-- the state is undecided, and reached through rows
+pub record IsMetState {S : Type 0} (m : GameModel S) (side : Side) (rows : ℕ → Option SheetRow) (s : S) : Type 0 where
+  pub undecided : IsUndecided m s
+  pub reached : IsReached m side rows s
+
+-- the states that were met differ and are reached through the planned ones, which are the first of them; the places that are
+-- seen are theirs
+pub record AreMet {S : Type 0} (m : GameModel S) (number : S → ℕ) (side : Side) (total : ℕ) (seen : ℕ → Bool) (met : List S) (states : List (PlannedState S)) : Type 0 where
   pub plan : ArePlanned m side total states
   pub undecided : All (λ p. IsUndecided m p.state) states
-  pub places : (s : S) → Reachable m s → seen (number s) ≡ is_some (planned states (m.key s))
-  pub known : KnowsUndecided m number seen (length states)
+  pub first : map (λ p. p.key) states ≡ take (length states) (map m.key met)
+  pub few : length states ≤ length met
+  pub each : All (IsMetState m side (planned states)) met
+  pub distinct : IsDistinct nat_eq (map m.key met)
+  pub places : (s : S) → Reachable m s → seen (number s) ≡ list_any (nat_eq (m.key s)) (map m.key met)
+  pub known : KnowsUndecided m number seen (length met)
 
--- from the states before a visit of a state to those after it: all that follow the further ones are there
-pub record IsVisited {S : Type 0} (m : GameModel S) (side : Side) (old new : List (PlannedState S)) (s : S) : Type 0 where
-  pub more : List (PlannedState S)
-  pub joins : new ≡ old ++ more
-  pub here : IsUndecided m s → IsSome (planned new (m.key s))
-  pub next : All (HasNext m side (planned new)) more
+-- the place of each undecided state that follows by a move of positive weight is seen
+abbrev pub HasMetNext : {S : Type 0} → GameModel S → (S → ℕ) → Side → (ℕ → Bool) → PlannedState S → Type 0
+HasMetNext m number side seen p = (t : Turn) → IsTurn m p.state t → 1 ≤ slice_index p.weights (own_move side t) → IsUndecided m (after_turn m p.state t)
+    → seen (number (after_turn m p.state t)) ≡ true
+
+-- the states that follow planned ones were met
+pub record AreFollowed {S : Type 0} (m : GameModel S) (number : S → ℕ) (side : Side) (total : ℕ) (seen : ℕ → Bool) (met : List S) (states : List (PlannedState S)) : Type 0 where
+  pub are_met : AreMet m number side total seen met states
+  pub next : All (HasMetNext m number side seen) states
+
+-- what was seen stays seen
+abbrev pub IsKept : (ℕ → Bool) → (ℕ → Bool) → Type 0
+IsKept old new = (place : ℕ) → old place ≡ true → new place ≡ true
+
+-- the walk has come to a state: it is decided or was met before, or it is met now
+pub data HasCome {S : Type 0} (m : GameModel S) (number : S → ℕ) (s : S) (old new : ℕ → Bool) (met now : List S) : Type 0 where
+  met_before : (IsUndecided m s → old (number s) ≡ true) → new ≡ old → now ≡ met → HasCome m number s old new met now
+  met_now : IsUndecided m s → old (number s) ≡ false → ((place : ℕ) → new place ≡ cond (nat_eq (number s) place) true (old place)) → now ≡ met ++ s ∷ []
+      → HasCome m number s old new met now

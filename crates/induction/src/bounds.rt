@@ -1,6 +1,7 @@
 //! The best bound that weights prove at a state over rows of the states that follow.
 
 ghost use Rattle.std.specs.Prelude.{◌≡◌, ◌<◌, ◌≤◌, pos, ◌+ℤ◌, length, unsigned_abs, All};
+ghost use Rattle.sums.specs.declared.TheConstants.{MOST_WEIGHT, MOST_BOUND, MOST_REWARD};
 ghost use Rattle.sim_game.specs.Model.{Reachable};
 ghost use Rattle.sim_game.specs.Sides.{other_side};
 ghost use Rattle.plan_book.specs.Plans.{AreWeights};
@@ -16,8 +17,8 @@ use sums::weighted;
 
 /// A turn's reward, with a bound at the state that follows.
 fn with_reward(reward: i64, bound: i64) -> i64
-    requires reward { unsigned_abs reward ≤ 8000000000 }
-    requires bound { unsigned_abs bound ≤ 4000000000 }
+    requires reward { unsigned_abs reward ≤ MOST_REWARD }
+    requires bound { unsigned_abs bound ≤ MOST_BOUND }
     ensures { result ≡ reward +ℤ bound }
 {
     reward + bound
@@ -28,7 +29,7 @@ const SHIFT: i64 = 8_000_000_000;
 
 /// A bound as a word, which is not 0.
 pub(crate) fn word_of(bound: i64) -> u64
-    requires { unsigned_abs bound ≤ 4000000000 }
+    requires { unsigned_abs bound ≤ MOST_BOUND }
     ensures some { 1 ≤ result }
     ensures is { pos result ≡ bound +ℤ pos 8000000000 }
 {
@@ -75,7 +76,7 @@ fn cell<G: Game>(
     requires own { own < (G.model g).moves side s }
     requires reply { reply < (G.model g).moves (other_side side) s }
     ensures value { result ≡ cell (G.model g) side s (turn_numbers (G.model g) side rows.now s) own reply }
-    ensures small { unsigned_abs result ≤ 4000000000 }
+    ensures small { unsigned_abs result ≤ MOST_BOUND }
 {
     let a = side.move_of_one(own, reply);
     let b = side.move_of_two(own, reply);
@@ -101,7 +102,7 @@ fn worth<G: Game>(
     requires placed { ArePlaced (G.model g) (G.numbering g).place rows.now (place_word bounds.now) }
     requires reachable { Reachable (G.model g) s }
     requires one_each { length weights.now ≡ (G.model g).moves side s }
-    requires light { All (λ w. w ≤ 1048576) weights.now }
+    requires light { All (λ w. w ≤ MOST_WEIGHT) weights.now }
     requires reply { reply < (G.model g).moves (other_side side) s }
     ensures value { result ≡ worth (G.model g) side s weights.now (turn_numbers (G.model g) side rows.now s) reply }
     ensures small { unsigned_abs result ≤ 268435456000000000 }
@@ -131,7 +132,7 @@ pub(crate) fn best_bound<G: Game>(
     requires reachable { Reachable (G.model g) s }
     requires goes_on { 1 ≤ (G.model g).rank s }
     requires some { 1 ≤ total }
-    requires light { total ≤ 1048576 }
+    requires light { total ≤ MOST_WEIGHT }
     requires whole { AreWeights ((G.model g).moves side s) total weights.now }
     ensures { IsBestStep (G.model g) side s total weights.now rows.now result }
 {

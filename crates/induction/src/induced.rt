@@ -1,6 +1,7 @@
 //! Lawful sheets of both sides, by one pass over the states and one over each side's plan.
 
 ghost use Rattle.std.specs.Prelude.{◌≡◌, ◌≢◌, ◌/◌, ◌<◌, ◌≤◌, None, All, IfOk};
+ghost use Rattle.sums.specs.declared.TheConstants.{MOST_WEIGHT};
 ghost use Rattle.sim_game.specs.declared.Side.TheVariants.{One, Two};
 ghost use Rattle.matrix_game.specs.Budget.{after_stop, left_of};
 ghost use Rattle.plan_book.specs.Sheets.{root_bound, IsLawful};
@@ -9,18 +10,15 @@ ghost use Rattle.induction.specs.Induced.{of_side, own_turns, AreBothSheets, IsO
 ghost use Rattle.induction.specs.Listed.{GoesOn};
 
 use crate::places::PlaceTable;
-use crate::values::{Guide, Stage, Values, value_states, values_of};
-use crate::watch::{Terms, Watch};
-use crate::{GaveUp, certify, plan_from};
+use crate::values::{Guide, Values, value_states, values_of};
+use crate::watch::{FEW_STATES, Terms, Watch};
+use crate::{GaveUp, certify, certify_by, plan_from};
 use matrix_game::Turns;
 use plan_book::{Sheet, bound_of};
 use sim_game::{Game, NoMemory, Side};
 use std::alloc::Global;
 use std::thread::Threads;
 use std::{mem, thread};
-
-// So few states are no work to divide.
-const FEW_STATES: usize = 256;
 
 /// Sheets of both sides, and their bounds at the root, in millionths.
 #[derive(Drop)]
@@ -32,71 +30,135 @@ pub struct Induced {
 }
 
 /// The sheet of a side, by what is proposed.
-fn sheet_of<'a, G: Game, W: Watch>(
+fn sheet_of<G: Game, F: Fn(Side, &[G::State]) -> Result<Vec<Vec<u32>>, NoMemory>>(
     alloc: Global,
     g: G,
     side: Side,
     terms: Terms,
-    guide: &mut Guide<'a, W>,
+    turns: &mut Turns,
+    propose: &F,
 ) -> Result<Sheet, GaveUp>
     requires some { 1 ≤ terms.total }
-    requires light { terms.total ≤ 1048576 }
-    ensures { IsOwnSheet (G.model g) side terms.total guide.old.turns guide.new.turns result }
+    requires light { terms.total ≤ MOST_WEIGHT }
+    requires may_call { (own : _) (some : _) → All (GoesOn (G.model g)) some.now → F.pre propose.now own some }
+    ensures { IsOwnSheet (G.model g) side terms.total turns.old turns.new result }
 {
-    let states = plan_from(alloc, g, side, terms.total, terms.rows, guide)?;
+    let states = plan_from(alloc, g, side, terms.total, terms.rows, turns, propose)?;
     Ok(certify(alloc, g, side, terms.total, terms.rows, states)?)
 }
 
-/// The sheets of both sides, one after the other.
-fn both_sheets<G: Game, W: Watch>(
-    alloc: Global,
-    g: G,
-    terms: Terms,
-    known: &PlaceTable,
-    watch: &W,
-    turns: Turns,
-) -> (Result<(Sheet, Sheet), GaveUp>, Turns)
-    requires some { 1 ≤ terms.total }
-    requires light { terms.total ≤ 1048576 }
-    ensures { AreBothSheets (G.model g) terms.total terms.rows turns result.1 result.0 }
-{
-    let stage = match Stage::new(alloc) {
-        Ok(stage) => stage,
-        Err(_) => return (Err(GaveUp::NoMemory), turns),
-    };
-    let mut guide = Guide::new(known, turns, stage, watch);
-    let one = match sheet_of(alloc, g, Side::One, terms, &mut guide) {
-        Ok(one) => one,
-        Err(e) => return (Err(e), guide.into_turns()),
-    };
-    let two = match sheet_of(alloc, g, Side::Two, terms, &mut guide) {
-        Ok(two) => two,
-        Err(e) => return (Err(e), guide.into_turns()),
-    };
-    (Ok((one, two)), guide.into_turns())
-}
-
-/// The sheet of a side with turns of its own.
-fn side_sheet<G: Game, W: Watch>(
+/// The same, with the bounds by several threads.
+fn sheet_by<
+    R: Threads + Sync,
+    G: Game + Send + Sync,
+    F: Fn(Side, &[G::State]) -> Result<Vec<Vec<u32>>, NoMemory>,
+>(
+    rt: &R,
     alloc: Global,
     g: G,
     side: Side,
     terms: Terms,
-    known: &PlaceTable,
-    watch: &W,
+    turns: &mut Turns,
+    propose: &F,
+) -> Result<Sheet, GaveUp>
+where
+    G::State: Send + Sync,
+    requires some { 1 ≤ terms.total }
+    requires light { terms.total ≤ MOST_WEIGHT }
+    requires may_call { (own : _) (some : _) → All (GoesOn (G.model g)) some.now → F.pre propose.now own some }
+    ensures { IsOwnSheet (G.model g) side terms.total turns.old turns.new result }
+{
+    let states = plan_from(alloc, g, side, terms.total, terms.rows, turns, propose)?;
+    Ok(certify_by(rt, alloc, g, side, terms, states)?)
+}
+
+/// The sheets of both sides, one after the other.
+fn both_sheets<G: Game, F: Fn(Side, &[G::State]) -> Result<Vec<Vec<u32>>, NoMemory>>(
+    alloc: Global,
+    g: G,
+    terms: Terms,
+    turns: Turns,
+    propose: &F,
+) -> (Result<(Sheet, Sheet), GaveUp>, Turns)
+    requires some { 1 ≤ terms.total }
+    requires light { terms.total ≤ MOST_WEIGHT }
+    requires may_call { (own : _) (some : _) → All (GoesOn (G.model g)) some.now → F.pre propose.now own some }
+    ensures { AreBothSheets (G.model g) terms.total terms.rows turns result.1 result.0 }
+{
+    let mut turns = turns;
+    let one = match sheet_of(alloc, g, Side::One, terms, &mut turns, propose) {
+        Ok(one) => one,
+        Err(e) => return (Err(e), turns),
+    };
+    let two = match sheet_of(alloc, g, Side::Two, terms, &mut turns, propose) {
+        Ok(two) => two,
+        Err(e) => return (Err(e), turns),
+    };
+    (Ok((one, two)), turns)
+}
+
+/// The weights of a side's moves at states, which the workers divide; those of the first ones alone, where the watch ends it.
+fn weights_by<R: Threads + Sync, G: Game + Send + Sync, W: Watch + Sync>(
+    rt: &R,
+    alloc: Global,
+    g: G,
+    side: Side,
+    terms: Terms,
+    guide: &Guide<'_, W>,
+    states: &[G::State],
+) -> Result<Vec<Vec<u32>>, NoMemory>
+where
+    G::State: Send + Sync,
+    requires states { All (GoesOn (G.model g)) states.now }
+    requires light { terms.total ≤ MOST_WEIGHT }
+{
+    let total = terms.total;
+    if terms.workers < 2 || states.len() < FEW_STATES {
+        return guide.weights_of(alloc, g, side, total, states);
+    }
+    let size = (states.len() / terms.workers.max(1) as usize).saturating_add(1);
+    let parts = thread::map_chunks(
+        rt,
+        alloc,
+        states,
+        size,
+        &|_first: usize, part: &[G::State]| -> Result<Vec<Vec<u32>>, NoMemory>
+            requires states { All (GoesOn (G.model g)) part.now }
+            requires light { total ≤ MOST_WEIGHT }
+        { guide.weights_of(alloc, g, side, total, part) },
+    )?;
+    let mut proposed = Vec::with_capacity(alloc, states.len())?;
+    for part in parts {
+        for weights in part? {
+            proposed.push(weights)?;
+        }
+    }
+    Ok(proposed)
+}
+
+/// The sheet of a side with turns of its own.
+fn side_sheet<R: Threads + Sync, G: Game + Send + Sync, W: Watch + Sync>(
+    rt: &R,
+    alloc: Global,
+    g: G,
+    side: Side,
+    terms: Terms,
+    guide: &Guide<'_, W>,
     turns: Turns,
 ) -> (Result<Sheet, GaveUp>, Turns)
+where
+    G::State: Send + Sync,
     requires some { 1 ≤ terms.total }
-    requires light { terms.total ≤ 1048576 }
+    requires light { terms.total ≤ MOST_WEIGHT }
     ensures { IsOwnSheet (G.model g) side terms.total turns result.1 result.0 }
 {
-    let stage = match Stage::new(alloc) {
-        Ok(stage) => stage,
-        Err(_) => return (Err(GaveUp::NoMemory), turns),
-    };
-    let mut guide = Guide::new(known, turns, stage, watch);
-    let sheet = sheet_of(alloc, g, side, terms, &mut guide);
-    (sheet, guide.into_turns())
+    let mut turns = turns;
+    let propose = |own: Side, states: &[G::State]| -> Result<Vec<Vec<u32>>, NoMemory>
+        requires states { All (GoesOn (G.model g)) states.now }
+        requires light { terms.total ≤ MOST_WEIGHT }
+    { weights_by(rt, alloc, g, own, terms, guide, states) };
+    let sheet = sheet_by(rt, alloc, g, side, terms, &mut turns, &propose);
+    (sheet, turns)
 }
 
 /// Why both sides gave up, where one did that had so many turns, one more than there may be states: there are too many
@@ -165,33 +227,43 @@ fn both_at_once<R: Threads + Sync, G: Game + Send + Sync, W: Watch + Sync>(
 where
     G::State: Send + Sync,
     requires some { 1 ≤ terms.total }
-    requires light { terms.total ≤ 1048576 }
+    requires light { terms.total ≤ MOST_WEIGHT }
     ensures { AreBothSheets (G.model g) terms.total terms.rows turns result.1 result.0 }
 {
     if turns.left() / 2 <= terms.rows {
-        return both_sheets(alloc, g, terms, known, watch, turns);
+        let guide = Guide::new(known, watch);
+        let propose = |side: Side, states: &[G::State]| -> Result<Vec<Vec<u32>>, NoMemory>
+            requires states { All (GoesOn (G.model g)) states.now }
+            requires light { terms.total ≤ MOST_WEIGHT }
+        { weights_by(rt, alloc, g, side, terms, &guide, states) };
+        return both_sheets(alloc, g, terms, turns, &propose);
     }
     let each = terms.rows + 1;
     let may_stop = turns.may_stop();
+    let workers = terms.workers / 2;
     let (one, two) = thread::join(
         rt,
         || -> (Result<Sheet, GaveUp>, Turns)
             requires some { 1 ≤ terms.total }
-            requires light { terms.total ≤ 1048576 }
+            requires light { terms.total ≤ MOST_WEIGHT }
             ensures { IsOwnSheet (G.model g) One terms.total (record { limit = each; spent = 0; may_stop = may_stop })
                 result.1 result.0 }
         {
             let own = Turns::with_stop(each, may_stop);
-            side_sheet(alloc, g, Side::One, terms, known, watch, own)
+            let half = Terms { workers, ..terms };
+            let guide = Guide::new(known, watch);
+            side_sheet(rt, alloc, g, Side::One, half, &guide, own)
         },
         || -> (Result<Sheet, GaveUp>, Turns)
             requires some { 1 ≤ terms.total }
-            requires light { terms.total ≤ 1048576 }
+            requires light { terms.total ≤ MOST_WEIGHT }
             ensures { IsOwnSheet (G.model g) Two terms.total (record { limit = each; spent = 0; may_stop = may_stop })
                 result.1 result.0 }
         {
             let own = Turns::with_stop(each, may_stop);
-            side_sheet(alloc, g, Side::Two, terms, known, watch, own)
+            let half = Terms { workers, ..terms };
+            let guide = Guide::new(known, watch);
+            side_sheet(rt, alloc, g, Side::Two, half, &guide, own)
         },
     );
     both_of(g, terms, one, two, turns)
@@ -305,8 +377,8 @@ where
 /// Lawful sheets of both sides with weights of this total, and a row for each undecided state that they come to. None comes
 /// only where more than `rows` states are undecided, or where no turn is left: each undecided state takes one turn, and
 /// each row of a sheet another, so no more than three for each undecided state in all. Where the watch ends it, the turns
-/// that are left are given up. Several workers divide the states of a rank, and two of them make the sheets; the sheets are
-/// the same for each number of them.
+/// that are left are given up. Several workers divide the states of a rank and those of a layer of a plan, and the sheets
+/// are made at once; they are the same for each number of workers.
 pub fn solve<R: Threads + Sync, G: Game + Send + Sync, W: Watch + Sync>(
     rt: &R,
     alloc: Global,
@@ -318,7 +390,7 @@ pub fn solve<R: Threads + Sync, G: Game + Send + Sync, W: Watch + Sync>(
 where
     G::State: Send + Sync,
     requires some { 1 ≤ terms.total }
-    requires light { terms.total ≤ 1048576 }
+    requires light { terms.total ≤ MOST_WEIGHT }
     ensures { IsInductionResult (G.model g) terms.total terms.rows turns.old turns.new result }
 {
     let workers = terms.workers;
@@ -330,7 +402,7 @@ where
     { values_by(rt, alloc, g, workers, known, states, watch) };
     let at_once = |known: &PlaceTable, turns: Turns| -> (Result<(Sheet, Sheet), GaveUp>, Turns)
         requires some { 1 ≤ terms.total }
-        requires light { terms.total ≤ 1048576 }
+        requires light { terms.total ≤ MOST_WEIGHT }
         ensures { AreBothSheets (G.model g) terms.total terms.rows turns result.1 result.0 }
     { both_at_once(rt, alloc, g, terms, known, watch, turns) };
     solve_by(alloc, g, terms, watch, turns, &divided, &at_once)
@@ -345,7 +417,7 @@ pub fn solve_alone<G: Game, W: Watch>(
     turns: &mut Turns,
 ) -> Result<Option<Induced>, NoMemory>
     requires some { 1 ≤ terms.total }
-    requires light { terms.total ≤ 1048576 }
+    requires light { terms.total ≤ MOST_WEIGHT }
     ensures { IsInductionResult (G.model g) terms.total terms.rows turns.old turns.new result }
 {
     let alone = |known: &PlaceTable, states: &[G::State]| -> Result<Vec<f64>, NoMemory>
@@ -353,8 +425,15 @@ pub fn solve_alone<G: Game, W: Watch>(
     { values_of(alloc, g, known, states, watch) };
     let in_turn = |known: &PlaceTable, turns: Turns| -> (Result<(Sheet, Sheet), GaveUp>, Turns)
         requires some { 1 ≤ terms.total }
-        requires light { terms.total ≤ 1048576 }
+        requires light { terms.total ≤ MOST_WEIGHT }
         ensures { AreBothSheets (G.model g) terms.total terms.rows turns result.1 result.0 }
-    { both_sheets(alloc, g, terms, known, watch, turns) };
+    {
+        let guide = Guide::new(known, watch);
+        let propose = |side: Side, states: &[G::State]| -> Result<Vec<Vec<u32>>, NoMemory>
+            requires states { All (GoesOn (G.model g)) states.now }
+            requires light { terms.total ≤ MOST_WEIGHT }
+        { guide.weights_of(alloc, g, side, terms.total, states) };
+        both_sheets(alloc, g, terms, turns, &propose)
+    };
     solve_by(alloc, g, terms, watch, turns, &alone, &in_turn)
 }

@@ -14,11 +14,11 @@ mod sheets;
 mod values;
 mod watch;
 
-pub use follow::{Proposer, plan_from};
+pub use follow::plan_from;
 pub use gave_up::GaveUp;
 pub use induced::{Induced, solve, solve_alone};
 use seq::Seq;
-pub use sheets::certify;
+pub use sheets::{certify, certify_by};
 pub use watch::{InductionStep, Terms, Watch};
 
 /// A state of a side's plan, with the weights of the side's moves.

@@ -43,7 +43,7 @@ pub(crate) fn list_states<G: Game, W: Watch>(
     Ok(states)
 }
 
-/// Adds the undecided states that follow a state and are not listed yet.
+/// Adds the undecided states that follow a state and are not listed yet, but for those that the game lists behind others.
 fn add_next<G: Game>(
     alloc: Global,
     g: G,
@@ -59,6 +59,10 @@ fn add_next<G: Game>(
         (AreListed (G.model g) (G.numbering g).place rows (is_put known.new) states.new.items) }
     ensures err { IfErr result (IsUnlisted (G.model g) rows) }
 {
+    let first = (g.first_listed(Side::One, s), g.first_listed(Side::Two, s));
+    if first != (0, 0) {
+        return add_behind(alloc, g, s, first, rows, known, states);
+    }
     transitions.clear();
     g.add_transitions(s, transitions)?;
     let mut next: usize = 0;
@@ -69,6 +73,33 @@ fn add_next<G: Game>(
                     add(alloc, g, g.drawn(s, a, b, d), rows, known, states)?;
                 }
                 next = next.wrapping_add(1);
+            }
+        }
+    }
+    Ok(())
+}
+
+/// Adds those undecided states that follow a state by these moves of both sides and the moves behind them, and are not
+/// listed yet.
+fn add_behind<G: Game>(
+    alloc: Global,
+    g: G,
+    s: G::State,
+    first: (u32, u32),
+    rows: u64,
+    known: &mut PlaceTable,
+    states: &mut Vec<G::State>,
+) -> Result<(), GaveUp>
+    requires reachable { Reachable (G.model g) s }
+    requires listed { AreListed (G.model g) (G.numbering g).place rows (is_put known.old) states.old.items }
+    ensures listed { OnOk result
+        (AreListed (G.model g) (G.numbering g).place rows (is_put known.new) states.new.items) }
+    ensures err { IfErr result (IsUnlisted (G.model g) rows) }
+{
+    for a in first.0..g.moves(Side::One, s) {
+        for b in first.1..g.moves(Side::Two, s) {
+            for d in 0..g.draws(s, a, b) {
+                add(alloc, g, g.drawn(s, a, b, d), rows, known, states)?;
             }
         }
     }

@@ -2,17 +2,17 @@
 //! they propose. Nothing is promised of how near the values are.
 
 ghost use Rattle.std.specs.Prelude.{◌≡◌, ◌⊎◌, ℕ, ◌+◌, ◌<◌, ◌≤◌, ◌*◌, length, All, IfErr, IfOk, OnOk};
+ghost use Rattle.sums.specs.declared.TheConstants.{MOST_WEIGHT};
 ghost use Rattle.sim_game.specs.Model.{Reachable};
-ghost use Rattle.plan_book.specs.Plans.{AreWeights};
 ghost use Rattle.matrix_game.specs.Budget.{left_of, HasGivenUp};
 ghost use Rattle.induction.specs.Listed.{GoesOn, HasValues};
 ghost use Rattle.induction.specs.Spent.{HasSpent, IsReason, IsStopped};
 ghost use Rattle.induction.specs.Undecided.{HasUndecided};
 
+use crate::GaveUp;
 use crate::listed::list_states;
 use crate::places::PlaceTable;
 use crate::watch::{InductionStep, Watch};
-use crate::{GaveUp, Proposer};
 use matrix_game::{FloatSolver, Turns};
 use sim_game::{CHANCE, Game, NoMemory, Side, Transition};
 use std::alloc::{AllocError, Global};
@@ -28,12 +28,10 @@ pub(crate) struct Values {
     turns: Turns,
 }
 
-/// What proposes weights by values that are made.
+/// Values that are made, and what may end the plans by them.
 #[derive(Drop)]
 pub(crate) struct Guide<'a, W> {
     known: &'a PlaceTable,
-    turns: Turns,
-    stage: Stage,
     watch: &'a W,
 }
 
@@ -82,7 +80,11 @@ fn cell<G: Game>(
                 bits => f64_from_bits_with_nan(bits),
             };
             let number = value + f64::from(transition.reward);
-            mean += number * (f64::from(transition.chance) / f64::from(CHANCE));
+            mean += if transition.chance == CHANCE {
+                number
+            } else {
+                number * (f64::from(transition.chance) / f64::from(CHANCE))
+            };
         }
         *next = next.wrapping_add(1);
     }
@@ -143,6 +145,37 @@ impl Stage {
         let cols = g.moves(Side::Two, s) as usize;
         let turns = &mut Turns::new(1);
         Ok(self.solver.value(rows, cols, &self.cells, turns))
+    }
+
+    /// Weights of a side's moves at a state, which sum to the total. The turn that they take is the caller's to spend.
+    fn weights<G: Game>(
+        &mut self,
+        alloc: Global,
+        known: &PlaceTable,
+        g: G,
+        side: Side,
+        total: u32,
+        s: G::State,
+    ) -> Result<Vec<u32>, AllocError>
+        requires state { GoesOn (G.model g) s }
+        requires light { total ≤ MOST_WEIGHT }
+    {
+        self.read(known, g, s)?;
+        let rows = g.moves(Side::One, s);
+        let cols = g.moves(Side::Two, s);
+        let turns = &mut Turns::new(1);
+        let (own, other) = (rows as usize, cols as usize);
+        match side {
+            Side::One => {
+                let cells = &self.cells;
+                self.solver.weights(alloc, own, other, cells, total, turns)
+            }
+            Side::Two => {
+                self.turn(rows, cols)?;
+                let cells = &self.turned;
+                self.solver.weights(alloc, other, own, cells, total, turns)
+            }
+        }
     }
 }
 
@@ -212,26 +245,37 @@ fn mirrored_values<G: Game, W: Watch>(
     Ok(values)
 }
 
-/// The states of a rank that are solved, or those that get the value of their mirror image; no more than so many.
-fn take_rank<G: Game>(
+/// The states by when they get values: at twice their rank those that are solved, and behind them those that get the value
+/// of their mirror image.
+fn halves_of<G: Game>(
+    alloc: Global,
     g: G,
     states: &[G::State],
-    rank: u32,
-    mirrored: bool,
-    most: usize,
-    chosen: &mut Vec<G::State>,
-) -> Result<(), AllocError>
+) -> Result<Vec<Vec<G::State>>, AllocError>
     requires { All (GoesOn (G.model g)) states.now }
-    ensures each { OnOk result (All (GoesOn (G.model g)) chosen.new.items) }
-    ensures few { OnOk result (length chosen.new.items ≤ most) }
+    ensures { IfOk result (λ halves. All (λ half. All (GoesOn (G.model g)) half.items) halves.items) }
 {
-    chosen.clear();
+    let count = 2 * g.rank(g.root()) as usize + 2;
+    let mut halves = Vec::with_capacity(alloc, count)?;
+    for _ in 0..count {
+        halves.push(Vec::new(alloc))?;
+    }
     for s in states {
-        if g.rank(*s) == rank && is_mirrored(g, *s) == mirrored && chosen.len() < most {
-            chosen.push(*s)?;
+        let half = 2 * g.rank(*s) as usize + is_mirrored(g, *s) as usize;
+        if half < halves.len() {
+            halves[half].push(*s)?;
         }
     }
-    Ok(())
+    Ok(halves)
+}
+
+/// The first states, at most so many.
+fn first_of<G: Game>(_g: G, states: &[G::State], most: usize) -> &[G::State]
+    requires { All (GoesOn (G.model _g)) states.now }
+    ensures each { All (GoesOn (G.model _g)) result.now }
+    ensures few { length result.now ≤ most }
+{
+    &states[..states.len().min(most)]
 }
 
 impl Values {
@@ -313,92 +357,46 @@ pub(crate) fn value_states<
         0 values.old.turns values.new.turns) }
 {
     let states = list_states(alloc, g, values.rows, watch, &mut values.known)?;
-    let mut missing = states.len();
-    let mut chosen = Vec::new(alloc);
-    for half in 0..2 * g.rank(g.root()) {
-        let mirrored = half % 2 == 1;
-        take_rank(g, &states, half / 2 + 1, mirrored, missing, &mut chosen)?;
-        values.give(alloc, g, watch, &chosen, mirrored, values_of)?;
-        missing -= chosen.len();
+    let count = states.len();
+    let halves = halves_of(alloc, g, &states)?;
+    drop(states);
+    let mut missing = count;
+    for half in 0..halves.len() {
+        let some = first_of(g, &halves[half], missing);
+        values.give(alloc, g, watch, some, half % 2 == 1, values_of)?;
+        missing -= some.len();
     }
     Ok(())
 }
 
 impl<'a, W> Guide<'a, W> {
-    /// Proposals by these values. Each takes a turn.
-    pub(crate) fn new(
-        known: &'a PlaceTable,
-        turns: Turns,
-        stage: Stage,
-        watch: &'a W,
-    ) -> Guide<'a, W>
-        ensures { result.turns ≡ turns }
-    {
-        Guide {
-            known,
-            turns,
-            stage,
-            watch,
-        }
-    }
-
-    /// The turns, with those that are spent.
-    pub(crate) fn into_turns(self) -> Turns
-        ensures { result ≡ self.entry.turns }
-    {
-        let Guide { turns, .. } = self;
-        turns
+    /// Proposals by these values.
+    pub(crate) fn new(known: &'a PlaceTable, watch: &'a W) -> Guide<'a, W> {
+        Guide { known, watch }
     }
 }
 
 impl<W: Watch> Guide<'_, W> {
-    /// Gives up the turns that are left, if they may be, where the watch ends the induction.
-    fn ask(&mut self)
-        ensures { (self.new.turns ≡ self.old.turns) ⊎ HasGivenUp self.old.turns self.new.turns }
-    {
-        if !self.watch.goes_on(InductionStep::Plan) {
-            self.turns.stop();
-        }
-    }
-}
-
-impl<'a, G: Game, W: Watch> Proposer<G> for Guide<'a, W> {
-    ghost turns = { λ guide. guide.turns };
-
-    #[tactic(auto, using(crate::proofs::SpentLemmas::asked_spent, crate::proofs::SpentLemmas::turn_spent))]
-    fn propose(
-        &mut self,
+    /// Weights of a side's moves at states, one list for each; those of the first ones alone, where the watch ends it.
+    pub(crate) fn weights_of<G: Game>(
+        &self,
         alloc: Global,
         g: G,
         side: Side,
         total: u32,
-        s: G::State,
-    ) -> Result<Vec<u32>, GaveUp> {
-        self.ask();
-        if self.turns.left() == 0 {
-            return Err(GaveUp::Spent);
+        states: &[G::State],
+    ) -> Result<Vec<Vec<u32>>, NoMemory>
+        requires states { All (GoesOn (G.model g)) states.now }
+        requires light { total ≤ MOST_WEIGHT }
+    {
+        let mut stage = Stage::new(alloc)?;
+        let mut proposed = Vec::with_capacity(alloc, states.len())?;
+        for s in states {
+            if !self.watch.goes_on(InductionStep::Plan) {
+                break;
+            }
+            proposed.push(stage.weights(alloc, self.known, g, side, total, *s)?)?;
         }
-        let stage = &mut self.stage;
-        stage.read(self.known, g, s)?;
-        let rows = g.moves(Side::One, s);
-        let cols = g.moves(Side::Two, s);
-        let turns = &mut self.turns;
-        let (own, other) = (rows as usize, cols as usize);
-        let weights = match side {
-            Side::One => {
-                let cells = &stage.cells;
-                stage
-                    .solver
-                    .weights(alloc, own, other, cells, total, turns)?
-            }
-            Side::Two => {
-                stage.turn(rows, cols)?;
-                let cells = &stage.turned;
-                stage
-                    .solver
-                    .weights(alloc, other, own, cells, total, turns)?
-            }
-        };
-        Ok(weights)
+        Ok(proposed)
     }
 }

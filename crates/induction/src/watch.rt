@@ -11,6 +11,9 @@ pub struct Terms {
     pub workers: u32,
 }
 
+/// So few states are no work to divide.
+pub(crate) const FEW_STATES: usize = 256;
+
 /// What is to be done next at a state.
 #[derive(Clone, Copy, PartialEq, Eq, Debug)]
 pub enum InductionStep {

@@ -16,7 +16,7 @@ use Rattle.plan_book.specs.declared.Entry.{Entry}
 use Rattle.plan_book.specs.declared.Sheet.{Sheet}
 use Rattle.plan_book.specs.declared.SheetRow.{SheetRow}
 use Rattle.plan_book.specs.Books.{IsClosed, IsBooked, IsBestSheet, best_entry, best_posted, best_row, row_of, book_bound}
-use Rattle.plan_book.specs.Entries.{IsEntry}
+use Rattle.plan_book.specs.Entries.{IsEntry, IsPureEntry}
 use Rattle.plan_book.specs.Plans.{one_move}
 use Rattle.plan_book.specs.Sheets.{IsLawful, IsReached, root_bound, plan_of}
 use Rattle.plan_book.specs.Expected.{Guarantees}
@@ -26,7 +26,6 @@ use Rattle.plan_book.proofs.BookLemmas.{IsRanged, bound_kept, best_kept, best_ra
 use Rattle.plan_book.proofs.ExpectedLemmas.{is_same, is_other}
 use Rattle.plan_book.proofs.SheetLemmas.{sheet_guarantees}
 use Rattle.bounds_board.proofs.KnownLemmas.{better_has, state_in}
-use Rattle.serial_ab.specs.Searches.{IsPureEntry}
 use Rattle.fields.specs.declared.ask.Ask.{Ask}
 use Rattle.fields.specs.declared.ask.StageMethod.{StageMethod}
 use Rattle.fields.specs.declared.ask.SearchMethod.{SearchMethod}

@@ -9,6 +9,7 @@ use Rattle.sim_game.specs.declared.Side.TheVariants.{One, Two}
 use Rattle.sim_game.specs.Model.{GameModel}
 use Rattle.sim_game.specs.Sides.{IsNoTighter, state_bound}
 use Rattle.sim_game.proofs.SideLemmas.{looser_trans}
+use Rattle.plan_book.specs.Entries.{IsPureEntry}
 use Rattle.plan_book.specs.Serial.{serial_bound}
 use Rattle.sim_game.specs.declared.NoMemory.{NoMemory}
 use Rattle.bounds_board.proofs.KnownLemmas.{better_more}
@@ -24,7 +25,6 @@ use Rattle.fields.specs.declared.ask.Ask.{Ask}
 use Rattle.lazy_workers.specs.declared.jobs.Done.{Done}
 use Rattle.lazy_workers.specs.declared.jobs.Job.{Job}
 use Rattle.matrix_game.specs.Budget.{Budget}
-use Rattle.serial_ab.specs.Searches.{IsPureEntry}
 use Rattle.lazy_workers.specs.declared.budgets.Begun.{Begun}
 use Rattle.lazy_workers.specs.Keeping.{HasLimit}
 use Rattle.lazy_workers.specs.Searched.{IsFar, HasFound}

@@ -10,13 +10,13 @@ use Rattle.sim_game.specs.Model.{GameModel, IsGame}
 use Rattle.sim_game.specs.Sides.{IsNoTighter, better, state_bound}
 use Rattle.sim_game.specs.Resolution.{IsResolution}
 use Rattle.sim_game.proofs.SideLemmas.{looser_trans, better_left}
+use Rattle.plan_book.specs.Entries.{IsPureEntry}
 use Rattle.plan_book.specs.declared.Entry.{Entry}
 use Rattle.plan_book.specs.Books.{IsClosed, IsBooked, best_posted, book_bound}
 use Rattle.plan_book.proofs.BookLemmas.{best_backed, best_range}
 use Rattle.plan_book.proofs.ExpectedLemmas.{is_other}
 use Rattle.bounds_board.specs.Views.{IsEnclosure}
 use Rattle.bounds_board.proofs.KnownLemmas.{better_more}
-use Rattle.serial_ab.specs.Searches.{IsPureEntry}
 use Rattle.matrix_game.specs.Budget.{Budget}
 use Rattle.shared_board.specs.Rule.{Has}
 use Rattle.shared_board.specs.Passes.{seen_by}

@@ -12,9 +12,9 @@ use Rattle.sim_game.specs.Resolution.{IsStageGap, payoff_range}
 use Rattle.sim_game.specs.Sides.{end_bound}
 use Rattle.sim_game.proofs.SideLemmas.{looser_refl}
 use Rattle.sim_game.proofs.ResolutionLemmas.{least_exists}
+use Rattle.plan_book.specs.Entries.{IsPureEntry}
 use Rattle.plan_book.specs.declared.Entry.{Entry}
 use Rattle.plan_book.specs.Books.{book_bound}
-use Rattle.serial_ab.specs.Searches.{IsPureEntry}
 use Rattle.plan_book.specs.Serial.{tree_size}
 use Rattle.plan_book.proofs.ExpectedLemmas.{is_same}
 use Rattle.serial_ab.proofs.ValueLemmas.{serial_end}

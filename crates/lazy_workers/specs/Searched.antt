@@ -5,10 +5,10 @@ use Rattle.sim_game.specs.declared.Side.TheVariants.{One, Two}
 use Rattle.sim_game.specs.Model.{GameModel, HasAtMost}
 use Rattle.sim_game.specs.Sides.{IsNoTighter}
 use Rattle.sim_game.specs.Resolution.{IsResolution}
+use Rattle.plan_book.specs.Entries.{IsPureEntry}
 use Rattle.plan_book.specs.declared.Entry.{Entry}
 use Rattle.plan_book.specs.Books.{IsClosed, book_bound}
 use Rattle.plan_book.specs.Serial.{serial_bound, tree_size}
-use Rattle.serial_ab.specs.Searches.{IsPureEntry}
 use Rattle.matrix_game.specs.Budget.{Budget}
 use Rattle.shared_board.specs.Closing.{HasKey, IsKeptRow}
 use Rattle.shared_board.specs.declared.close.Kept.{Kept}

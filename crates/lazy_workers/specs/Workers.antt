@@ -5,14 +5,14 @@ use Rattle.sim_game.specs.declared.Side.TheVariants.{One, Two}
 use Rattle.sim_game.specs.Model.{GameModel}
 use Rattle.sim_game.specs.Sides.{IsNoTighter, better, state_bound}
 use Rattle.sim_game.specs.Resolution.{IsStageGap}
+use Rattle.plan_book.specs.Entries.{IsPureEntry}
 use Rattle.matrix_game.specs.Budget.{Budget}
 use Rattle.bounds_board.specs.Views.{IsInnerKey}
-use Rattle.serial_ab.specs.Searches.{IsPureEntry}
 use Rattle.fields.specs.declared.ask.Ask.{Ask}
 use Rattle.fields.specs.Ranges.{IsAskInRange}
 use Rattle.shared_board.specs.Rule.{Has}
 use Rattle.shared_board.specs.Passes.{seen_by}
-use Rattle.shared_board.specs.Values.{BoardValue, IsPassOf}
+use Rattle.shared_board.specs.Values.{BoardValue, PassValue, IsPassOf}
 use Rattle.shared_board.specs.Bare.{pass_of, IsSoundPass}
 use Rattle.shared_board.specs.declared.view.View.{View}
 use Rattle.shared_board.specs.declared.pass.BarePass.{BarePass}
@@ -30,6 +30,12 @@ pub record IsLead {G : Type 0} (v : View G) (drawn held : ℕ) : Type 0 where
   pub leads : v.lead ≡ true
   pub draws : v.issued ≡ drawn
   pub holds : length v.tickets ≡ held
+
+-- the lead's pass of the board, which has no entries yet
+pub record IsNewLead {G : Type 0} (b : BoardValue G) (p : PassValue G) : Type 0 where
+  pub ours : IsPassOf b p
+  pub leads : p.view.lead ≡ true
+  pub none : p.entries ≡ []
 
 -- a pass of the board that holds one number and is not the lead's
 pub record IsWorkerPass {S G : Type 0} (model : G → GameModel S) (b : BoardValue G) (p : BarePass G) : Type 0 where

@@ -1,12 +1,12 @@
 //! The work of each worker, from its pass to the lead's.
 
+ghost use Rattle.plan_book.specs.Entries.{IsPureEntry};
 ghost use Rattle.std.specs.Prelude.{◌≡◌, ◌+◌, ◌<◌, ◌≤◌, true, [], length, All, IfOk};
-ghost use Rattle.serial_ab.specs.Searches.{IsPureEntry};
 ghost use Rattle.shared_board.specs.Values.{IsPassOf};
 ghost use Rattle.shared_board.specs.Passes.{seen_by};
 ghost use Rattle.lazy_workers.specs.Solvers.{solver_kind};
 ghost use Rattle.lazy_workers.specs.Keeping.{AreBudgets};
-ghost use Rattle.lazy_workers.specs.Workers.{IsBoardFor, IsLead, IsJob, IsJobDone, IsNoLooser, HasView};
+ghost use Rattle.lazy_workers.specs.Workers.{IsBoardFor, IsLead, IsNewLead, IsJob, IsJobDone, IsNoLooser, HasView};
 
 use crate::budgets::{Begun, Budgets};
 use fields::{Ask, StageMethod};
@@ -136,11 +136,9 @@ pub(crate) fn join_all<G: Game>(
     begun: Begun,
 ) -> Result<bool, NoMemory>
     requires board { IsBoardFor G.model g board.now ask.now }
-    requires ours { IsPassOf board.now lead.old }
-    requires lead { lead.old.view.lead ≡ true }
+    requires lead { IsNewLead board.now lead.old }
     requires found { All (λ r. IfOk r (IsJobDone G.model g board.now ask.now begun)) found.items }
     requires none { turns.old.items ≡ [] }
-    requires entries { lead.old.entries ≡ [] }
     ensures ours { IfOk result (λ _. IsPassOf board.now lead.new) }
     ensures lead { IfOk result (λ _. IsLead lead.new.view lead.old.view.issued
         (length lead.old.view.tickets + length found.items)) }

@@ -4,6 +4,7 @@ pub mod Grid
 pub mod Heights
 pub mod Memories
 pub mod Plans
+pub mod Replies
 pub mod Rounds
 pub mod Shifts
 pub mod Solvers

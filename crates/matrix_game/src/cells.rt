@@ -2,7 +2,8 @@
 
 ghost use Rattle.std.specs.Prelude.{◌≡◌, ◌↔◌, ℕ, IsTrue, IsOk, IfOk, IfSome, IfNone, ◌+◌, ◌*◌, ◌<◌, ◌≤◌, length, All, pos, ◌+ℤ◌, ◌*ℤ◌, unsigned_abs, slice_index_or, ◌≤ℤ◌};
 ghost use Rattle.sums.specs.declared.TheConstants.{MOST_MOVES, MOST_WEIGHT, MOST_BOUND};
-ghost use Rattle.matrix_game.specs.Grid.{IsSaddle, IsFirstSaddle, HasGoodShape, IsSmallCell, IsFirstLarge, IsSpread, cell_at, column_sum, row_sum, best_reply, row_floor, col_ceiling};
+ghost use Rattle.matrix_game.specs.Grid.{IsSaddle, IsFirstSaddle, HasGoodShape, IsSmallCell, IsFirstLarge, IsSpread, cell_at, column_sum, row_sum, row_floor, col_ceiling};
+ghost use Rattle.matrix_game.specs.Replies.{IsReplyTo};
 
 use std::marker::Model;
 use sums::{MOST_BOUND, MOST_MOVES, weighted};
@@ -187,10 +188,7 @@ impl Matrix {
     pub(crate) fn best_reply(&self, p: &[u32]) -> Reply
         requires weights { length p.now ≡ self.now.rows }
         requires light { All (λ x. x ≤ MOST_WEIGHT) p.now }
-        ensures col { result.col ≡ best_reply self.now p.now }
-        ensures paid { result.paid ≡ row_floor self.now p.now }
-        ensures col_in { result.col < self.now.cols }
-        ensures bounded { unsigned_abs result.paid ≤ MOST_MOVES * (MOST_WEIGHT * MOST_BOUND) }
+        ensures { IsReplyTo self.now p.now result }
     {
         let cols = self.cols;
         let mut reply = Reply {

@@ -1,10 +1,11 @@
 //! The cells of a matrix, laid out so that eight of its columns are summed at once.
 
-ghost use Rattle.std.specs.Prelude.{◌≡◌, ℕ, IfOk, IfSome, ◌+◌, ◌*◌, ◌<◌, ◌≤◌, length, pos, slice_index, slice_index_or, sum, replicate, All, ◌+ℤ◌, ◌≤ℤ◌, ◌<ℤ◌, unsigned_abs};
+ghost use Rattle.std.specs.Prelude.{◌≡◌, ℕ, IfOk, IfSome, ◌+◌, ◌*◌, ◌<◌, ◌≤◌, length, pos, slice_index, slice_index_or, All, ◌+ℤ◌, ◌≤ℤ◌, ◌<ℤ◌, unsigned_abs};
 ghost use Rattle.sums.specs.declared.TheConstants.{MOST_MOVES, MOST_WEIGHT, MOST_BOUND};
 ghost use Rattle.sums.specs.Sums.{count_below};
-ghost use Rattle.matrix_game.specs.Grid.{cell_at, best_reply, row_floor, first_least};
-ghost use Rattle.matrix_game.specs.Heights.{AreHeights};
+ghost use Rattle.matrix_game.specs.Grid.{cell_at, first_least};
+ghost use Rattle.matrix_game.specs.Heights.{AreHeights, AreHeightsOf};
+ghost use Rattle.matrix_game.specs.Replies.{IsReplyTo};
 ghost use Rattle.matrix_game.specs.Rounds.{IsWeighted};
 
 use crate::cells::{Matrix, Reply};
@@ -139,10 +140,7 @@ impl Matrix {
 
     /// The heights of the cells, where they serve and fit.
     pub(crate) fn heights(&self, alloc: Global) -> Result<Option<Heights>, AllocError>
-        ensures cells { IfOk result (λ found. IfSome found
-            (λ h. AreHeights self.now h.least (8 * h.blocks) h.cells.items)) }
-        ensures rows { IfOk result (λ found. IfSome found (λ h. h.rows ≡ self.now.rows)) }
-        ensures small { IfOk result (λ found. IfSome found (λ h. unsigned_abs h.least ≤ MOST_BOUND)) }
+        ensures { IfOk result (λ found. IfSome found (AreHeightsOf self.now)) }
     {
         let range = self.range();
         let least = range.least;
@@ -163,17 +161,12 @@ impl Matrix {
     // a round of few columns is short.
     #[inline(never)]
     fn lane_reply(&self, weight: u32, p: &[u32], heights: &Heights, sums: &mut [u64]) -> Reply
-        requires cells { AreHeights self.now heights.now.least (8 * heights.now.blocks) heights.now.cells.items }
-        requires rows { heights.now.rows ≡ self.now.rows }
-        requires small { unsigned_abs heights.now.least ≤ MOST_BOUND }
+        requires heights { AreHeightsOf self.now heights.now }
         requires weights { IsWeighted self.now.rows weight p.now }
         requires light { All (λ x. x ≤ MOST_WEIGHT) p.now }
         requires light_weight { weight ≤ MOST_WEIGHT }
         requires room { 8 * heights.now.blocks ≤ length sums.old }
-        ensures col { result.col ≡ best_reply self.now p.now }
-        ensures paid { result.paid ≡ row_floor self.now p.now }
-        ensures col_in { result.col < self.now.cols }
-        ensures bounded { unsigned_abs result.paid ≤ MOST_MOVES * (MOST_WEIGHT * MOST_BOUND) }
+        ensures { IsReplyTo self.now p.now result }
     {
         let cols = self.cols;
         heights.sum_rows(p, sums);
@@ -184,17 +177,11 @@ impl Matrix {
 
     // The first column in which the weights of the rows, which sum to `weight`, pay least.
     pub(crate) fn reply(&self, weight: u32, p: &[u32], heights: &Option<Heights>) -> Reply
-        requires cells { IfSome heights.now (λ h. AreHeights self.now h.least (8 * h.blocks) h.cells.items) }
-        requires rows { IfSome heights.now (λ h. h.rows ≡ self.now.rows) }
-        requires small { IfSome heights.now (λ h. unsigned_abs h.least ≤ MOST_BOUND) }
-        requires weights { length p.now ≡ self.now.rows }
+        requires heights { IfSome heights.now (AreHeightsOf self.now) }
+        requires weights { IsWeighted self.now.rows weight p.now }
         requires light { All (λ x. x ≤ MOST_WEIGHT) p.now }
-        requires weight { sum p.now ≡ weight }
         requires light_weight { weight ≤ MOST_WEIGHT }
-        ensures col { result.col ≡ best_reply self.now p.now }
-        ensures paid { result.paid ≡ row_floor self.now p.now }
-        ensures col_in { result.col < self.now.cols }
-        ensures bounded { unsigned_abs result.paid ≤ MOST_MOVES * (MOST_WEIGHT * MOST_BOUND) }
+        ensures { IsReplyTo self.now p.now result }
     {
         match heights {
             // To clear room for all columns that there may be takes as long as a round of a few.

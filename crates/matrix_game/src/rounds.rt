@@ -3,7 +3,7 @@
 ghost use Rattle.std.specs.Prelude.{◌≡◌, ℕ, IsTrue, IfOk, IfSome, ◌*◌, ◌^◌, ◌<◌, ◌≤◌, length, map, slice_index, sum, replicate, unsigned_abs};
 ghost use Rattle.sums.specs.declared.TheConstants.{MOST_MOVES, MOST_WEIGHT, MOST_BOUND};
 ghost use Rattle.matrix_game.specs.Grid.{HasRegretRoom, IsSpread};
-ghost use Rattle.matrix_game.specs.Heights.{AreHeights};
+ghost use Rattle.matrix_game.specs.Heights.{AreHeightsOf};
 ghost use Rattle.matrix_game.specs.Rounds.{raised_regret, raised_regrets, rounds, best_mixture, reply_counts};
 
 use crate::cells::{Matrix, Reply};
@@ -99,9 +99,7 @@ impl Matrix {
         requires some { 1 ≤ weight }
         requires light { weight ≤ MOST_WEIGHT }
         requires room { HasRegretRoom self.now weight R.limit }
-        requires heights { IfSome heights.now (λ h. AreHeights self.now h.least (8 * h.blocks) h.cells.items) }
-        requires height_rows { IfSome heights.now (λ h. h.rows ≡ self.now.rows) }
-        requires small_least { IfSome heights.now (λ h. unsigned_abs h.least ≤ MOST_BOUND) }
+        requires heights { IfSome heights.now (AreHeightsOf self.now) }
         requires regrets { map R.number regrets.old ≡ replicate self.now.rows 0 }
         requires mixture { length mixture.old ≡ self.now.rows }
         requires best { best.old ≡ replicate self.now.rows 0 }

@@ -8,7 +8,7 @@ use Rattle.sim_game.specs.declared.Side.TheVariants.{One, Two}
 use Rattle.sim_game.specs.Model.{GameModel, IsGame, Reachable}
 use Rattle.sim_game.specs.Sides.{opening_bound}
 use Rattle.plan_book.specs.declared.Entry.{Entry}
-use Rattle.plan_book.specs.Entries.{IsLawfulEntry}
+use Rattle.plan_book.specs.Entries.{IsLawfulEntry, IsPureEntry}
 use Rattle.plan_book.specs.Books.{Grows}
 use Rattle.plan_book.specs.Serial.{serial_bound}
 use Rattle.plan_book.proofs.BackedLemmas.{backed_meet}
@@ -16,29 +16,21 @@ use Rattle.plan_book.proofs.SerialLemmas.{serial_backed}
 use Rattle.bounds_board.specs.declared.bounds.Enclosure.{Enclosure}
 use Rattle.bounds_board.specs.Views.{BoardView, IsEnclosure, known_bound, bound_in}
 use Rattle.bounds_board.proofs.PlainLemmas.{range_fits}
-use Rattle.bounds_board.proofs.ViewLemmas.{later_trans}
 use Rattle.serial_ab.specs.Counts.{VisitsView}
-use Rattle.serial_ab.specs.Searches.{IsPureEntry, IsSerialKept}
+use Rattle.serial_ab.specs.Searches.{IsSerialKept}
 use Rattle.serial_ab.specs.Ends.{IsValue}
 use Rattle.serial_ab.specs.declared.windowed.SerialEnd.{SerialEnd}
 use Rattle.serial_ab.specs.declared.windowed.SerialEnd.TheVariants.{Exact, AtLeast, AtMost, Cut}
-use Rattle.serial_ab.proofs.KeptLemmas.{grows_after}
 use Rattle.serial_ab.proofs.ValueLemmas.{serial_from, serial_to}
+use Rattle.restricted_game.specs.Nodes.{IsBetter}
 use Rattle.oracle_search.specs.Finished.{IsWithin}
-use Rattle.oracle_search.specs.Searches.{IsBetter, IsPureTight, IsAhead, number_in, IsFoundBelow, IsFoundAbove}
+use Rattle.oracle_search.specs.Searches.{IsPureTight, IsAhead, number_in, IsFoundBelow, IsFoundAbove}
 
 pub grows_weaker : (P Q : Entry → Type 0) (xs ys : List Entry) → ((e : Entry) → P e → Q e) → Grows P xs ys → Grows Q xs ys
 grows_weaker P Q xs ys f p = record { more = p.more; joins = p.joins; each = All-weaker P Q f p.more p.each }
 
-module _ {S G N : Type 0} (m : GameModel S) (total : ℕ) where
-  pub better_trans : (u v w : BoardView G N) → IsBetter m total u v → IsBetter m total v w → IsBetter m total u w
-  better_trans u v w p q = record {
-    later = later_trans u v w p.later q.later;
-    posted = grows_after (IsLawfulEntry m total) u.entries v.entries w.entries p.posted q.posted;
-  }
-
 -- a serial search
-pub better_serial : {S G N : Type 0} (m : GameModel S) (side : Side) (most : ℕ) (u v : BoardView G N) (x y : VisitsView) → IsSerialKept m side most u v x y → IsBetter m u.total u v
+pub better_serial : {S G N : Type 0} (m : GameModel S) (side : Side) (most : ℕ) (u v : BoardView G N) (x y : VisitsView) → IsSerialKept m side most u v x y → IsBetter m u v
 better_serial m side most u v x y kept = record {
   later = kept.later;
   posted = grows_weaker (IsPureEntry m u.total) (IsLawfulEntry m u.total) u.entries v.entries (λ e p. p.lawful) kept.posted;

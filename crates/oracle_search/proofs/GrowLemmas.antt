@@ -15,6 +15,7 @@ use Rattle.restricted_game.specs.declared.held.StepEnd.TheVariants.{Grown, Done}
 use Rattle.restricted_game.specs.Children.{KeptRows, AreChildRows}
 use Rattle.restricted_game.specs.Gaps.{AreClose, HasStepGap}
 use Rattle.restricted_game.specs.Held.{HeldMoves, count_held, count_moves, held_after}
+use Rattle.restricted_game.specs.Nodes.{FitsState}
 use Rattle.oracle_search.specs.declared.ends.SearchEnd.{SearchEnd}
 use Rattle.oracle_search.specs.declared.ends.SearchEnd.TheVariants.{Reached, Settled, Spent, Full}
 use Rattle.oracle_search.specs.declared.ends.Stop.{Stop}
@@ -146,8 +147,7 @@ pub record IsGrowing {S G N : Type 0} (m : GameModel S) (s : S) (places : KeptRo
   pub worked : IsWorked m s old new
   pub turns : TakesWithin (growth_turns m) 2 (count_held held) (m.rank s) old.worker new.worker
   pub few : count_held held ≤ growth_turns m + 1
-  pub rows : held.most_rows ≡ m.moves One s
-  pub cols : held.most_cols ≡ m.moves Two s
+  pub fits : FitsState m s held
   pub children : AreChildRows m new.board s places
 
 after_rows : (h : HeldMoves) (end : StepEnd) → (held_after h end).most_rows ≡ h.most_rows
@@ -164,8 +164,7 @@ module _ {S G N : Type 0} {m : GameModel S} {s : S} (goes_on : 1 ≤ m.rank s) w
     worked = worked_none kept;
     turns = begun_within first.two;
     few = omega arith;
-    rows = first.rows;
-    cols = first.cols;
+    fits = record { rows = first.rows; cols = first.cols };
     children = children;
   }
 
@@ -182,8 +181,7 @@ module _ {S G N : Type 0} {m : GameModel S} {s : S} (goes_on : 1 ≤ m.rank s) w
       worked = worked_after g.worked worked;
       turns = passed_within worked g.few goes_on g.turns taken;
       few = g.few;
-      rows = g.rows;
-      cols = g.cols;
+      fits = g.fits;
       children = children;
     }
 
@@ -196,13 +194,12 @@ module _ {S G N : Type 0} {m : GameModel S} {s : S} (goes_on : 1 ≤ m.rank s) w
         → IsGame m → Reachable m s → (count_held held < count_held new) × (count_held new ≤ count_moves new) → AreChildRows m w.board s ys → IsGrowing m s ys new u w
     growing_more {new = new} end worked turn same after game reach rises children =
         let more = rises.0 in
-        let rows : new.most_rows ≡ m.moves One s = ap (λ (h : HeldMoves). h.most_rows) after ∙ after_rows held end ∙ g.rows in
-        let cols : new.most_cols ≡ m.moves Two s = ap (λ (h : HeldMoves). h.most_cols) after ∙ after_cols held end ∙ g.cols in record {
+        let rows : new.most_rows ≡ m.moves One s = ap (λ (h : HeldMoves). h.most_rows) after ∙ after_rows held end ∙ g.fits.rows in
+        let cols : new.most_cols ≡ m.moves Two s = ap (λ (h : HeldMoves). h.most_cols) after ∙ after_cols held end ∙ g.fits.cols in record {
           worked = worked_after g.worked worked;
           turns = within_turn (omega arith) g.turns turn same;
           few = omega (arith, rises.1, rows, cols, game.moves_high One s reach, game.moves_high Two s reach, game.width_low);
-          rows = rows;
-          cols = cols;
+          fits = record { rows = rows; cols = cols };
           children = children;
         }
 

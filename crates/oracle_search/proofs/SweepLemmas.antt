@@ -23,7 +23,7 @@ use Rattle.oracle_search.specs.declared.ends.Stop.{Stop}
 use Rattle.oracle_search.specs.Finished.{IsWithin, IsBeyond, IsClose, AreFinished, AreAdded}
 use Rattle.oracle_search.specs.Searches.{HasKept, IsBoardFull, IsWorked, IsWorkedBelow, Ends, HasTurn, HasEnded}
 use Rattle.oracle_search.specs.Sweeps.{HasSwept, TakesOne, IsSweepEnd, AreAllDone, IsFullHeld, TakesSweeps, EndsBySweeps, LeavesToNext, HasBounded}
-use Rattle.oracle_search.specs.Workers.{WorkerView, WorkView, at_work, with_full, with_swept}
+use Rattle.oracle_search.specs.Workers.{WorkerView, WorkView, at_work, at_start, with_full, with_swept, without_full}
 use Rattle.oracle_search.proofs.GrowLemmas.{close_after}
 use Rattle.oracle_search.proofs.KeyLemmas.{finished_none, finished_later, finished_more, added_none, added_wider, added_after, added_more}
 use Rattle.oracle_search.proofs.TurnLemmas.{not_before, taken_by, taken_from}
@@ -242,3 +242,12 @@ module _ {S G N : Type 0} {m : GameModel S} {s : S} {target : ℤ} {u v : WorkVi
       turns = λ regret. let wrong : false ≡ true = sym regret ∙ linear in absurd (cc);
       owed = λ _ not. subst (λ (n : ℕ). TakesSweeps m 2 1 v.board n v.turns.spent) turns (ended.owed not);
     }
+
+-- a search that began with no full board in mind
+pub bounded_begun : {S G N : Type 0} {m : GameModel S} {s : S} {target : ℤ} {u v : BoardView G N} {x : WorkerView} {new : WorkView G N} {end : SearchEnd} (w : WorkerView) → x ≡ without_full w
+    → HasBounded m s target (at_work v x) new end → HasBounded m s target (at_start u w) new end
+bounded_begun {m = m} {new = new} w is ended = record {
+  ends = ended.ends;
+  turns = λ regret. taken_from (ap (λ (y : WorkerView). y.turns.spent) is) (ap (λ (y : WorkerView). y.settled.keys) is) (ended.turns (ap (λ (y : WorkerView). y.linear) is ∙ regret));
+  owed = λ linear not. subst (λ (n : ℕ). TakesSweeps m 2 1 new.board n new.turns.spent) (ap (λ (y : WorkerView). y.turns.spent) is) (ended.owed (ap (λ (y : WorkerView). y.linear) is ∙ linear) not);
+}

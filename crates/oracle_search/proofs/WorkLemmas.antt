@@ -12,7 +12,7 @@ use Rattle.sim_game.specs.Resolution.{IsStageGap, IsResolution}
 use Rattle.sim_game.proofs.ReachLemmas.{reachable_induction, reachable_turn, leads_none, leads_turn}
 use Rattle.sim_game.proofs.SideLemmas.{looser_trans}
 use Rattle.plan_book.specs.Books.{Grows}
-use Rattle.plan_book.specs.Entries.{IsLawfulEntry}
+use Rattle.plan_book.specs.Entries.{IsLawfulEntry, IsPureEntry}
 use Rattle.plan_book.specs.Serial.{serial_bound}
 use Rattle.matrix_game.specs.Budget.{Budget, left_of, after_one_turn, IsSameBudget, HasGivenUp}
 use Rattle.matrix_game.proofs.BudgetLemmas.{same_budget, budget_after, one_turn_later}
@@ -21,20 +21,21 @@ use Rattle.bounds_board.proofs.FullLemmas.{full_later, full_weaker}
 use Rattle.bounds_board.proofs.KnownLemmas.{known_later}
 use Rattle.bounds_board.proofs.ViewLemmas.{later_refl}
 use Rattle.serial_ab.specs.Counts.{VisitsView, HasCounted, Counts, spent_on}
-use Rattle.serial_ab.specs.Searches.{IsSerialKept, IsPureEntry}
+use Rattle.serial_ab.specs.Searches.{IsSerialKept}
 use Rattle.serial_ab.specs.Transpositions.{AreRemembered}
 use Rattle.serial_ab.proofs.KeptLemmas.{grows_none, grows_after}
 use Rattle.serial_ab.proofs.TableLemmas.{remembered_later, remembered_none}
 use Rattle.restricted_game.specs.Children.{KeptRows, HasRow, AreChildRows}
-use Rattle.restricted_game.specs.Runs.{IsOneMoveEntry}
+use Rattle.restricted_game.specs.Nodes.{IsAtNode, IsBetter}
 use Rattle.restricted_game.proofs.ChildLemmas.{row_later}
+use Rattle.restricted_game.proofs.NodeLemmas.{better_trans}
 use Rattle.oracle_search.specs.declared.ends.SearchEnd.{SearchEnd}
 use Rattle.oracle_search.specs.declared.ends.Stop.{Stop}
 use Rattle.oracle_search.specs.declared.ends.Stop.TheVariants as stops
 use Rattle.oracle_search.specs.Finished.{AreFinished, AreAdded, IsWithin, IsBeyond, IsClose, IsLeftBelow, left_gap}
-use Rattle.oracle_search.specs.Searches.{IsBetter, HasTurned, HasKept, IsAtRow, IsAtChildren, IsBoardFull, IsWorkedBelow, IsWorked, IsStop, HasVisitsBelow, IsPureTight, IsPureWithin, IsAhead, BoundsByPure}
+use Rattle.oracle_search.specs.Searches.{HasTurned, HasKept, IsAtRow, IsAtChildren, IsBoardFull, IsWorkedBelow, IsWorked, IsStop, HasVisitsBelow, IsPureTight, IsPureWithin, IsAhead, BoundsByPure}
 use Rattle.oracle_search.specs.Workers.{WorkerView, WorkView, HasAsked, at_work, with_full, with_key, without_full, without_searches}
-use Rattle.oracle_search.proofs.BetterLemmas.{grows_weaker, better_trans, better_serial}
+use Rattle.oracle_search.proofs.BetterLemmas.{grows_weaker, better_serial}
 use Rattle.oracle_search.proofs.KeyLemmas.{finished_none, finished_later, finished_more, added_none, added_wider, added_after, added_more}
 
 -- ---- counts
@@ -118,7 +119,7 @@ module _ {S G N : Type 0} (m : GameModel S) where
 
 module _ {S G N : Type 0} {m : GameModel S} {s : S} {limit : ℕ} where
   -- a part that finishes no state
-  worked_by : (old new : WorkView G N) → IsBetter m old.board.total old.board new.board → HasTurned old.turns new.turns → HasCounted old.visits new.visits → new.linear ≡ old.linear
+  worked_by : (old new : WorkView G N) → IsBetter m old.board new.board → HasTurned old.turns new.turns → HasCounted old.visits new.visits → new.linear ≡ old.linear
       → new.settled.keys ≡ old.settled.keys → (old.settled.was_full ≡ true → new.settled.was_full ≡ true)
       → HasKept m old → AreRemembered m new.board new.searches → (new.settled.was_full ≡ true → old.settled.was_full ≡ true ⊎ IsBoardFull m s new.board)
       → (new.turns.spent ≡ old.turns.spent → Grows (IsPureEntry m old.board.total) old.board.entries new.board.entries) → IsWorkedBelow m s limit old new
@@ -135,7 +136,7 @@ module _ {S G N : Type 0} {m : GameModel S} {s : S} {limit : ℕ} where
 
   pub worked_after : {u v w : WorkView G N} → IsWorkedBelow m s limit u v → IsWorkedBelow m s limit v w → IsWorkedBelow m s limit u w
   worked_after {u} {v} {w} p q = record {
-    board = better_trans m u.board.total u.board v.board w.board p.board (subst (λ (total : ℕ). IsBetter m total v.board w.board) p.board.later.total q.board);
+    board = better_trans m u.board v.board w.board p.board q.board;
     turns = turned_after u.turns v.turns w.turns p.turns q.turns;
     visits = visited_after p.visits q.visits;
     linear = q.linear ∙ p.linear;
@@ -173,9 +174,8 @@ module _ {S G N : Type 0} {m : GameModel S} {s : S} {limit : ℕ} where
 
   -- posts of entries of one move
   pub worked_posted : {u : WorkView G N} {v b : BoardView G N} {w : WorkerView} → IsWorkedBelow m s limit u (at_work v w) → IsLater v b
-      → Grows (IsOneMoveEntry m v.total) v.entries b.entries → IsWorkedBelow m s limit u (at_work b w)
-  worked_posted {v = v} {b = b} {w = w} p later posted = worked_after p (worked_still v b w p.kept later
-      (grows_weaker (IsOneMoveEntry m v.total) (IsPureEntry m v.total) v.entries b.entries (λ e x. record { lawful = x.lawful; place = x.place; pure = x.one }) posted))
+      → Grows (IsPureEntry m v.total) v.entries b.entries → IsWorkedBelow m s limit u (at_work b w)
+  worked_posted {v = v} {b = b} {w = w} p later posted = worked_after p (worked_still v b w p.kept later posted)
 
   -- a claim that was full
   pub worked_full : {u : WorkView G N} {v b : BoardView G N} {w new : WorkerView} → IsWorkedBelow m s limit u (at_work v w) → IsLater v b → b.entries ≡ v.entries
@@ -198,12 +198,12 @@ module _ {S G N : Type 0} {m : GameModel S} {s : S} {limit : ℕ} where
       (grows_none (IsPureEntry m v.total) v.entries v.entries refl)))
 
   -- a turn
-  pub worked_turn : {v b : BoardView G N} {w new : WorkerView} → HasKept m (at_work v w) → IsLater v b → Grows (IsLawfulEntry m v.total) v.entries b.entries
+  pub worked_turn : {v b : BoardView G N} {w new : WorkerView} → HasKept m (at_work v w) → IsBetter m v b
       → (left_of w.turns ≡ 0 → new.turns ≡ w.turns) → (new.turns ≡ w.turns) ⊎ (new.turns ≡ after_one_turn w.turns)
       → (new.turns ≡ w.turns → b.entries ≡ v.entries) → new ≡ record w { turns = new.turns } → IsWorkedBelow m s limit (at_work v w) (at_work b new)
-  worked_turn {v} {b} {w} {new} kept later posted none one unposted is = subst (λ (x : WorkerView). IsWorkedBelow m s limit (at_work v w) (at_work b x)) (sym is)
-      (worked_by (at_work v w) (at_work b (record w { turns = new.turns })) (record { later = later; posted = posted })
-      (turned_step w.turns new.turns none one) (visited_none w.visits) refl refl (λ e. e) kept (remembered_later later kept.remembered) (λ e. inl e)
+  worked_turn {v} {b} {w} {new} kept better none one unposted is = subst (λ (x : WorkerView). IsWorkedBelow m s limit (at_work v w) (at_work b x)) (sym is)
+      (worked_by (at_work v w) (at_work b (record w { turns = new.turns })) better
+      (turned_step w.turns new.turns none one) (visited_none w.visits) refl refl (λ e. e) kept (remembered_later better.later kept.remembered) (λ e. inl e)
       (λ e. grows_none (IsPureEntry m v.total) v.entries b.entries (unposted (not_taken w.turns new.turns one e))))
 
   -- the gate was asked
@@ -276,6 +276,9 @@ module _ {S G N : Type 0} {m : GameModel S} where
   pub worked_begun : {s : S} {limit : ℕ} {v : BoardView G N} {new : WorkerView} {x : WorkView G N} (w : WorkerView) → new ≡ without_full w → IsWorkedBelow m s limit (at_work v new) x
       → IsWorkedBelow m s limit (at_work v (without_full w)) x
   worked_begun {s} {limit} {v = v} {x = x} w is p = subst (λ (y : WorkerView). IsWorkedBelow m s limit (at_work v y) x) is p
+
+  pub node_of : {g : G} {s : S} {row : ℕ} {v : WorkView G N} → IsAtRow m g s (Some row) v → IsAtNode m g v.board s row
+  node_of here = record { game = here.game; reachable = here.reachable; goes_on = here.has_row.goes_on; holds = here.has_row.holds }
 
   pub at_row_after : {g : G} {s : S} {limit row : ℕ} {u v : WorkView G N} → IsAtRow m g s (Some row) u → IsWorkedBelow m s limit u v → IsAtRow m g s (Some row) v
   at_row_after {s = s} {row = row} {u = u} {v = v} here worked = record {

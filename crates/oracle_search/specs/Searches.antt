@@ -1,19 +1,22 @@
 -- What a search keeps, and how it ends.
-use Rattle.std.specs.Prelude.{◌≡◌, ◌⊎◌, ℕ, ◌+◌, ◌-◌, ◌*◌, ◌<◌, ◌≤◌, ℤ, ◌+ℤ◌, ◌≤ℤ◌, ◌<ℤ◌, Bool, true, false, IsTrue, Option, None, Some, length}
+use Rattle.std.specs.Prelude.{◌≡◌, ◌⊎◌, ℕ, ◌+◌, ◌-◌, ◌*◌, ◌<◌, ◌≤◌, ℤ, ◌+ℤ◌, ◌≤ℤ◌, ◌<ℤ◌, Bool, true, false, IsTrue, Option, None, Some, Result, Err, IfOk, length}
 use Rattle.sim_game.specs.declared.Side.{Side}
 use Rattle.sim_game.specs.declared.Side.TheVariants.{One, Two}
 use Rattle.sim_game.specs.Model.{GameModel, LeadsTo, Reachable}
 use Rattle.sim_game.specs.Sides.{IsNoTighter}
-use Rattle.plan_book.specs.Entries.{IsLawfulEntry}
+use Rattle.plan_book.specs.Entries.{IsPureEntry}
 use Rattle.plan_book.specs.Books.{Grows}
 use Rattle.plan_book.specs.Serial.{serial_bound, tree_size}
 use Rattle.matrix_game.specs.Budget.{Budget, left_of, after_one_turn, IsSameBudget}
-use Rattle.bounds_board.specs.Views.{BoardView, IsLater, WasFull, known_bound}
+use Rattle.bounds_board.specs.Views.{BoardView, WasFull, known_bound}
 use Rattle.serial_ab.specs.Counts.{VisitsView, HasCounted, left_on}
-use Rattle.serial_ab.specs.Searches.{IsPureEntry}
 use Rattle.serial_ab.specs.Transpositions.{AreRemembered}
 use Rattle.restricted_game.specs.Children.{KeptRows, HasRow, AreChildRows}
+use Rattle.restricted_game.specs.declared.held.StepEnd.{StepEnd}
+use Rattle.restricted_game.specs.declared.held.StepFault.{StepFault}
+use Rattle.restricted_game.specs.declared.held.StepFault.TheVariants as faults
 use Rattle.restricted_game.specs.Held.{HeldMoves, count_held}
+use Rattle.restricted_game.specs.Nodes.{IsBetter}
 use Rattle.serial_ab.specs.declared.windowed.SerialEnd.{SerialEnd}
 use Rattle.serial_ab.specs.declared.windowed.SerialEnd.TheVariants.{Exact, AtLeast, AtMost, Cut}
 use Rattle.oracle_search.specs.declared.ends.SearchEnd.{SearchEnd}
@@ -22,11 +25,6 @@ use Rattle.oracle_search.specs.declared.ends.Stop.{Stop}
 use Rattle.oracle_search.specs.declared.ends.Stop.TheVariants as stops
 use Rattle.oracle_search.specs.Workers.{WorkerView, WorkView}
 use Rattle.oracle_search.specs.Finished.{IsWithin, IsBeyond, IsClose, AreFinished, IsExtended}
-
--- the board knows no less, and only lawful entries were posted
-pub record IsBetter {S G N : Type 0} (m : GameModel S) (total : ℕ) (old new : BoardView G N) : Type 0 where
-  pub later : IsLater old new
-  pub posted : Grows (IsLawfulEntry m total) old.entries new.entries
 
 -- turns were taken, within the limit, and none where none was left; those that are left were given up at most where they may be
 pub record HasTurned (old new : Budget) : Type 0 where
@@ -38,6 +36,12 @@ pub record HasTurned (old new : Budget) : Type 0 where
 -- a turn was left, and one was taken
 abbrev pub HasTurn : Budget → Budget → Type 0
 HasTurn old new = (1 ≤ left_of old) × (new ≡ after_one_turn old)
+
+-- a step, if the gate lets the search go on: Ok takes a turn that was left; Spent takes none, and none is left
+pub record TakesAskedTurn (old new : WorkerView) (result : Result StepEnd StepFault) : Type 0 where
+  pub same : new ≡ record old { turns = new.turns }
+  pub turn : IfOk result (λ _. HasTurn old.turns new.turns)
+  pub spent : result ≡ Err faults.Spent → (left_of new.turns ≡ 0) × (new.turns.spent ≡ old.turns.spent)
 
 -- a claim of the key of a state that a history from this one leads to found the board full
 abbrev pub IsBoardFull : {S G N : Type 0} → GameModel S → S → BoardView G N → Type 0
@@ -65,7 +69,7 @@ pub record IsAtChildren {S G N : Type 0} (m : GameModel S) (g : G) (s : S) (plac
 
 -- what each part of the search of a state keeps; the states that it finishes have ranks below the limit
 pub record IsWorkedBelow {S G N : Type 0} (m : GameModel S) (s : S) (limit : ℕ) (old new : WorkView G N) : Type 0 where
-  pub board : IsBetter m old.board.total old.board new.board
+  pub board : IsBetter m old.board new.board
   pub turns : HasTurned old.turns new.turns
   pub visits : HasCounted old.visits new.visits
   pub linear : new.linear ≡ old.linear

@@ -4,6 +4,7 @@ ghost use Rattle.std.specs.Prelude.{◌≡◌, ◌+◌, ◌-◌, ◌<◌, ℕ, f
 ghost use Rattle.sim_game.specs.declared.Side.{Side};
 ghost use Rattle.restricted_game.specs.Children.{AreChildRows};
 ghost use Rattle.restricted_game.specs.Held.{IsHolding};
+ghost use Rattle.restricted_game.specs.Nodes.{FitsState};
 ghost use Rattle.oracle_search.specs.Workers.{at_work};
 ghost use Rattle.oracle_search.specs.Searches.{IsAtRow, IsAtChildren, IsWorked, IsWorkedBelow};
 ghost use Rattle.oracle_search.specs.Searches.{HasSearched, IsDone, AreDone};
@@ -30,8 +31,7 @@ pub(crate) fn search_children<G: Game, B: Bounds<G>, T: Gate>(
 ) -> Result<Option<Stop>, NoMemory>
     requires here { IsAtChildren (G.model setup.now.game) setup.now.game s children.old
         (at_work (B.view board.old) worker.old) }
-    requires rows { held.now.most_rows ≡ (G.model setup.now.game).moves Side.One s }
-    requires cols { held.now.most_cols ≡ (G.model setup.now.game).moves Side.Two s }
+    requires fits { FitsState (G.model setup.now.game) s held.now }
     requires regret { worker.old.linear ≡ false }
     ensures holding { IsHolding held.now }
     ensures children { AreChildRows (G.model setup.now.game) (B.view board.new) s children.new }

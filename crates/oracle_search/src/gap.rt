@@ -1,6 +1,7 @@
 //! How far the bounds at a state are apart.
 
 ghost use Rattle.std.specs.Prelude.{◌≡◌, ◌≤◌, ◌-ℤ◌, ◌≤ℤ◌, ℕ, pos, Some, IsTrue, MatchBool};
+ghost use Rattle.sums.specs.declared.TheConstants.{LEAST_WEIGHT, MOST_WEIGHT};
 ghost use Rattle.sim_game.specs.declared.Side.TheVariants.{One, Two};
 ghost use Rattle.sim_game.specs.Model.{Reachable};
 ghost use Rattle.sim_game.specs.Resolution.{IsStageGap};
@@ -106,8 +107,8 @@ pub(crate) fn is_within<G: Game, B: Bounds<G>>(
 fn left_gap<G: Game>(g: G, s: G::State, total: u32) -> i64
     requires reachable { Reachable (G.model g) s }
     requires goes_on { 1 ≤ (G.model g).rank s }
-    requires low { 8192 ≤ total }
-    requires high { total ≤ 1048576 }
+    requires low { LEAST_WEIGHT ≤ total }
+    requires high { total ≤ MOST_WEIGHT }
     ensures { (stage : ℕ) × IsStageGap (G.model g) total stage
         × (result ≡ pos (left_gap (G.model g) stage ((G.model g).rank s))) }
 {
@@ -119,8 +120,8 @@ fn left_gap<G: Game>(g: G, s: G::State, total: u32) -> i64
 /// a few millionths and a sixteenth of the range over the weight with each rank, never more than with regret matching.
 pub(crate) fn linear_left_gap<G: Game>(g: G, s: G::State, total: u32) -> i64
     requires reachable { Reachable (G.model g) s }
-    requires low { 8192 ≤ total }
-    requires high { total ≤ 1048576 }
+    requires low { LEAST_WEIGHT ≤ total }
+    requires high { total ≤ MOST_WEIGHT }
     ensures least { pos 0 ≤ℤ result }
     ensures left { IsLeftBelow (G.model g) total s result }
 {

@@ -1,16 +1,17 @@
 //! Restricted games that grow by best replies.
 
 ghost use Rattle.std.specs.Prelude.{◌≡◌, ◌≤ℤ◌, ◌+◌, ◌≤◌, pos, false, Some, Err, IfOk};
-ghost use Rattle.sim_game.specs.declared.Side.{Side};
 ghost use Rattle.sim_game.specs.Model.{Reachable};
 ghost use Rattle.matrix_game.specs.Budget.{left_of};
 ghost use Rattle.restricted_game.specs.declared.held.StepFault.{StepFault};
 ghost use Rattle.restricted_game.specs.Children.{AreChildRows, HasNoRows};
-ghost use Rattle.restricted_game.specs.Held.{HasGrown, HoldsAll, IsGrown, held_after};
+ghost use Rattle.restricted_game.specs.Held.{HoldsMore};
+ghost use Rattle.restricted_game.specs.Nodes.{FitsState};
 ghost use Rattle.restricted_game.specs.Gaps.{HasStepGap};
 ghost use Rattle.restricted_game.specs.Stages.{HasStepGapOver, WereStageNumbers};
 ghost use Rattle.oracle_search.specs.Workers.{at_work};
-ghost use Rattle.oracle_search.specs.Searches.{IsAtRow, IsWorked, HasEnded, HasTurn, IsBoardFull, IsFirstHeld};
+ghost use Rattle.oracle_search.specs.Searches.{IsAtRow, IsWorked, HasEnded, HasTurn, TakesAskedTurn};
+ghost use Rattle.oracle_search.specs.Searches.{IsBoardFull, IsFirstHeld};
 ghost use Rattle.oracle_search.specs.Sweeps.{IsFullHeld};
 
 use crate::children::search_children;
@@ -138,21 +139,15 @@ pub(crate) fn take_turn<G: Game, B: Bounds<G>, T: Gate>(
 ) -> Result<StepEnd, StepFault>
     requires here { IsAtRow (G.model setup.now.game) setup.now.game s (Some row)
         (at_work (B.view board.old) worker.old) }
-    requires rows { growth.old.held.most_rows ≡ (G.model setup.now.game).moves Side.One s }
-    requires cols { growth.old.held.most_cols ≡ (G.model setup.now.game).moves Side.Two s }
+    requires fits { FitsState (G.model setup.now.game) s growth.old.held }
     requires children { AreChildRows (G.model setup.now.game) (B.view board.old) s growth.old.children }
     ensures children { AreChildRows (G.model setup.now.game) (B.view board.new) s growth.new.children }
     ensures worked { IsWorked (G.model setup.now.game) s
         (at_work (B.view board.old) worker.old) (at_work (B.view board.new) worker.new) }
-    ensures same { worker.new ≡ record worker.old { turns = worker.new.turns } }
+    ensures turn { TakesAskedTurn worker.old worker.new result }
     ensures gap { IfOk result (HasStepGap (G.model setup.now.game)
         (B.view board.old) (B.view board.new) s growth.old.held) }
-    ensures held { IfOk result (λ end. growth.new.held ≡ held_after growth.old.held end) }
-    ensures grown { IfOk result (HasGrown growth.old.held growth.new.held) }
-    ensures all { HoldsAll growth.old.held → IfOk result (λ end. IsGrown end → ⊥) }
-    ensures turn { IfOk result (λ _. HasTurn worker.old.turns worker.new.turns) }
-    ensures spent { result ≡ Err StepFault.Spent
-        → (left_of worker.new.turns ≡ 0) × (worker.new.turns.spent ≡ worker.old.turns.spent) }
+    ensures held { HoldsMore growth.old.held growth.new.held result }
     ensures full { result ≡ Err StepFault.Full → IsBoardFull (G.model setup.now.game) s (B.view board.new) }
 {
     worker.ask(setup);
@@ -177,8 +172,7 @@ pub(crate) fn take_turn_over<G: Game, B: Bounds<G>, T: Gate>(
 ) -> Result<StepEnd, NoMemory>
     requires here { IsAtRow (G.model setup.now.game) setup.now.game node.state (Some node.row)
         (at_work (B.view board.old) worker.old) }
-    requires rows { held.old.most_rows ≡ (G.model setup.now.game).moves Side.One node.state }
-    requires cols { held.old.most_cols ≡ (G.model setup.now.game).moves Side.Two node.state }
+    requires fits { FitsState (G.model setup.now.game) node.state held.old }
     requires read { WereStageNumbers (G.model setup.now.game) (B.view board.old) node.state held.old numbers.now }
     requires left { 1 ≤ left_of worker.old.turns }
     ensures worked { IsWorked (G.model setup.now.game) node.state
@@ -186,7 +180,7 @@ pub(crate) fn take_turn_over<G: Game, B: Bounds<G>, T: Gate>(
     ensures same { worker.new ≡ record worker.old { turns = worker.new.turns } }
     ensures gap { IfOk result (HasStepGapOver (G.model setup.now.game)
         (B.view board.old) (B.view board.new) node.state held.old numbers.now) }
-    ensures all { HoldsAll held.old → IfOk result (λ end. IsGrown end → ⊥) }
+    ensures held { HoldsMore held.old held.new result }
     ensures turn { IfOk result (λ _. HasTurn worker.old.turns worker.new.turns) }
 {
     held.step_over(

@@ -13,7 +13,7 @@ ghost use Rattle.oracle_search.specs.Searches.{IsAhead, number_in, IsFoundBelow,
 use crate::gate::Gate;
 use crate::worker::{Setup, Worker};
 use bounds_board::{BoardFault, Bounds, Enclosure, Row, known_bounds};
-use serial_ab::{SerialEnd, Task, serial_with};
+use serial_ab::{SerialEnd, SerialTask, serial_with};
 use sim_game::{Game, Side, opening_bound};
 
 /// Bounds the state for one side, by a serial search over the whole range of payoffs. The answer is the number that it
@@ -42,7 +42,7 @@ fn bound_side<G: Game, B: Bounds<G>, T: Gate>(
 {
     let g = setup.game;
     let range = (opening_bound(g, Side::One), opening_bound(g, Side::Two));
-    let task = Task {
+    let task = SerialTask {
         alloc: setup.alloc,
         game: g,
         side,

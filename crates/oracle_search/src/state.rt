@@ -1,10 +1,10 @@
 //! The search of a state.
 
-ghost use Rattle.std.specs.Prelude.{◌≡◌, ◌≢◌, ℕ, ◌+◌, ◌≤◌, ◌≤ℤ◌, true, false, pos, Some, IfOk};
+ghost use Rattle.std.specs.Prelude.{◌≡◌, ◌≢◌, ℕ, ◌+◌, ◌≤◌, ◌≤ℤ◌, pos, Some, IfOk};
 ghost use Rattle.sim_game.specs.Model.{Reachable};
-ghost use Rattle.oracle_search.specs.Sweeps.{TakesSweeps, HasBounded};
+ghost use Rattle.oracle_search.specs.Sweeps.{HasBounded};
 ghost use Rattle.oracle_search.specs.Workers.{at_start, at_work};
-ghost use Rattle.oracle_search.specs.Searches.{HasKept, IsAtRow, IsWorked, Ends, HasTaken};
+ghost use Rattle.oracle_search.specs.Searches.{HasKept, IsAtRow, IsWorked};
 ghost use Rattle.oracle_search.specs.Searches.{BoundsByPure, IsLeavable};
 
 use crate::ends::{SearchEnd, Stop};
@@ -41,15 +41,11 @@ pub fn search<G: Game, B: Bounds<G>, T: Gate>(
     requires kept { HasKept (G.model setup.now.game) (at_work (B.view board.old) worker.old) }
     ensures worked { IsWorked (G.model setup.now.game) s
         (at_start (B.view board.old) worker.old) (at_work (B.view board.new) worker.new) }
-    ensures ends { IfOk result (Ends (G.model setup.now.game) s target (at_work (B.view board.new) worker.new)) }
-    ensures turns { worker.old.linear ≡ false → IfOk result (λ end. HasTaken (G.model setup.now.game) s end
-        (at_start (B.view board.old) worker.old) (at_work (B.view board.new) worker.new)) }
 
     // With linear stages: at most two sweeps of a turn for each state that has a row, and a last one of a turn for each
     // state that it brings as close as its rank allows.
-    ensures owed { worker.old.linear ≡ true → worker.new.settled.was_full ≡ false
-        → IfOk result (λ _. TakesSweeps (G.model setup.now.game) 2 1 (B.view board.new)
-        worker.old.turns.spent worker.new.turns.spent) }
+    ensures ended { IfOk result (HasBounded (G.model setup.now.game) s target
+        (at_start (B.view board.old) worker.old) (at_work (B.view board.new) worker.new)) }
     ensures pure { IfOk result (BoundsByPure (G.model setup.now.game) s target
         (at_start (B.view board.old) worker.old) (at_work (B.view board.new) worker.new)) }
 

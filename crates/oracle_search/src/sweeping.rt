@@ -1,6 +1,7 @@
 //! A search by sweeps over the states that a state leads to, with linear stages.
 
 ghost use Rattle.std.specs.Prelude.{◌≡◌, ◌≤◌, ◌≤ℤ◌, pos, true, false, Some, IsTrue, IfOk};
+ghost use Rattle.sums.specs.declared.TheConstants.{LEAST_WEIGHT, MOST_WEIGHT};
 ghost use Rattle.sim_game.specs.Model.{Reachable};
 ghost use Rattle.oracle_search.specs.Sweeps.{EndsBySweeps, IsAfterSweep};
 ghost use Rattle.oracle_search.specs.Workers.{at_work};
@@ -31,8 +32,8 @@ impl Sweep {
     fn first<G: Game>(g: G, s: G::State, total: u32) -> Sweep
         requires reachable { Reachable (G.model g) s }
         requires goes_on { 1 ≤ (G.model g).rank s }
-        requires low { 8192 ≤ total }
-        requires high { total ≤ 1048576 }
+        requires low { LEAST_WEIGHT ≤ total }
+        requires high { total ≤ MOST_WEIGHT }
     {
         let range = opening_bound(g, Side::Two) - opening_bound(g, Side::One);
         let width = g.moves(Side::One, s).max(g.moves(Side::Two, s));

@@ -1,6 +1,7 @@
 //! One sweep over the states that a state leads to: a turn for each, its children first.
 
 ghost use Rattle.std.specs.Prelude.{◌≡◌, ◌⊎◌, ◌+◌, ◌<◌, ◌≤◌, ◌≤ℤ◌, pos, true, None, Some, Ok, Err, IsTrue, IsFalse, IfOk, Contains};
+ghost use Rattle.sums.specs.declared.TheConstants.{LEAST_WEIGHT, MOST_WEIGHT};
 ghost use Rattle.sim_game.specs.declared.Side.{Side};
 ghost use Rattle.sim_game.specs.Model.{Reachable};
 ghost use Rattle.restricted_game.specs.Children.{AreChildRows};
@@ -312,8 +313,8 @@ fn wanted_gap<G: Game, T: Gate>(
 ) -> i64
     requires reachable { Reachable (G.model setup.now.game) s }
     requires goes_on { 1 ≤ (G.model setup.now.game).rank s }
-    requires low { 8192 ≤ total }
-    requires high { total ≤ 1048576 }
+    requires low { LEAST_WEIGHT ≤ total }
+    requires high { total ≤ MOST_WEIGHT }
     ensures least { pos 0 ≤ℤ result }
     ensures last { sweep.now.is_last ≡ true → IsLeftBelow (G.model setup.now.game) total s result }
 {

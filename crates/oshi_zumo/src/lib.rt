@@ -3,7 +3,7 @@
 
 ghost use Rattle.std.specs.Prelude.{◌≡◌, ◌+◌, ◌<◌, ◌≤◌, length, slice_index, unsigned_abs, MatchResult};
 ghost use Rattle.oshi_zumo.specs.declared.Setting.{Setting};
-ghost use Rattle.oshi_zumo.specs.Laws.{oshi_zumo_is_game, oshi_zumo_numbered};
+ghost use Rattle.oshi_zumo.specs.laws.Game.{oshi_zumo_is_game, oshi_zumo_numbered};
 ghost use Rattle.oshi_zumo.specs.Position.{first_fault, most_coins, setting_of, IsPosition, IsSettingOf};
 ghost use Rattle.oshi_zumo.specs.Rules.{bids_from, coin_bits, coins_of, from_end, is_off, is_bout_over, oshi_zumo_game, oshi_zumo_numbering, push_of, KeepsRules};
 ghost use Rattle.sim_game.specs.declared.Limits.TheVariants.{Wide};

@@ -4,7 +4,6 @@ use Rattle.sim_game.specs.declared.Side.TheVariants.{One, Two}
 use Rattle.sim_game.specs.Model.{GameModel}
 use Rattle.plan_book.specs.declared.Entry.{Entry}
 use Rattle.plan_book.specs.Books.{best_row}
-use Rattle.plan_book.specs.Entries.{reads_of}
 use Rattle.plan_book.specs.Expected.{expected, whole}
 use Rattle.plan_book.specs.Plans.{Plan, AtKey, AtHistory, weights_at}
 use Rattle.plan_book.specs.PlainBounds.{plain_value}
@@ -187,13 +186,9 @@ plain_nodes = refl
 
 -- ---- entries
 abbrev entry : ℤ → List ℕ → Entry
-entry bound weights = record { key = 0; side = One; bound = bound; weights = weights; reads = [] }
+entry bound weights = record { key = 0; side = One; bound = bound; weights = weights }
 
 -- the first of the tightest bound
 best_first : best_row One (entry (pos 1) (1 ∷ 0 ∷ []) ∷ entry (pos 2) (2 ∷ 0 ∷ []) ∷ entry (pos 2) (3 ∷ 0 ∷ []) ∷ entry (pos 1) (4 ∷ 0 ∷ []) ∷ []) 0
     ≡ Some (record { key = 0; bound = pos 2; weights = 2 ∷ 0 ∷ [] })
 best_first = refl
-
--- the reads of a move of weight 0 are left out
-reads_of_pure : reads_of stage One 0 (0 ∷ 5 ∷ []) (λ own reply draw. pos (10 * own + reply)) ≡ pos 10 ∷ pos 11 ∷ []
-reads_of_pure = refl

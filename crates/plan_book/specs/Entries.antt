@@ -1,10 +1,11 @@
--- Entries: a bound of a state, with the weights and the numbers of its turns that prove it.
-use Rattle.std.specs.Prelude.{◌≡◌, ℕ, zero, suc, ◌<◌, ◌≤◌, ℤ, nat_eq, cond, List, [], ◌∷◌, ◌++◌, slice_index}
+-- Entries: a bound of a state, with the weights that prove it over numbers of its turns.
+use Rattle.std.specs.Prelude.{◌≡◌, ℕ, zero, suc, ◌<◌, ◌≤◌, ℤ, List, [], ◌++◌, slice_index, length}
 use Rattle.sim_game.specs.declared.Side.{Side}
 use Rattle.sim_game.specs.declared.Side.TheVariants.{One, Two}
 use Rattle.sim_game.specs.Model.{GameModel, Reachable}
 use Rattle.plan_book.specs.declared.Entry.{Entry}
 use Rattle.sim_game.specs.Sides.{other_side, IsNoTighter, state_bound, draws_of, after_reward}
+use Rattle.plan_book.specs.Plans.{one_move}
 use Rattle.plan_book.specs.Steps.{IsStep}
 use Rattle.plan_book.specs.Backed.{IsBacked}
 
@@ -12,16 +13,6 @@ use Rattle.plan_book.specs.Backed.{IsBacked}
 abbrev pub concat_below : {X : Type 0} → ℕ → (ℕ → List X) → List X
 concat_below zero f = []
 concat_below (suc n) f = concat_below n f ++ f n
-
--- the numbers of an own move: for each reply those of its draws
-abbrev pub reads_of_move : {S : Type 0} → GameModel S → Side → S → (ℕ → ℕ → ℕ → ℤ) → ℕ → List ℤ
-reads_of_move m side s numbers own =
-    concat_below (m.moves (other_side side) s) (λ reply. concat_below (draws_of m side s own reply) (λ draw. numbers own reply draw ∷ []))
-
--- the numbers of each own move of positive weight
-abbrev pub reads_of : {S : Type 0} → GameModel S → Side → S → List ℕ → (ℕ → ℕ → ℕ → ℤ) → List ℤ
-reads_of m side s weights numbers =
-    concat_below (m.moves side s) (λ own. cond (nat_eq (slice_index weights own) 0) [] (reads_of_move m side s numbers own))
 
 -- the entry is a step at a reachable state, in the range of its values, over numbers of turns that are backed where the turns lead, and of which a further fact is known there
 pub record IsEntry {S : Type 0} (m : GameModel S) (total : ℕ) (Known : Side → S → ℤ → Type 0) (e : Entry) : Type 0 where
@@ -31,7 +22,6 @@ pub record IsEntry {S : Type 0} (m : GameModel S) (total : ℕ) (Known : Side �
   pub low : IsNoTighter One (state_bound m One state) e.bound
   pub high : IsNoTighter Two (state_bound m Two state) e.bound
   pub numbers : ℕ → ℕ → ℕ → ℤ
-  pub listed : e.reads ≡ reads_of m e.side state e.weights numbers
   pub step : IsStep m e.side state total e.weights numbers e.bound
   pub backed : (own reply draw : ℕ) → own < m.moves e.side state → reply < m.moves (other_side e.side) state → draw < draws_of m e.side state own reply
       → 1 ≤ slice_index e.weights own → after_reward m e.side state own reply draw (IsBacked m e.side) (numbers own reply draw)
@@ -40,3 +30,9 @@ pub record IsEntry {S : Type 0} (m : GameModel S) (total : ℕ) (Known : Side �
 
 abbrev pub IsLawfulEntry : {S : Type 0} → GameModel S → ℕ → Entry → Type 0
 IsLawfulEntry m total e = IsEntry m total (λ _ _ _. Unit {0}) e
+
+-- a lawful entry that puts the whole total on one move
+pub record IsPureEntry {S : Type 0} (m : GameModel S) (total : ℕ) (e : Entry) : Type 0 where
+  pub lawful : IsLawfulEntry m total e
+  pub place : ℕ
+  pub pure : e.weights ≡ one_move total (length e.weights) place

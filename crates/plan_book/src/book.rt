@@ -1,6 +1,7 @@
 //! Books of entries.
 
 ghost use Rattle.std.specs.Prelude.{◌≡◌, ◌+◌, ◌≤◌, [], ◌∷◌, ◌++◌, sum, OnOk, OnErr, IfOk, IfErr};
+ghost use Rattle.sums.specs.declared.TheConstants.{MOST_WEIGHT};
 ghost use Rattle.plan_book.specs.Books.{IsClosed, IsBestSheet};
 ghost use Rattle.plan_book.specs.Sheets.{IsLawful};
 
@@ -36,7 +37,7 @@ impl Book {
     /// An empty book.
     pub fn new(alloc: Global, total: u32) -> Book
         requires low { 1 ≤ total }
-        requires high { total ≤ 1048576 }
+        requires high { total ≤ MOST_WEIGHT }
         ensures total { result.total ≡ total }
         ensures entries { result.entries ≡ [] }
     {

@@ -26,8 +26,8 @@ use seq::Seq;
 use sim_game::{Game, Side};
 pub use weights::{is_whole, weights_of};
 
-/// A bound of a side at the state of a key, in millionths of a payoff, with what proves it: the weights of the own
-/// moves, and the numbers at the children.
+/// A bound of a side at the state of a key, in millionths of a payoff, with the weights of the own moves that prove it
+/// over numbers at the children.
 #[derive(Drop)]
 pub struct Entry {
     pub key: u64,
@@ -35,8 +35,6 @@ pub struct Entry {
     pub bound: i64,
     /// One weight for each own move.
     pub weights: Seq<u32>,
-    /// For each own move of positive weight, for each reply, one number a draw.
-    pub reads: Seq<i64>,
 }
 
 /// A state's key, the bound there in millionths of a payoff, and the weights of the own moves.

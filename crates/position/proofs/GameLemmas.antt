@@ -1,21 +1,21 @@
 -- The games, one by one: what was built, and that a position has one game.
 use Rattle.std.proofs.Common.{refl, sym, ◌∙◌, subst}
 use Rattle.sim_game.specs.Model.{GameModel, IsGame}
-use Rattle.goofspiel.specs.Laws.{goofspiel_is_game}
+use Rattle.goofspiel.specs.laws.Game.{goofspiel_is_game}
 use Rattle.goofspiel.specs.Rules.{goofspiel_game}
 use Rattle.goofspiel.proofs.PositionLemmas as goofspiel_position
-use Rattle.goofspiel.specs.DrawnLaws.{drawn_is_game}
+use Rattle.goofspiel.specs.laws.Drawn.{drawn_is_game}
 use Rattle.goofspiel.specs.DrawnRules.{drawn_game}
-use Rattle.oshi_zumo.specs.Laws.{oshi_zumo_is_game}
+use Rattle.oshi_zumo.specs.laws.Game.{oshi_zumo_is_game}
 use Rattle.oshi_zumo.specs.Rules.{oshi_zumo_game}
 use Rattle.oshi_zumo.proofs.PositionLemmas as oshi_zumo_position
-use Rattle.tron.specs.Laws.{tron_is_game}
+use Rattle.tron.specs.laws.Game.{tron_is_game}
 use Rattle.tron.specs.Rules.{tron_game}
 use Rattle.tron.proofs.PositionLemmas as tron_position
-use Rattle.pursuit.specs.Laws.{pursuit_is_game}
+use Rattle.pursuit.specs.laws.Game.{pursuit_is_game}
 use Rattle.pursuit.specs.Rules.{pursuit_game}
 use Rattle.pursuit.proofs.PositionLemmas as pursuit_position
-use Rattle.table.specs.Laws.{table_is_game}
+use Rattle.table.specs.laws.Game.{table_is_game}
 use Rattle.table.specs.Rules.{table_game}
 use Rattle.table.specs.Setting.{lists_of}
 use Rattle.fields.specs.declared.positions.PositionText.{PositionText}

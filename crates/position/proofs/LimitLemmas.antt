@@ -14,7 +14,7 @@ use Rattle.sim_game.specs.declared.Limits.TheVariants.{Narrow, Wide}
 use Rattle.sim_game.specs.declared.Side.{Side}
 use Rattle.sim_game.specs.declared.Side.TheVariants.{One, Two}
 use Rattle.sim_game.specs.Resolution.{IsFineWeight}
-use Rattle.goofspiel.specs.CardLaws.{few_cards}
+use Rattle.goofspiel.specs.laws.Cards.{few_cards}
 use Rattle.oshi_zumo.specs.declared.Setting.{Setting as BoutSetting}
 use Rattle.oshi_zumo.specs.declared.OshiError.TheVariants.{SizeRange, CoinRange, LeastRange}
 use Rattle.oshi_zumo.specs.Position as oshi_zumo
@@ -22,9 +22,9 @@ use Rattle.pursuit.specs.declared.Setting.{Setting as ChaseSetting}
 use Rattle.pursuit.specs.declared.PursuitError.TheVariants.{NodesRange, RoundsRange}
 use Rattle.pursuit.specs.Position as pursuit
 use Rattle.pursuit.specs.Rules.{degree, greatest_below, graph_of, graph_of_edges, width_of}
-use Rattle.pursuit.specs.Laws.{reach_count}
+use Rattle.pursuit.specs.laws.Game.{reach_count}
 use Rattle.pursuit.proofs.PositionLemmas.{same_graph}
-use Rattle.table.specs.BelowLemmas.{greatest_at, none_at, none_below, or_none}
+use Rattle.table.specs.laws.Below.{greatest_at, none_at, none_below, or_none}
 use Rattle.table.specs.Below.{first_below}
 use Rattle.table.specs.declared.TableError.{TableError}
 use Rattle.table.specs.declared.TableError.TheVariants as table_errors

@@ -11,7 +11,7 @@ use Rattle.plan_book.specs.Steps.{cell}
 use Rattle.plan_book.proofs.StepLemmas.{cell_mono, rounded_tightest}
 use Rattle.pursuit.specs.declared.Setting.{Setting}
 use Rattle.pursuit.specs.declared.State.{State}
-use Rattle.pursuit.specs.Laws.{chase_not_over, open_ways, rank_below, rank_now}
+use Rattle.pursuit.specs.laws.Game.{chase_not_over, open_ways, rank_below, rank_now}
 use Rattle.pursuit.specs.Rules.{Graph, after_round, pursuit_root, game_from, graph_from, graph_of, node_of, pursuit_game, pursuit_rank, reach, ways, HasMoreRounds, IsLongerChase}
 
 -- ---- the best of numbers

@@ -1,5 +1,5 @@
 pub mod Edges
-pub mod Laws
 pub mod Position
 pub mod Refusals
 pub mod Rules
+pub mod laws

@@ -2,7 +2,7 @@
 #![tactic(auto)]
 
 ghost use Rattle.std.specs.Prelude.{◌≡◌, ◌+◌, ◌*◌, ◌<◌, ◌≤◌, ◌^◌, length, slice_index, MatchResult, None, Some};
-ghost use Rattle.pursuit.specs.Laws.{pursuit_is_game, pursuit_numbered, IsPursuitSound};
+ghost use Rattle.pursuit.specs.laws.Game.{pursuit_is_game, pursuit_numbered};
 ghost use Rattle.sim_game.specs.declared.Limits.TheVariants.{Wide};
 ghost use Rattle.state_key.specs.Sets.{members};
 ghost use Rattle.pursuit.specs.Position.{first_fault, IsPosition, IsSettingOf};

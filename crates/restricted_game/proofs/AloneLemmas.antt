@@ -10,16 +10,16 @@ use Rattle.sim_game.specs.Model.{GameModel, IsGame, Reachable}
 use Rattle.sim_game.specs.Sides.{other_side, move_of_one, draws_of, after_reward}
 use Rattle.plan_book.specs.declared.Entry.{Entry}
 use Rattle.plan_book.specs.Books.{Grows}
-use Rattle.plan_book.specs.Entries.{IsLawfulEntry}
+use Rattle.plan_book.specs.Entries.{IsLawfulEntry, IsPureEntry}
 use Rattle.plan_book.specs.Plans.{one_move}
 use Rattle.bounds_board.specs.Views.{BoardView, IsLater, IsPostable}
 use Rattle.restricted_game.specs.declared.plans.SidePlan.{SidePlan}
-use Rattle.restricted_game.specs.declared.table.Cells.{Cells}
-use Rattle.restricted_game.specs.declared.table.Table.{Table}
+use Rattle.restricted_game.specs.declared.table.StageCells.{StageCells}
+use Rattle.restricted_game.specs.declared.table.StageTable.{StageTable}
 use Rattle.restricted_game.specs.declared.table.StageNumbers.{StageNumbers}
 use Rattle.restricted_game.specs.Held.{HeldMoves, AreMoves}
 use Rattle.restricted_game.specs.Numbers.{IsReadNumber, IsWanted}
-use Rattle.restricted_game.specs.Runs.{IsOneMoveEntry, IsPlan}
+use Rattle.restricted_game.specs.Runs.{IsPlan}
 use Rattle.restricted_game.specs.Stages.{AreStageNumbers, WereStageNumbers}
 use Rattle.restricted_game.specs.Tables.{HasShape, AreCells, IsAlone, IsCellPlan, numbers_in, side_entry}
 use Rattle.restricted_game.proofs.HeldLemmas.{one_move as one_move_held}
@@ -55,7 +55,7 @@ contains_one : (x y : ℕ) → Contains (x ∷ []) y → y ≡ x
 contains_one x y has = All-contains (λ (z : ℕ). z ≡ x) (x ∷ []) y (All-cons (λ (z : ℕ). z ≡ x) x [] refl (All-nil (λ (z : ℕ). z ≡ x))) has
 
 module _ {S G N : Type 0} (m : GameModel S) (game : IsGame m) (s : S) (reach : Reachable m s) (goes_on : 1 ≤ m.rank s) (u v : BoardView G N) (later : IsLater u v)
-    (side : Side) (total : ℕ) (is_total : total ≡ u.total) (low : 8192 ≤ total) (own others : List ℕ) (table : Table) (plan : SidePlan)
+    (side : Side) (total : ℕ) (is_total : total ≡ u.total) (low : 8192 ≤ total) (own others : List ℕ) (table : StageTable) (plan : SidePlan)
     (alone : IsAlone m side s total own others table plan) where
   alone_total : sum plan.weights.items ≡ total
   alone_total = spread_total (m.moves side s) total (alone.place ∷ []) (total ∷ []) plan.weights.items alone.planned.spread (omega arith)
@@ -73,7 +73,7 @@ module _ {S G N : Type 0} (m : GameModel S) (game : IsGame m) (s : S) (reach : R
   module _ (read : (move other draw : ℕ) → move < m.moves side s → other < m.moves (other_side side) s → IsWanted own others move other → draw < draws_of m side s move other
       → after_reward m side s move other draw (IsReadNumber m u v side) (numbers_in side table move other draw)) where
     -- what it proves may be posted
-    pub alone_postable : IsPostable m v (side_entry m side s table plan)
+    pub alone_postable : IsPostable m v (side_entry m side s plan)
     alone_postable = plan_postable m game s reach goes_on u v side u.total (omega (arith, is_total, low)) (alone.place ∷ []) others (u.total ∷ []) (omega arith)
         (numbers_in side table) plan.weights.items plan.bound plan.fresh
         (subst (λ (n : ℕ). IsPlan m side s n (alone.place ∷ []) others (n ∷ []) (numbers_in side table) plan.weights.items plan.bound plan.fresh) is_total alone.planned)
@@ -81,15 +81,15 @@ module _ {S G N : Type 0} (m : GameModel S) (game : IsGame m) (s : S) (reach : R
         (λ (a : Contains (alone.place ∷ []) move). inl (subst (Contains own) (sym (contains_one alone.place move a)) alone.held))
         (λ (b : Contains others other). inr b) wanted) t) later.total
 
-    alone_entry : AreMoves (m.moves side s) own → IsOneMoveEntry m u.total (side_entry m side s table plan)
+    alone_entry : AreMoves (m.moves side s) own → IsPureEntry m u.total (side_entry m side s plan)
     alone_entry moves = let within = All-contains (λ (move : ℕ). move < m.moves side s) own alone.place moves.within alone.held in record {
-      lawful = subst (λ (n : ℕ). IsLawfulEntry m n (side_entry m side s table plan)) later.total (postable_lawful m v (side_entry m side s table plan) alone_postable);
+      lawful = subst (λ (n : ℕ). IsLawfulEntry m n (side_entry m side s plan)) later.total (postable_lawful m v (side_entry m side s plan) alone_postable);
       place = alone.place;
-      one = subst (λ (n : ℕ). plan.weights.items ≡ one_move n (length plan.weights.items) alone.place) is_total (alone_one within);
+      pure = subst (λ (n : ℕ). plan.weights.items ≡ one_move n (length plan.weights.items) alone.place) is_total (alone_one within);
     }
 
 -- ---- plans over cells
-module _ {S : Type 0} (m : GameModel S) (side : Side) (s : S) (table : Table) (cells : Cells) (shape : HasShape m s table) (are : AreCells m side s table cells) where
+module _ {S : Type 0} (m : GameModel S) (side : Side) (s : S) (table : StageTable) (cells : StageCells) (shape : HasShape m s table) (are : AreCells m side s table cells) where
   -- the moves of the side, by its cells
   pub own_moves : (own : List ℕ) → AreMoves (m.moves side s) own → AreMoves (move_of_one side cells.height cells.width) own
   own_moves own moves = subst (λ (n : ℕ). AreMoves n own) (sym (rw (are.height, are.width, shape.height, shape.width) (own_count m side s))) moves
@@ -116,24 +116,24 @@ module _ {S G N : Type 0} (m : GameModel S) (game : IsGame m) (s : S) (reach : R
   two_alone : IsAlone m Two s total h.cols h.rows numbers.table two
   two_alone = alone_is m Two s numbers.table numbers.highs are.cells.shape are.cells.highs total h.cols h.rows col two has_col two_planned
 
-  pub one_alone_postable : IsPostable m v (side_entry m One s numbers.table one)
+  pub one_alone_postable : IsPostable m v (side_entry m One s one)
   one_alone_postable = alone_postable m game s reach goes_on were.since v are.later One total (is_total ∙ are.later.total) low h.rows h.cols numbers.table one one_alone
       (one_read m were.since v s h.rows h.cols numbers.table are.filled)
 
-  pub two_alone_postable : IsPostable m v (side_entry m Two s numbers.table two)
+  pub two_alone_postable : IsPostable m v (side_entry m Two s two)
   two_alone_postable = alone_postable m game s reach goes_on were.since v are.later Two total (is_total ∙ are.later.total) low h.cols h.rows numbers.table two two_alone
       (two_read m were.since v s h.rows h.cols numbers.table are.filled)
 
   -- posts of these alone
   pub alone_posted : (before after : List Entry) → AreMoves (m.moves One s) h.rows → AreMoves (m.moves Two s) h.cols
-      → Grows (λ (e : Entry). e ≡ side_entry m One s numbers.table one ⊎ e ≡ side_entry m Two s numbers.table two) before after → Grows (IsOneMoveEntry m v.total) before after
+      → Grows (λ (e : Entry). e ≡ side_entry m One s one ⊎ e ≡ side_entry m Two s two) before after → Grows (IsPureEntry m v.total) before after
   alone_posted before after held_rows held_cols posted =
       let first = alone_entry m game s reach goes_on were.since v are.later One total (is_total ∙ are.later.total) low h.rows h.cols numbers.table one one_alone
       (one_read m were.since v s h.rows h.cols numbers.table are.filled) held_rows in
       let second = alone_entry m game s reach goes_on were.since v are.later Two total (is_total ∙ are.later.total) low h.cols h.rows numbers.table two two_alone
       (two_read m were.since v s h.rows h.cols numbers.table are.filled) held_cols in
-      subst (λ (n : ℕ). Grows (IsOneMoveEntry m n) before after) (sym are.later.total)
-      (grows_weaker (λ (e : Entry). e ≡ side_entry m One s numbers.table one ⊎ e ≡ side_entry m Two s numbers.table two) (IsOneMoveEntry m were.since.total) before after
+      subst (λ (n : ℕ). Grows (IsPureEntry m n) before after) (sym are.later.total)
+      (grows_weaker (λ (e : Entry). e ≡ side_entry m One s one ⊎ e ≡ side_entry m Two s two) (IsPureEntry m were.since.total) before after
       (λ e is. ⊎_elim
-      (λ (a : e ≡ side_entry m One s numbers.table one). subst (IsOneMoveEntry m were.since.total) (sym a) first)
-      (λ (b : e ≡ side_entry m Two s numbers.table two). subst (IsOneMoveEntry m were.since.total) (sym b) second) is) posted)
+      (λ (a : e ≡ side_entry m One s one). subst (IsPureEntry m were.since.total) (sym a) first)
+      (λ (b : e ≡ side_entry m Two s two). subst (IsPureEntry m were.since.total) (sym b) second) is) posted)

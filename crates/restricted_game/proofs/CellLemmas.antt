@@ -15,7 +15,7 @@ use Rattle.sim_game.proofs.SideLemmas.{looser_left, looser_right, looser_trans, 
 use Rattle.plan_book.specs.Steps.{rounded}
 use Rattle.plan_book.proofs.StepLemmas.{looser_rounded, rounded_tightest}
 use Rattle.matrix_game.specs.Grid.{IsSmallCell}
-use Rattle.restricted_game.specs.declared.table.Table.{Table}
+use Rattle.restricted_game.specs.declared.table.StageTable.{StageTable}
 use Rattle.bounds_board.specs.Views.{bound_in}
 use Rattle.restricted_game.specs.Sizes.{IsSmallEnclosure}
 use Rattle.restricted_game.specs.Tables.{HasShape, enclosure_in, pair_cell, draw_index}
@@ -50,7 +50,7 @@ mean_small Two n chance all numbers h =
     let low = mean_to Two n chance all numbers (neg_ℤ (pos 4000000000)) (λ d l. let s = h d l in omega (arith, ints)) in
     omega (arith, ints)
 
-pub bound_small : (side : Side) (table : Table) (one two draw : ℕ) → one < table.height → two < table.width → draw < table.stride
+pub bound_small : (side : Side) (table : StageTable) (one two draw : ℕ) → one < table.height → two < table.width → draw < table.stride
     → unsigned_abs (bound_in side (enclosure_in table one two draw)) ≤ 4000000000
 bound_small side table one two draw p q r =
     of_side side (table.small
@@ -59,7 +59,7 @@ bound_small side table one two draw p q r =
       of_side One small = small.lower
       of_side Two small = small.upper
 
-pub cell_small : {S : Type 0} (m : GameModel S) (s : S) (side : Side) (table : Table) (one two : ℕ) → IsGame m → Reachable m s → HasShape m s table → one < m.moves One s → two < m.moves Two s
+pub cell_small : {S : Type 0} (m : GameModel S) (s : S) (side : Side) (table : StageTable) (one two : ℕ) → IsGame m → Reachable m s → HasShape m s table → one < m.moves One s → two < m.moves Two s
     → unsigned_abs (pair_cell m side s table one two) ≤ 4000000000
 cell_small m s side table one two game r shape p q =
     mean_small side (m.draws s one two) (m.chance s one two) (game.chance_sum s one two r p q) (λ draw. bound_in side (enclosure_in table one two draw))

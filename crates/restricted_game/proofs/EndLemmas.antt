@@ -13,7 +13,7 @@ use Rattle.bounds_board.specs.Views.{BoardView}
 use Rattle.matrix_game.specs.declared.solver.StageSolver.{StageSolver}
 use Rattle.restricted_game.specs.declared.held.StepEnd.TheVariants.{Grown, Done}
 use Rattle.restricted_game.specs.declared.plans.Plans.{Plans}
-use Rattle.restricted_game.specs.declared.table.Table.{Table}
+use Rattle.restricted_game.specs.declared.table.StageTable.{StageTable}
 use Rattle.restricted_game.specs.Gaps.{HasStepGap}
 use Rattle.restricted_game.specs.Held.{HeldMoves, AreMoves, IsHolding, HoldsAll, count_held, count_moves, with_move, held_after}
 use Rattle.restricted_game.specs.Runs.{IsPlan, IsStepRun}
@@ -59,7 +59,7 @@ none_from (Some x) e = absurd (cc)
 
 -- ---- the end
 module _ {S : Type 0} (m : GameModel S) (s : S) (h held : HeldMoves) (is : h ≡ held) (holding : IsHolding h) (most_rows : held.most_rows ≡ m.moves One s) (most_cols : held.most_cols ≡ m.moves Two s)
-    {solver : StageSolver} {total : ℕ} {table : Table} (plans : Plans) (planned : ArePlans m solver s total h.rows h.cols table plans) where
+    {solver : StageSolver} {total : ℕ} {table : StageTable} (plans : Plans) (planned : ArePlans m solver s total h.rows h.cols table plans) where
   abbrev row : Option ℕ
   row = plans.two.fresh
 

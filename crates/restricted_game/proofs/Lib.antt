@@ -5,6 +5,7 @@ pub mod EndLemmas
 pub mod GapLemmas
 pub mod HeldLemmas
 pub mod OverLemmas
+pub mod NodeLemmas
 pub mod PlaceLemmas
 pub mod PlanLemmas
 pub mod PostLemmas

@@ -16,9 +16,9 @@ use Rattle.sim_game.specs.Sides.{other_side, IsNoTighter, move_of_one, move_of_t
 use Rattle.plan_book.specs.Steps.{cell, worth}
 use Rattle.matrix_game.specs.Grid.{IsSmallCell}
 use Rattle.best_reply.specs.Replies.{IsBestReply, cell_in, worth_in}
-use Rattle.restricted_game.specs.declared.table.Cells.{Cells}
+use Rattle.restricted_game.specs.declared.table.StageCells.{StageCells}
 use Rattle.restricted_game.specs.declared.plans.SidePlan.{SidePlan}
-use Rattle.restricted_game.specs.declared.table.Table.{Table}
+use Rattle.restricted_game.specs.declared.table.StageTable.{StageTable}
 use Rattle.restricted_game.specs.Held.{AreMoves}
 use Rattle.restricted_game.specs.Runs.{IsSpreadOver, IsPlan, IsHeldGrid}
 use Rattle.restricted_game.specs.Tables.{HasShape, AreCells, IsCellPlan, cells_in, numbers_in, pair_cell, held_grid}
@@ -42,7 +42,7 @@ weights_light weights most h = λ k d l. omega (arith, count_term (length weight
 
 -- ---- cells
 -- the cell that stands at the place of a pair of moves
-cells_at : {S : Type 0} (m : GameModel S) (side : Side) (s : S) (table : Table) (one two : ℕ) → one < table.height → two < table.width
+cells_at : {S : Type 0} (m : GameModel S) (side : Side) (s : S) (table : StageTable) (one two : ℕ) → one < table.height → two < table.width
     → slice_index_or (cells_in m side s table) (one * table.width + two) (pos 0) ≡ pair_cell m side s table one two
 cells_at m side s table one two p q =
     let place = one * table.width + two in
@@ -52,7 +52,7 @@ cells_at m side s table one two p q =
     ∙ ap (λ (n : ℕ). pair_cell m side s table n (place % table.width)) same.0 ∙ ap (λ (n : ℕ). pair_cell m side s table one n) same.1
 
 -- what weights are worth in the cells of the table is what they are worth over its numbers
-pub worth_cells : {S : Type 0} (m : GameModel S) (side : Side) (s : S) (table : Table) (plan : List ℕ) (reply : ℕ) → HasShape m s table
+pub worth_cells : {S : Type 0} (m : GameModel S) (side : Side) (s : S) (table : StageTable) (plan : List ℕ) (reply : ℕ) → HasShape m s table
     → length plan ≡ m.moves side s → reply < m.moves (other_side side) s
     → worth_in side (cells_in m side s table) table.width plan reply ≡ worth m side s plan (numbers_in side table) reply
 worth_cells m side s table plan reply shape each q =
@@ -108,7 +108,7 @@ other_count m One s = refl
 other_count m Two s = refl
 
 -- a best reply in the cells of a table is one over its numbers
-pub table_reply : {S : Type 0} (m : GameModel S) (side : Side) (s : S) (table : Table) (cells : List ℤ) (plan read others : List ℕ) (place : ℕ) (worst : ℤ) (fresh : Bool)
+pub table_reply : {S : Type 0} (m : GameModel S) (side : Side) (s : S) (table : StageTable) (cells : List ℤ) (plan read others : List ℕ) (place : ℕ) (worst : ℤ) (fresh : Bool)
     → HasShape m s table → length plan ≡ m.moves side s
     → cells ≡ cells_in m side s table → read ≡ plan → IsBestReply side (worth_in side cells table.width read) (move_of_two side table.height table.width) others place worst fresh
     → IsBestReply side (worth m side s plan (numbers_in side table)) (m.moves (other_side side) s) others place worst fresh
@@ -120,7 +120,7 @@ table_reply m side s table cells plan read others place worst fresh shape each i
     (subst (λ (l : List ℤ). IsBestReply side (worth_in side l table.width read) (move_of_two side table.height table.width) others place worst fresh) is_cells best)))
 
 -- a plan over the cells of a table is one over its numbers
-pub cell_plan_is : {S : Type 0} (m : GameModel S) (side : Side) (s : S) (table : Table) (cells : Cells) (total : ℕ) (own others weights : List ℕ) (plan : SidePlan)
+pub cell_plan_is : {S : Type 0} (m : GameModel S) (side : Side) (s : S) (table : StageTable) (cells : StageCells) (total : ℕ) (own others weights : List ℕ) (plan : SidePlan)
     → HasShape m s table → AreCells m side s table cells
     → IsCellPlan side total cells own others weights plan → IsPlan m side s total own others weights (numbers_in side table) plan.weights.items plan.bound plan.fresh
 cell_plan_is m side s table cells total own others weights plan shape are planned =
@@ -138,7 +138,7 @@ cell_plan_is m side s table cells total own others weights plan shape are planne
     }
 
 -- ---- the game on the held moves
-pub held_grid_is : {S : Type 0} (m : GameModel S) (s : S) (table : Table) (cells : List ℤ) (rows cols : List ℕ) → HasShape m s table
+pub held_grid_is : {S : Type 0} (m : GameModel S) (s : S) (table : StageTable) (cells : List ℤ) (rows cols : List ℕ) → HasShape m s table
     → AreMoves (m.moves One s) rows → AreMoves (m.moves Two s) cols → cells ≡ cells_in m One s table
     → IsHeldGrid m s rows cols (numbers_in One table) (held_grid cells table.width rows cols)
 held_grid_is m s table cells rows cols shape held_rows held_cols is_cells = record {

@@ -10,7 +10,6 @@ use Rattle.sim_game.specs.Sides.{other_side, IsNoTighter, state_bound, draws_of,
 use Rattle.sim_game.proofs.SideLemmas.{looser_left, looser_right, looser_trans, looser_weighted, looser_sum, looser_quotient, quotient_tightest, side_turn}
 use Rattle.plan_book.specs.declared.Entry.{Entry}
 use Rattle.plan_book.specs.Backed.{by_step}
-use Rattle.plan_book.specs.Entries.{reads_of}
 use Rattle.plan_book.specs.Steps.{IsStep}
 use Rattle.plan_book.proofs.BackedLemmas.{backed_within}
 use Rattle.plan_book.proofs.GuaranteeLemmas.{chances}
@@ -18,7 +17,7 @@ use Rattle.bounds_board.specs.Views.{BoardView, IsLater, IsPostable, known_bound
 use Rattle.bounds_board.proofs.ViewLemmas.{later_refl}
 use Rattle.matrix_game.specs.declared.solver.StageSolver.{StageSolver}
 use Rattle.restricted_game.specs.declared.plans.Plans.{Plans}
-use Rattle.restricted_game.specs.declared.table.Table.{Table}
+use Rattle.restricted_game.specs.declared.table.StageTable.{StageTable}
 use Rattle.restricted_game.specs.Numbers.{IsReadNumber, IsWanted}
 use Rattle.restricted_game.specs.Runs.{IsPlan, IsSideRun, IsPosted, IsStepRun, entry_at}
 use Rattle.restricted_game.specs.Tables.{IsFilled, ArePlans, ArePosted, numbers_in, side_entry}
@@ -74,7 +73,7 @@ module _ {S G N : Type 0} (m : GameModel S) (game : IsGame m) (s : S) (reach : R
   bound_high : IsNoTighter side bound (state_bound m (other_side side) s)
   bound_high = backed_within m game side s bound reach (by_step s bound total plan numbers plan_step (λ move other draw p q t w. (weighted_read move other draw p q t w).backed))
 
-  pub plan_postable : v.total ≡ total → IsPostable m v (entry_at m side s bound plan (reads_of m side s plan numbers))
+  pub plan_postable : v.total ≡ total → IsPostable m v (entry_at m side s bound plan)
   plan_postable is_total = let range = in_range m s side bound bound_low bound_high in record {
     state = s;
     reachable = reach;
@@ -82,7 +81,6 @@ module _ {S G N : Type 0} (m : GameModel S) (game : IsGame m) (s : S) (reach : R
     low = range.0;
     high = range.1;
     numbers = numbers;
-    listed = refl;
     step = subst (λ (n : ℕ). IsStep m side s n plan numbers bound) (sym is_total) plan_step;
     backed = λ move other draw p q t w. (weighted_read move other draw p q t w).backed;
     known = λ move other draw p q t w. number_seen m u v side _ _ (weighted_read move other draw p q t w);
@@ -99,7 +97,7 @@ module _ {S G N : Type 0} (m : GameModel S) (game : IsGame m) (s : S) (reach : R
 
 -- ---- both sides
 module _ {S G N : Type 0} (m : GameModel S) (game : IsGame m) (s : S) (reach : Reachable m s)
-    (goes_on : 1 ≤ m.rank s) {u v : BoardView G N} {total : ℕ} (is_total : total ≡ u.total) (low : 8192 ≤ total) {solver : StageSolver} {rows cols : List ℕ} {table : Table} {plans : Plans}
+    (goes_on : 1 ≤ m.rank s) {u v : BoardView G N} {total : ℕ} (is_total : total ≡ u.total) (low : 8192 ≤ total) {solver : StageSolver} {rows cols : List ℕ} {table : StageTable} {plans : Plans}
     (read : IsLater u v) (filled : IsFilled m u v s rows cols table) (are_plans : ArePlans m solver s total rows cols table plans) where
   some : 1 ≤ u.total
   some = omega (arith, low, is_total)
@@ -107,19 +105,19 @@ module _ {S G N : Type 0} (m : GameModel S) (game : IsGame m) (s : S) (reach : R
   planned : ArePlans m solver s u.total rows cols table plans
   planned = subst (λ (n : ℕ). ArePlans m solver s n rows cols table plans) is_total are_plans
 
-  pub one_postable : IsPostable m v (side_entry m One s table plans.one)
+  pub one_postable : IsPostable m v (side_entry m One s plans.one)
   one_postable =
       plan_postable m game s reach goes_on u v One u.total some rows cols planned.row_weights planned.stage.rows.all
       (numbers_in One table) plans.one.weights.items plans.one.bound plans.one.fresh planned.one
       (one_read m u v s rows cols table filled) read.total
 
-  pub two_postable : IsPostable m v (side_entry m Two s table plans.two)
+  pub two_postable : IsPostable m v (side_entry m Two s plans.two)
   two_postable =
       plan_postable m game s reach goes_on u v Two u.total some cols rows planned.col_weights planned.stage.cols.all
       (numbers_in Two table) plans.two.weights.items plans.two.bound plans.two.fresh planned.two
       (two_read m u v s rows cols table filled) read.total
 
-  pub step_run : {w : BoardView G N} {row : ℕ} → IsLater v w → v.entries ≡ u.entries → v.key_at row ≡ Some (m.key s) → ArePosted m v w s table plans
+  pub step_run : {w : BoardView G N} {row : ℕ} → IsLater v w → v.entries ≡ u.entries → v.key_at row ≡ Some (m.key s) → ArePosted m v w s plans
       → IsStepRun m u w solver s rows cols plans.two.fresh plans.one.fresh plans.one.bound plans.two.bound
   step_run {w} {row} after quiet holds posted = record {
     claimed = record { row = row; holds = after.keys row _ holds };
@@ -135,6 +133,6 @@ module _ {S G N : Type 0} (m : GameModel S) (game : IsGame m) (s : S) (reach : R
         (two_read m u v s rows cols table filled) w after posted.two_known;
     is_grid = planned.is_grid;
     between = posted.between;
-    one_posted = subst (λ (l : List Entry). IsPosted u (side_entry m One s table plans.one) l posted.between) quiet (posted_earlier u v _ _ _ read posted.one_posted);
+    one_posted = subst (λ (l : List Entry). IsPosted u (side_entry m One s plans.one) l posted.between) quiet (posted_earlier u v _ _ _ read posted.one_posted);
     two_posted = posted_earlier u v _ _ _ read posted.two_posted;
   }

@@ -10,7 +10,7 @@ use Rattle.sim_game.specs.Sides.{draws_of, after_reward}
 use Rattle.bounds_board.specs.declared.bounds.Enclosure.{Enclosure}
 use Rattle.bounds_board.specs.Views.{BoardView, IsLater}
 use Rattle.bounds_board.proofs.ViewLemmas.{later_refl}
-use Rattle.restricted_game.specs.declared.table.Table.{Table}
+use Rattle.restricted_game.specs.declared.table.StageTable.{StageTable}
 use Rattle.restricted_game.specs.Numbers.{IsReadNumber, AreTurnRead, IsWanted}
 use Rattle.restricted_game.specs.Tables.{IsStride, AreFilled, IsFilled, enclosure_at, numbers_in, draw_index}
 use Rattle.restricted_game.proofs.PlaceLemmas.{same_place}
@@ -55,12 +55,12 @@ module _ {S G N : Type 0} (m : GameModel S) (s : S) (reach : Reachable m s) (t u
 
 -- ---- a whole table
 -- the numbers of a side where one of the two moves is held
-pub one_read : {S G N : Type 0} (m : GameModel S) (u v : BoardView G N) (s : S) (rows cols : List ℕ) (table : Table)
+pub one_read : {S G N : Type 0} (m : GameModel S) (u v : BoardView G N) (s : S) (rows cols : List ℕ) (table : StageTable)
     → IsFilled m u v s rows cols table → (move other draw : ℕ) → move < m.moves One s → other < m.moves Two s → IsWanted rows cols move other
     → draw < draws_of m One s move other → after_reward m One s move other draw (IsReadNumber m u v One) (numbers_in One table move other draw)
 one_read m u v s rows cols table filled move other draw p q k t = (filled.read move other draw p q k t).number One
 
-pub two_read : {S G N : Type 0} (m : GameModel S) (u v : BoardView G N) (s : S) (rows cols : List ℕ) (table : Table)
+pub two_read : {S G N : Type 0} (m : GameModel S) (u v : BoardView G N) (s : S) (rows cols : List ℕ) (table : StageTable)
     → IsFilled m u v s rows cols table → (move other draw : ℕ) → move < m.moves Two s → other < m.moves One s → IsWanted cols rows move other
     → draw < draws_of m Two s move other → after_reward m Two s move other draw (IsReadNumber m u v Two) (numbers_in Two table move other draw)
 two_read m u v s rows cols table filled move other draw p q k t =

@@ -1,5 +1,5 @@
 -- The moves that a restricted game holds, and how a step adds to them.
-use Rattle.std.specs.Prelude.{◌≡◌, ℕ, ◌+◌, ◌<◌, ◌≤◌, nat_eq, Option, None, Some, List, [], ◌∷◌, ◌++◌, length, All}
+use Rattle.std.specs.Prelude.{◌≡◌, ℕ, ◌+◌, ◌<◌, ◌≤◌, nat_eq, Option, None, Some, Result, IfOk, OnErr, List, [], ◌∷◌, ◌++◌, length, All}
 use Rattle.std.specs.List.{IsDistinct}
 use Rattle.sums.specs.declared.TheConstants.{MOST_MOVES}
 use Rattle.restricted_game.specs.declared.held.StepEnd.{StepEnd}
@@ -58,6 +58,13 @@ HasGrown old new (Done lower upper) = new ≡ old
 abbrev pub IsGrown : StepEnd → Type 0
 IsGrown (Grown row col) = Unit {0}
 IsGrown (Done lower upper) = ⊥
+
+-- what a step does with the held moves: it holds those that it names as well, none where all are held; a step that fails changes nothing
+pub record HoldsMore {F : Type 0} (old new : HeldMoves) (result : Result StepEnd F) : Type 0 where
+  pub held : IfOk result (λ end. new ≡ held_after old end)
+  pub grown : IfOk result (HasGrown old new)
+  pub all : HoldsAll old → IfOk result (λ end. IsGrown end → ⊥)
+  pub kept : OnErr result (new ≡ old)
 
 -- steps of one restricted game of so many moves: what is held before each and after the last, and how each ended, of which only the last may be done
 pub record AreSteps (moves : ℕ) (held : ℕ → HeldMoves) (ends : ℕ → StepEnd) (count : ℕ) : Type 0 where

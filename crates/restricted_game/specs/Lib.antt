@@ -1,6 +1,7 @@
 pub mod Children
 pub mod Gaps
 pub mod Held
+pub mod Nodes
 pub mod Numbers
 pub mod Runs
 pub mod Sizes

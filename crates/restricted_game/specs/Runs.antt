@@ -8,8 +8,6 @@ use Rattle.sim_game.specs.declared.Side.TheVariants.{One, Two}
 use Rattle.sim_game.specs.Model.{GameModel}
 use Rattle.sim_game.specs.Sides.{other_side, IsNoTighter, IsTighter, quotient, draws_of, after_reward}
 use Rattle.plan_book.specs.declared.Entry.{Entry}
-use Rattle.plan_book.specs.Entries.{IsLawfulEntry, reads_of}
-use Rattle.plan_book.specs.Plans.{one_move}
 use Rattle.plan_book.specs.Steps.{cell, worth}
 use Rattle.matrix_game.specs.declared.solver.StageSolver.{StageSolver}
 use Rattle.matrix_game.specs.Grid.{Grid, cell_at, row_floor, col_ceiling}
@@ -64,14 +62,8 @@ pub record IsSideRun {S G N : Type 0} (m : GameModel S) (u v : BoardView G N) (s
   pub known : IsNoTighter side bound (known_bound m v side s)
 
 -- ---- posts
-abbrev pub entry_at : {S : Type 0} → GameModel S → Side → S → ℤ → List ℕ → List ℤ → Entry
-entry_at m side s bound weights reads = record { key = m.key s; side = side; bound = bound; weights = weights; reads = reads }
-
--- a lawful entry whose weights stand on one move
-pub record IsOneMoveEntry {S : Type 0} (m : GameModel S) (total : ℕ) (e : Entry) : Type 0 where
-  pub lawful : IsLawfulEntry m total e
-  pub place : ℕ
-  pub one : e.weights ≡ one_move total (length e.weights) place
+abbrev pub entry_at : {S : Type 0} → GameModel S → Side → S → ℤ → List ℕ → Entry
+entry_at m side s bound weights = record { key = m.key s; side = side; bound = bound; weights = weights }
 
 -- an entry that is tighter than what an earlier view had seen was posted, or nothing was
 pub data IsPosted {G N : Type 0} (u : BoardView G N) (e : Entry) (old new : List Entry) : Type 0 where
@@ -90,8 +82,8 @@ pub record IsStepRun {S G N : Type 0} (m : GameModel S) (u v : BoardView G N) (s
   pub two : IsSideRun m u v Two s u.total cols rows col_weights upper row
   pub is_grid : IsHeldGrid m s rows cols one.numbers grid
   pub between : List Entry
-  pub one_posted : IsPosted u (entry_at m One s lower one.plan (reads_of m One s one.plan one.numbers)) u.entries between
-  pub two_posted : IsPosted u (entry_at m Two s upper two.plan (reads_of m Two s two.plan two.numbers)) between v.entries
+  pub one_posted : IsPosted u (entry_at m One s lower one.plan) u.entries between
+  pub two_posted : IsPosted u (entry_at m Two s upper two.plan) between v.entries
 
 -- how a step ended: it names the replies that are fresh, or its bounds where none is
 pub data IsStepEnd {S G N : Type 0} (m : GameModel S) (u v : BoardView G N) (solver : StageSolver) (s : S) (h : HeldMoves) : StepEnd → Type 0 where

@@ -36,3 +36,14 @@ HasStepEnd {S} {G} {N} m v w solver s h numbers end = (u : BoardView G N) → Ar
 -- how close its bounds are, by each view since which they were read
 abbrev pub HasStepGapOver : {S G N : Type 0} → GameModel S → BoardView G N → BoardView G N → S → HeldMoves → StageNumbers → StepEnd → Type 0
 HasStepGapOver {S} {G} {N} m v w s h numbers end = (u : BoardView G N) → AreStageNumbers m u v s h numbers → HasStepGap m u w s h end
+
+-- ---- a step, between two views
+-- how it ended, and how close its bounds are
+pub record HasStepped {S G N : Type 0} (m : GameModel S) (u v : BoardView G N) (solver : StageSolver) (s : S) (h : HeldMoves) (end : StepEnd) : Type 0 where
+  pub ended : IsStepEnd m u v solver s h end
+  pub gap : HasStepGap m u v s h end
+
+-- the same of a step over numbers
+pub record HasSteppedOver {S G N : Type 0} (m : GameModel S) (u v : BoardView G N) (solver : StageSolver) (s : S) (h : HeldMoves) (numbers : StageNumbers) (end : StepEnd) : Type 0 where
+  pub ended : HasStepEnd m u v solver s h numbers end
+  pub gap : HasStepGapOver m u v s h numbers end

@@ -4,11 +4,11 @@ ghost use Rattle.std.specs.List.{Contains};
 ghost use Rattle.sim_game.specs.Sides.{move_of_one, move_of_two};
 ghost use Rattle.restricted_game.specs.Held.{AreMoves};
 
-use crate::table::Cells;
+use crate::table::StageCells;
 use sim_game::Side;
 
 /// The cell of an own move against a reply.
-fn cell_of(side: Side, cells: &Cells, own: u32, reply: u32) -> i64
+fn cell_of(side: Side, cells: &StageCells, own: u32, reply: u32) -> i64
     requires own { own < move_of_one side cells.now.height cells.now.width }
     requires reply { reply < move_of_two side cells.now.height cells.now.width }
 {
@@ -20,7 +20,7 @@ fn cell_of(side: Side, cells: &Cells, own: u32, reply: u32) -> i64
 }
 
 /// What an own move proves: the least of its cells for the side.
-fn floor_of(side: Side, cells: &Cells, own: u32) -> i64
+fn floor_of(side: Side, cells: &StageCells, own: u32) -> i64
     requires own { own < move_of_one side cells.now.height cells.now.width }
 {
     let mut floor = cell_of(side, cells, own, 0);
@@ -41,7 +41,7 @@ pub(crate) struct Alone {
 }
 
 /// The first of the held moves that prove most.
-pub(crate) fn best_alone(side: Side, cells: &Cells, held: &[u32]) -> Alone
+pub(crate) fn best_alone(side: Side, cells: &StageCells, held: &[u32]) -> Alone
     requires held { AreMoves (move_of_one side cells.now.height cells.now.width) held.now }
     ensures { Contains held.now result.place }
 {

@@ -1,7 +1,7 @@
 //! The lists that stages are read into, kept from one stage to the next.
 ghost use Rattle.std.specs.Prelude.{◌≡◌, [], replicate, vec_len, IfOk};
 
-use crate::table::{Cells, StageNumbers, Table};
+use crate::table::{StageCells, StageNumbers, StageTable};
 use bounds_board::{Enclosure, Row};
 use sim_game::NoMemory;
 use std::alloc::Global;
@@ -59,11 +59,11 @@ impl StageNumbers {
     /// Gives back the lists that the numbers were read into.
     pub fn give_back(self, buffers: &mut StageBuffers) {
         let StageNumbers { table, lows, highs } = self;
-        let Table { enclosures, .. } = table;
-        let Cells { items, .. } = lows;
+        let StageTable { enclosures, .. } = table;
+        let StageCells { items, .. } = lows;
         buffers.enclosures = enclosures;
         buffers.lows = items;
-        let Cells { items, .. } = highs;
+        let StageCells { items, .. } = highs;
         buffers.highs = items;
     }
 }

@@ -7,14 +7,14 @@ ghost use Rattle.restricted_game.specs.Stages.{HasCells};
 ghost use Rattle.restricted_game.specs.Tables.{AreCells, HasShape, pair_cell, held_cells};
 
 use crate::buffers::{StageBuffers, emptied};
-use crate::table::{Cells, StageNumbers, Table};
+use crate::table::{StageCells, StageNumbers, StageTable};
 use sim_game::{CHANCE, Game, NoMemory, Side};
 use std::alloc::Global;
 use sums::weighted;
 
 /// The cell of a side at a pair of moves, in millionths: the mean of its numbers at the draws, rounded so that it says
 /// no more for the side.
-fn pair_cell<G: Game>(g: G, s: G::State, side: Side, one: u32, two: u32, table: &Table) -> i64
+fn pair_cell<G: Game>(g: G, s: G::State, side: Side, one: u32, two: u32, table: &StageTable) -> i64
     requires reachable { Reachable (G.model g) s }
     requires shape { HasShape (G.model g) s table.now }
     requires one { one < (G.model g).moves Side.One s }
@@ -35,9 +35,9 @@ fn cells_of<G: Game>(
     g: G,
     s: G::State,
     side: Side,
-    table: &Table,
+    table: &StageTable,
     list: &mut Vec<i64>,
-) -> Result<Cells, NoMemory>
+) -> Result<StageCells, NoMemory>
     requires reachable { Reachable (G.model g) s }
     requires goes_on { 1 ≤ (G.model g).rank s }
     requires shape { HasShape (G.model g) s table.now }
@@ -51,7 +51,7 @@ fn cells_of<G: Game>(
         let two = pair % table.width;
         items.push(pair_cell(g, s, side, one, two, table))?;
     }
-    Ok(Cells {
+    Ok(StageCells {
         height: table.height,
         width: table.width,
         items,
@@ -61,7 +61,7 @@ fn cells_of<G: Game>(
 /// The cells of held moves, row by row in order of addition.
 pub(crate) fn held_cells(
     alloc: Global,
-    cells: &Cells,
+    cells: &StageCells,
     rows: &[u32],
     cols: &[u32],
 ) -> Result<Vec<i64>, NoMemory>
@@ -86,7 +86,7 @@ pub(crate) fn held_cells(
 pub(crate) fn numbers_of<G: Game>(
     g: G,
     s: G::State,
-    table: Table,
+    table: StageTable,
     buffers: &mut StageBuffers,
 ) -> Result<StageNumbers, NoMemory>
     requires reachable { Reachable (G.model g) s }

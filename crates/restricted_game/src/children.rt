@@ -1,8 +1,9 @@
 //! Rows of the states after pairs of moves.
 ghost use Rattle.std.specs.Prelude.{◌≡◌, ◌<◌, IfOk, OnErr};
 ghost use Rattle.sim_game.specs.Model.{Reachable};
-ghost use Rattle.bounds_board.specs.Views.{IsLater, IsFull};
+ghost use Rattle.bounds_board.specs.Views.{IsFull};
 ghost use Rattle.restricted_game.specs.Children.{AreChildRows, HasNoRows, HasRow};
+ghost use Rattle.restricted_game.specs.Nodes.{HasOnlyRead};
 ghost use Rattle.restricted_game.specs.Tables.{IsStride};
 
 use crate::buffers::{StageBuffers, filled};
@@ -102,10 +103,8 @@ impl ChildRows {
         requires two { two < (G.model g).moves Side.Two s }
         requires draw { draw < (G.model g).draws s one two }
         requires children { AreChildRows (G.model g) (B.view board.old) s self.old }
-        ensures later { IsLater (B.view board.old) (B.view board.new) }
-        ensures entries { (B.view board.new).entries ≡ (B.view board.old).entries }
+        ensures board { HasOnlyRead (G.model g) (B.view board.old) (B.view board.new) s self.new }
         ensures row { IfOk result (HasRow (G.model g) (B.view board.new) ((G.model g).drawn s one two draw)) }
-        ensures children { AreChildRows (G.model g) (B.view board.new) s self.new }
         ensures full { OnErr result (IsFull (G.model g) (B.view board.new)
             ((G.model g).key ((G.model g).drawn s one two draw))) }
     {

@@ -1,20 +1,19 @@
 //! The moves that a restricted game holds.
-ghost use Rattle.std.specs.Prelude.{◌≡◌, ◌⊎◌, ◌↔◌, ◌≤◌, ◌<◌, ◌∷◌, [], Some, Err, IfOk, OnOk, OnErr, IfSome, vec_len, vec_capacity};
+ghost use Rattle.std.specs.Prelude.{◌≡◌, ◌↔◌, ◌≤◌, ◌<◌, ◌∷◌, [], Err, IfOk, IfSome, vec_len, vec_capacity};
 ghost use Rattle.sums.specs.declared.TheConstants.{MOST_MOVES};
 ghost use Rattle.std.specs.List.{range_with_len};
 ghost use Rattle.sim_game.specs.Model.{Reachable};
 ghost use Rattle.plan_book.specs.Books.{Grows};
-ghost use Rattle.plan_book.specs.Entries.{IsLawfulEntry};
-ghost use Rattle.matrix_game.specs.Budget.{left_of, after_one_turn};
+ghost use Rattle.plan_book.specs.Entries.{IsPureEntry};
+ghost use Rattle.matrix_game.specs.Budget.{left_of};
 ghost use Rattle.matrix_game.specs.Solvers.{UsesRegret};
 ghost use Rattle.bounds_board.specs.Views.{IsLater, WasFull};
 ghost use Rattle.restricted_game.specs.Children.{AreChildRows};
-ghost use Rattle.restricted_game.specs.Held.{AreMoves, HoldsAll, HasGrown, IsGrown, held_after, with_move};
-ghost use Rattle.restricted_game.specs.Gaps.{HasStepGap};
+ghost use Rattle.restricted_game.specs.Held.{AreMoves, HoldsAll, HoldsMore, with_move};
+ghost use Rattle.restricted_game.specs.Nodes.{IsAtNode, FitsState, IsBetter, HasOnlyRead};
 ghost use Rattle.restricted_game.specs.Numbers.{IsReadChild};
-ghost use Rattle.restricted_game.specs.Runs.{IsOneMoveEntry, IsStepEnd};
-ghost use Rattle.restricted_game.specs.Stages.{AreStageNumbers, WereStageNumbers, HasStepEnd, HasStepGapOver};
-ghost use Rattle.restricted_game.specs.Turns.{TakesStepTurn};
+ghost use Rattle.restricted_game.specs.Stages.{AreStageNumbers, WereStageNumbers, HasStepped, HasSteppedOver};
+ghost use Rattle.restricted_game.specs.Turns.{TakesStepTurn, TakesTurnOver};
 
 use crate::alone::best_alone;
 use crate::buffers::{StageBuffers, emptied};
@@ -180,32 +179,19 @@ impl Restricted {
         turns: &mut Turns,
         solver: &mut StageSolver,
     ) -> Result<StepEnd, StepFault>
-        requires game { (B.view board.old).game ≡ g }
-        requires reachable { Reachable (G.model g) node.state }
-        requires goes_on { 1 ≤ (G.model g).rank node.state }
-        requires row { (B.view board.old).key_at node.row ≡ Some ((G.model g).key node.state) }
-        requires rows { self.old.most_rows ≡ (G.model g).moves Side.One node.state }
-        requires cols { self.old.most_cols ≡ (G.model g).moves Side.Two node.state }
+        requires here { IsAtNode (G.model g) g (B.view board.old) node.state node.row }
+        requires fits { FitsState (G.model g) node.state self.old }
         requires children { AreChildRows (G.model g) (B.view board.old) node.state children.old }
-        ensures later { IsLater (B.view board.old) (B.view board.new) }
-        ensures posted { Grows (IsLawfulEntry (G.model g) (B.view board.old).total)
-            (B.view board.old).entries (B.view board.new).entries }
+        ensures better { IsBetter (G.model g) (B.view board.old) (B.view board.new) }
         ensures children { AreChildRows (G.model g) (B.view board.new) node.state children.new }
-        ensures ended { IfOk result (IsStepEnd (G.model g)
+        ensures stepped { IfOk result (HasStepped (G.model g)
             (B.view board.old) (B.view board.new) solver.old node.state self.old) }
-        ensures gap { IfOk result (HasStepGap (G.model g)
-            (B.view board.old) (B.view board.new) node.state self.old) }
-        ensures held { IfOk result (λ end. self.new ≡ held_after self.old end) }
-        ensures grown { IfOk result (HasGrown self.old self.new) }
-        ensures all { HoldsAll self.old → IfOk result (λ end. IsGrown end → ⊥) }
+        ensures held { HoldsMore self.old self.new result }
 
         // A turn that was left and a claim that was full gave `Full`: on Ok each child that was asked for has a row.
-        ensures turn { TakesStepTurn turns.old turns.new result }
-        ensures untouched { left_of turns.old ≡ 0 → B.view board.new ≡ B.view board.old }
+        ensures turn { TakesStepTurn turns.old turns.new (B.view board.old) (B.view board.new) result }
         ensures full { result ≡ Err StepFault.Full → WasFull (G.model g) (B.view board.new)
             (IsReadChild (G.model g) node.state self.old.rows self.old.cols) }
-        ensures unposted { turns.new ≡ turns.old → (B.view board.new).entries ≡ (B.view board.old).entries }
-        ensures kept { OnErr result (self.new ≡ self.old) }
         ensures kind { UsesRegret solver.new ↔ UsesRegret solver.old }
     {
         if turns.left() == 0 {
@@ -237,9 +223,7 @@ impl Restricted {
         requires reachable { Reachable (G.model g) s }
         requires goes_on { 1 ≤ (G.model g).rank s }
         requires children { AreChildRows (G.model g) (B.view board.old) s children.old }
-        ensures later { IsLater (B.view board.old) (B.view board.new) }
-        ensures entries { (B.view board.new).entries ≡ (B.view board.old).entries }
-        ensures children { AreChildRows (G.model g) (B.view board.new) s children.new }
+        ensures board { HasOnlyRead (G.model g) (B.view board.old) (B.view board.new) s children.new }
         ensures read { IfOk result (AreStageNumbers (G.model g) (B.view board.old) (B.view board.new) s self.now) }
         ensures full { result ≡ Err BoardFault.Full → WasFull (G.model g) (B.view board.new)
             (IsReadChild (G.model g) s self.now.rows self.now.cols) }
@@ -265,31 +249,17 @@ impl Restricted {
         turns: &mut Turns,
         solver: &mut StageSolver,
     ) -> Result<StepEnd, NoMemory>
-        requires game { (B.view board.old).game ≡ g }
-        requires reachable { Reachable (G.model g) node.state }
-        requires goes_on { 1 ≤ (G.model g).rank node.state }
-        requires row { (B.view board.old).key_at node.row ≡ Some ((G.model g).key node.state) }
-        requires rows { self.old.most_rows ≡ (G.model g).moves Side.One node.state }
-        requires cols { self.old.most_cols ≡ (G.model g).moves Side.Two node.state }
+        requires here { IsAtNode (G.model g) g (B.view board.old) node.state node.row }
+        requires fits { FitsState (G.model g) node.state self.old }
         requires read { WereStageNumbers (G.model g) (B.view board.old) node.state self.old numbers.now }
         requires left { 1 ≤ left_of turns.old }
-        ensures later { IsLater (B.view board.old) (B.view board.new) }
-        ensures posted { Grows (IsLawfulEntry (G.model g) (B.view board.old).total)
-            (B.view board.old).entries (B.view board.new).entries }
-        ensures ended { IfOk result (HasStepEnd (G.model g)
+        ensures better { IsBetter (G.model g) (B.view board.old) (B.view board.new) }
+        ensures stepped { IfOk result (HasSteppedOver (G.model g)
             (B.view board.old) (B.view board.new) solver.old node.state self.old numbers.now) }
-        ensures gap { IfOk result (HasStepGapOver (G.model g)
-            (B.view board.old) (B.view board.new) node.state self.old numbers.now) }
-        ensures held { IfOk result (λ end. self.new ≡ held_after self.old end) }
-        ensures grown { IfOk result (HasGrown self.old self.new) }
-        ensures all { HoldsAll self.old → IfOk result (λ end. IsGrown end → ⊥) }
-        ensures ok { OnOk result (turns.new ≡ after_one_turn turns.old) }
-        ensures at_most_one { (turns.new ≡ turns.old) ⊎ (turns.new ≡ after_one_turn turns.old) }
-        ensures unposted { turns.new ≡ turns.old → B.view board.new ≡ B.view board.old }
-        ensures kept { OnErr result (self.new ≡ self.old) }
+        ensures held { HoldsMore self.old self.new result }
+        ensures turn { TakesTurnOver turns.old turns.new (B.view board.old) (B.view board.new) result }
         ensures kind { UsesRegret solver.new ↔ UsesRegret solver.old }
     {
-        let alloc = *self.rows.allocator();
         let total = board.total();
         let plans = match self.plan(g, node.state, total, numbers, turns, solver) {
             Ok(plans) => plans,
@@ -297,7 +267,7 @@ impl Restricted {
         };
         let (lower, fresh_col) = (plans.one.bound, plans.one.fresh);
         let (upper, fresh_row) = (plans.two.bound, plans.two.fresh);
-        match post_both(alloc, g, node, &numbers.table, plans, board) {
+        match post_both(g, node, plans, board) {
             Ok(()) => {}
             Err(_) => return Err(NoMemory),
         }
@@ -323,18 +293,14 @@ impl Restricted {
         numbers: &StageNumbers,
         board: &mut B,
     ) -> Result<(), NoMemory>
-        requires game { (B.view board.old).game ≡ g }
-        requires reachable { Reachable (G.model g) node.state }
-        requires goes_on { 1 ≤ (G.model g).rank node.state }
-        requires row { (B.view board.old).key_at node.row ≡ Some ((G.model g).key node.state) }
-        requires rows { self.now.most_rows ≡ (G.model g).moves Side.One node.state }
-        requires cols { self.now.most_cols ≡ (G.model g).moves Side.Two node.state }
+        requires here { IsAtNode (G.model g) g (B.view board.old) node.state node.row }
+        requires fits { FitsState (G.model g) node.state self.now }
         requires read { WereStageNumbers (G.model g) (B.view board.old) node.state self.now numbers.now }
         ensures later { IsLater (B.view board.old) (B.view board.new) }
-        ensures posted { Grows (IsOneMoveEntry (G.model g) (B.view board.old).total)
+        ensures posted { Grows (IsPureEntry (G.model g) (B.view board.old).total)
             (B.view board.old).entries (B.view board.new).entries }
     {
-        let StageNumbers { table, lows, highs } = numbers;
+        let StageNumbers { lows, highs, .. } = numbers;
         let rows = self.rows();
         let cols = self.cols();
         let row = best_alone(Side::One, lows, rows);
@@ -348,7 +314,7 @@ impl Restricted {
         let total = board.total();
         let one = plan_side(alloc, Side::One, total, lows, &[row.place], cols, &[total])?;
         let two = plan_side(alloc, Side::Two, total, highs, &[col.place], rows, &[total])?;
-        post_both(alloc, g, node, table, Plans { one, two }, board)
+        post_both(g, node, Plans { one, two }, board)
     }
 }
 

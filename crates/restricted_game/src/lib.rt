@@ -12,7 +12,6 @@ mod node;
 mod plans;
 mod posts;
 mod reading;
-mod reads;
 mod stage;
 mod table;
 

@@ -14,8 +14,8 @@ ghost use Rattle.restricted_game.specs.Tables.{ArePlans, IsCellPlan};
 
 use crate::held::Restricted;
 use crate::stage::solve_held;
-use crate::table::{Cells, StageNumbers};
-use best_reply::{Reply, reply_one, reply_two};
+use crate::table::{StageCells, StageNumbers};
+use best_reply::{BestReply, reply_one, reply_two};
 use matrix_game::{StageSolver, Turns};
 use sim_game::{Game, NoMemory, Side};
 use std::alloc::Global;
@@ -34,7 +34,7 @@ fn spread(alloc: Global, held: &[u32], weights: &[u32], moves: u32) -> Result<Ve
 }
 
 /// The best reply of the other side to the weights of all own moves.
-fn reply_to(side: Side, cells: &Cells, weights: &[u32], held: &[u32]) -> Reply
+fn reply_to(side: Side, cells: &StageCells, weights: &[u32], held: &[u32]) -> BestReply
     requires weights { length weights.now ≡ move_of_one side cells.now.height cells.now.width }
     requires light { All (λ weight. weight ≤ MOST_WEIGHT) weights.now }
     requires held { All (λ move. move < move_of_two side cells.now.height cells.now.width) held.now }
@@ -64,7 +64,7 @@ pub(crate) fn plan_side(
     alloc: Global,
     side: Side,
     total: u32,
-    cells: &Cells,
+    cells: &StageCells,
     own: &[u32],
     others: &[u32],
     weights: &[u32],

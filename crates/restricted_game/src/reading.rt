@@ -1,27 +1,37 @@
 //! Reads of the states after held moves.
 ghost use Rattle.std.specs.Prelude.{◌≡◌, ◌≤◌, ◌<◌, ◌+ℤ◌, IfOk, OnErr, MatchBool, Err, unsigned_abs};
+ghost use Rattle.std.specs.List.{Contains};
+ghost use Rattle.sums.specs.declared.TheConstants.{MOST_REWARD};
 ghost use Rattle.bounds_board.specs.Views.{IsLater, WasFull, bound_in};
 ghost use Rattle.sim_game.specs.declared.Side.{Side};
 ghost use Rattle.sim_game.specs.Model.{Reachable};
 ghost use Rattle.restricted_game.specs.Children.{AreChildRows, HasRow};
+ghost use Rattle.restricted_game.specs.Nodes.{HasOnlyRead};
 ghost use Rattle.restricted_game.specs.Numbers.{AreRead, AreTurnRead, IsWanted, IsReadChild};
 ghost use Rattle.restricted_game.specs.Sizes.{IsSmallEnclosure};
 ghost use Rattle.restricted_game.specs.Tables.{HasShape, IsFilled};
 
 use crate::buffers::{StageBuffers, filled};
 use crate::children::ChildRows;
-use crate::table::Table;
+use crate::table::StageTable;
 use bounds_board::{BoardFault, Bounds, Enclosure, Full, Row, known_bounds};
 use sim_game::{Game, Side, end_bound, turn_reward};
+
+/// Whether a move is held. If all moves are, each is in the place of its number, so that place is looked at first.
+fn is_held(held: &[u32], own: u32) -> bool
+    ensures { MatchBool result (Contains held.now own) (Contains held.now own → ⊥) }
+{
+    if (own as usize) < held.len() && held[own as usize] == own {
+        return true;
+    }
+    held.contains(&own)
+}
 
 /// Whether a step reads what follows a pair of moves.
 fn is_wanted(rows: &[u32], cols: &[u32], one: u32, two: u32) -> bool
     ensures { MatchBool result (IsWanted rows.now cols.now one two) (IsWanted rows.now cols.now one two → ⊥) }
 {
-    if rows.contains(&one) {
-        return true;
-    }
-    cols.contains(&two)
+    is_held(rows, one) || is_held(cols, two)
 }
 
 /// A draw after a pair of moves.
@@ -62,7 +72,7 @@ fn read_state<G: Game, B: Bounds<G>>(
 /// Both bounds, with the reward of the turn that leads to them.
 fn with_reward(read: Enclosure, reward: i64) -> Enclosure
     requires small { IsSmallEnclosure read }
-    requires reward { unsigned_abs reward ≤ 8000000000 }
+    requires reward { unsigned_abs reward ≤ MOST_REWARD }
     ensures { (side : Side) → bound_in side result ≡ reward +ℤ bound_in side read }
 {
     Enclosure {
@@ -87,9 +97,7 @@ fn read_child<G: Game, B: Bounds<G>>(
     requires one { at.one < (G.model g).moves Side.One s }
     requires two { at.two < (G.model g).moves Side.Two s }
     requires children { AreChildRows (G.model g) (B.view board.old) s children.old }
-    ensures later { IsLater (B.view board.old) (B.view board.new) }
-    ensures entries { (B.view board.new).entries ≡ (B.view board.old).entries }
-    ensures children { AreChildRows (G.model g) (B.view board.new) s children.new }
+    ensures board { HasOnlyRead (G.model g) (B.view board.old) (B.view board.new) s children.new }
     ensures read { IfOk result (λ e. IsWanted rows.now cols.now at.one at.two
         → at.draw < (G.model g).draws s at.one at.two
         → AreTurnRead (G.model g) (B.view board.old) (B.view board.new) s at.one at.two at.draw e) }
@@ -123,14 +131,12 @@ pub(crate) fn read_table<G: Game, B: Bounds<G>>(
     children: &mut ChildRows,
     board: &mut B,
     buffers: &mut StageBuffers,
-) -> Result<Table, BoardFault>
+) -> Result<StageTable, BoardFault>
     requires game { (B.view board.old).game ≡ g }
     requires reachable { Reachable (G.model g) s }
     requires goes_on { 1 ≤ (G.model g).rank s }
     requires children { AreChildRows (G.model g) (B.view board.old) s children.old }
-    ensures later { IsLater (B.view board.old) (B.view board.new) }
-    ensures entries { (B.view board.new).entries ≡ (B.view board.old).entries }
-    ensures children { AreChildRows (G.model g) (B.view board.new) s children.new }
+    ensures board { HasOnlyRead (G.model g) (B.view board.old) (B.view board.new) s children.new }
     ensures shape { IfOk result (HasShape (G.model g) s) }
     ensures filled { IfOk result (IsFilled (G.model g) (B.view board.old) (B.view board.new) s rows.now cols.now) }
     ensures full { result ≡ Err BoardFault.Full
@@ -156,7 +162,7 @@ pub(crate) fn read_table<G: Game, B: Bounds<G>>(
             }
         }
     }
-    Ok(Table {
+    Ok(StageTable {
         height,
         width,
         stride,

@@ -8,7 +8,7 @@ ghost use Rattle.restricted_game.specs.Runs.{IsHeldStage};
 ghost use Rattle.restricted_game.specs.Tables.{held_grid};
 
 use crate::cells::held_cells;
-use crate::table::Cells;
+use crate::table::StageCells;
 use matrix_game::{Matrix, StageError, StagePlans, StageSolver, Turns};
 use sim_game::NoMemory;
 use std::alloc::Global;
@@ -16,7 +16,7 @@ use std::alloc::Global;
 /// Solves the game on the held moves, for one turn; out of memory takes none.
 pub(crate) fn solve_held(
     alloc: Global,
-    cells: &Cells,
+    cells: &StageCells,
     rows: &[u32],
     cols: &[u32],
     total: u32,

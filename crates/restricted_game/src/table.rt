@@ -11,7 +11,7 @@ use sim_game::Side;
 /// The bounds at the states after pairs of moves, one place a draw, pair by pair, row by row; places that were not read
 /// have zeros.
 #[derive(Drop)]
-pub(crate) struct Table {
+pub(crate) struct StageTable {
     /// How many moves One has.
     pub(crate) height: u32,
     /// How many moves Two has.
@@ -25,7 +25,7 @@ pub(crate) struct Table {
 
 /// The cells of all pairs of moves, row by row, in millionths of a payoff to One.
 #[derive(Drop)]
-pub(crate) struct Cells {
+pub(crate) struct StageCells {
     /// How many moves One has.
     pub(crate) height: u32,
     /// How many moves Two has.
@@ -42,14 +42,14 @@ pub(crate) struct Cells {
 /// The numbers that a stage is made of: what was read of the states after held moves, and the cells of each side.
 #[derive(Drop)]
 pub struct StageNumbers {
-    pub(crate) table: Table,
+    pub(crate) table: StageTable,
     /// One's cells.
-    pub(crate) lows: Cells,
+    pub(crate) lows: StageCells,
     /// Two's cells.
-    pub(crate) highs: Cells,
+    pub(crate) highs: StageCells,
 }
 
-impl Table {
+impl StageTable {
     ghost use Rattle.std.specs.Prelude.{◌≡◌, ◌<◌, ◌≤◌, unsigned_abs};
     ghost use Rattle.bounds_board.specs.Views.{bound_in};
     ghost use Rattle.restricted_game.specs.Tables.{enclosure_in};

@@ -1,5 +1,5 @@
 -- Sums over draws: their range, and one draw more.
-use Rattle.std.proofs.Common.{◌≡◌, ⊎_elim, ℕ, ◌+◌, ◌<◌, ◌≤◌, ℤ, pos, negsuc, ◌+ℤ◌, ◌*ℤ◌, ◌≤ℤ◌, List, [], ◌∷◌, ◌++◌, w64, SFits, to_z, of_z, refl, sym, ap, subst, ◌∙◌, append_assoc, add-one, arith}
+use Rattle.std.proofs.Common.{◌≡◌, ⊎_elim, ℕ, ◌+◌, ◌<◌, ◌≤◌, ℤ, pos, negsuc, ◌+ℤ◌, ◌*ℤ◌, ◌≤ℤ◌, w64, SFits, to_z, of_z, refl, sym, subst, ◌∙◌, add-one, arith}
 use Rattle.std.proofs.lemmas.Int.{ints, to_z-of_z}
 use Rattle.std.proofs.lemmas.Bool.{cases_lt}
 use Rattle.sim_game.specs.declared.Side.{Side}
@@ -11,7 +11,6 @@ use Rattle.sim_game.proofs.SideLemmas.{opening_state}
 use Rattle.sums.proofs.SumLemmas.{sum_mono, sum_weights}
 use Rattle.sim_game.specs.Sides.{other_side, opening_bound, draws_of, chance_of, after_reward}
 use Rattle.serial_ab.specs.Values.{turn_value}
-use Rattle.plan_book.specs.Entries.{concat_below}
 use Rattle.plan_book.proofs.GuaranteeLemmas.{chances}
 use Rattle.bounds_board.specs.Views.{BoardView, IsLater}
 use Rattle.serial_ab.specs.Searches.{IsGoodNumber}
@@ -95,15 +94,6 @@ module _ {S : Type 0} (m : GameModel S) (game : IsGame m) (side : Side) (s : S) 
           (λ i. pos (chance_of m side s own reply i) *ℤ turn_value m side s own reply i)
       added_is = to_z-of_z w64 _ added_fits
           ∙ rw (to_z-of_z w64 (to_z w64 k *ℤ to_z w64 (of_z w64 x)) product_fits, chance_is, found_is, is_value, is_chance, summed, add-one d) refl
-
-    -- the list with one draw more
-    pub listed_more : (before now mid after : List ℤ) → now ≡ before ++ concat_below d (λ i. turn_value m side s own reply i ∷ []) → mid ≡ now
-        → after ≡ mid ++ to_z w64 (of_z w64 x) ∷ []
-        → after ≡ before ++ concat_below (d + 1) (λ i. turn_value m side s own reply i ∷ [])
-    listed_more before now mid after p same q =
-        q ∙ ap (λ (l : List ℤ). l ++ to_z w64 (of_z w64 x) ∷ []) (same ∙ p) ∙ append_assoc before (concat_below d (λ i. turn_value m side s own reply i ∷ [])) _
-        ∙ ap (λ (y : ℤ). before ++ (concat_below d (λ i. turn_value m side s own reply i ∷ []) ++ y ∷ [])) (found_is ∙ is_value)
-        ∙ sym (ap (λ (n : ℕ). before ++ concat_below n (λ i. turn_value m side s own reply i ∷ [])) (add-one d))
 
     pub good_more : {G N : Type 0} (u v : BoardView G N) → IsLater u v
         → ((i : ℕ) → i < d → after_reward m side s own reply i (IsGoodNumber m side u) (turn_value m side s own reply i))

@@ -1,6 +1,6 @@
 -- The entry of a step by one move.
-use Rattle.std.proofs.Common.{◌≡◌, ◌≢◌, ⊎_elim, ℕ, zero, suc, ◌<◌, ◌≤◌, ℤ, cond, nat_eq, List, [], get_or, replicate, refl, sym, ap, subst, ◌∙◌, append-nil, arith}
-use Rattle.std.proofs.lemmas.Bool.{cases_eq, cases_lt}
+use Rattle.std.proofs.Common.{◌≡◌, ◌≢◌, ⊎_elim, ℕ, zero, suc, ◌<◌, ◌≤◌, ℤ, get_or, replicate, refl, sym, ap, subst, arith}
+use Rattle.std.proofs.lemmas.Bool.{cases_eq}
 use Rattle.sim_game.specs.declared.Side.{Side}
 use Rattle.sim_game.specs.declared.Side.TheVariants.{One, Two}
 use Rattle.sim_game.specs.Model.{GameModel, IsGame, Reachable}
@@ -8,14 +8,14 @@ use Rattle.plan_book.specs.declared.Entry.{Entry}
 use Rattle.sim_game.specs.Sides.{other_side, IsNoTighter, state_bound, draws_of, child_of, turn_reward, after_reward}
 use Rattle.plan_book.specs.Backed.{IsBacked, by_range, by_end, by_step}
 use Rattle.plan_book.specs.Plans.{one_move}
-use Rattle.plan_book.specs.Entries.{IsEntry, reads_of_move, concat_below}
+use Rattle.plan_book.specs.Entries.{IsEntry, IsPureEntry}
 use Rattle.plan_book.proofs.BackedLemmas.{mean_within}
-use Rattle.plan_book.proofs.ExpectedLemmas.{is_other, one_move_fits}
+use Rattle.plan_book.proofs.ExpectedLemmas.{one_move_fits}
 use Rattle.plan_book.proofs.SerialLemmas.{pure_step, serial_backed}
 use Rattle.sim_game.proofs.SideLemmas.{looser_trans, looser_times, looser_more}
 use Rattle.bounds_board.specs.Views.{BoardView, IsLater, IsSeenNumber}
 use Rattle.bounds_board.proofs.ViewLemmas.{seen_later}
-use Rattle.serial_ab.specs.Searches.{IsReplied, IsPureEntry}
+use Rattle.serial_ab.specs.Searches.{IsReplied}
 use Rattle.serial_ab.proofs.ValueLemmas.{turn_value_high, child_is}
 
 -- a backed bound stays backed where it says less
@@ -37,11 +37,6 @@ no_weight zero (suc i) = refl
 no_weight (suc n) zero = refl
 no_weight (suc n) (suc i) = no_weight n i
 
-one_move_at : (total count place : ℕ) → place < count → get_or (one_move total count place) place 0 ≡ total
-one_move_at total zero place h = absurd (omega arith)
-one_move_at total (suc count) zero h = refl
-one_move_at total (suc count) (suc place) h = one_move_at total count place (omega arith)
-
 one_move_other : (total count place i : ℕ) → i ≢ place → get_or (one_move total count place) i 0 ≡ 0
 one_move_other total zero place zero n = refl
 one_move_other total zero place (suc i) n = refl
@@ -50,27 +45,14 @@ one_move_other total (suc count) zero (suc i) n = no_weight count i
 one_move_other total (suc count) (suc place) zero n = refl
 one_move_other total (suc count) (suc place) (suc i) n = one_move_other total count place i (λ e. n (ap suc e))
 
--- all parts but one are empty
-joined_none : {A : Type 0} (n : ℕ) (f : ℕ → List A) → ((i : ℕ) → i < n → f i ≡ []) → concat_below n f ≡ []
-joined_none zero f h = refl
-joined_none (suc n) f h = let front = joined_none n f (λ i p. h i (omega arith)) in let last = h n (omega arith) in rw (front, last) refl
-
-joined_only : {A : Type 0} (n place : ℕ) (f : ℕ → List A) → place < n → ((i : ℕ) → i < n → i ≢ place → f i ≡ []) → concat_below n f ≡ f place
-joined_only zero place f p h = absurd (omega arith)
-joined_only (suc n) place f p h = ⊎_elim
-    (λ (lt : place < n). let front = joined_only n place f lt (λ i q d. h i (omega arith) d) in let last = h n (omega arith) (λ e. omega arith) in
-    rw (front, last) (append-nil (f place)))
-    (λ (ge : n ≤ place). let same : place ≡ n = omega arith in let front = joined_none n f (λ i q. h i (omega arith) (λ e. omega arith)) in rw (front, same) refl)
-    (cases_lt place n)
-
 pub in_range : {S : Type 0} (m : GameModel S) (s : S) (of : Side) (x : ℤ) → IsNoTighter of (state_bound m of s) x → IsNoTighter of x (state_bound m (other_side of) s)
     → IsNoTighter One (state_bound m One s) x × IsNoTighter Two (state_bound m Two s) x
 in_range m s One x p q = (p, q)
 in_range m s Two x p q = (q, p)
 
 module _ {S G N : Type 0} (m : GameModel S) (game : IsGame m) (side : Side) (s : S) (r : Reachable m s) (goes : 1 ≤ m.rank s) (own : ℕ) (at : own < m.moves side s)
-    (u v : BoardView G N) (later : IsLater u v) (reads : List ℤ) (bound : ℤ) (low : IsNoTighter side (state_bound m side s) bound)
-    (replied : IsReplied m side s own (m.moves (other_side side) s) u reads bound)
+    (u v : BoardView G N) (later : IsLater u v) (bound : ℤ) (low : IsNoTighter side (state_bound m side s) bound)
+    (replied : IsReplied m side s own (m.moves (other_side side) s) u bound)
     (total : ℕ) (some : 1 ≤ total) where
   positive : (o : ℕ) → 1 ≤ get_or (one_move total (m.moves side s) own) o 0 → own ≡ o
   positive o w = ⊎_elim (λ (e : o ≡ own). sym e) (λ (n : o ≢ own). let none = one_move_other total (m.moves side s) own o n in absurd (omega arith)) (cases_eq o own)
@@ -82,7 +64,7 @@ module _ {S G N : Type 0} (m : GameModel S) (game : IsGame m) (side : Side) (s :
       looser_trans side _ _ _ (looser_more side (turn_reward m side s own 0 d) _ _ (replied.good 0 d (omega arith) w).proven)
       (turn_value_high m game side s own 0 d r at (omega arith) w)))
 
-  pub pure_entry : IsEntry m total (IsSeenNumber m v) (record { key = m.key s; side = side; bound = bound; weights = one_move total (m.moves side s) own; reads = reads })
+  pub pure_entry : IsEntry m total (IsSeenNumber m v) (record { key = m.key s; side = side; bound = bound; weights = one_move total (m.moves side s) own })
   pure_entry = let range = in_range m s side bound low bound_high in record {
     state = s;
     reachable = r;
@@ -90,10 +72,6 @@ module _ {S G N : Type 0} (m : GameModel S) (game : IsGame m) (side : Side) (s :
     low = range.0;
     high = range.1;
     numbers = λ _ a b. replied.numbers a b;
-    listed = replied.listed ∙ sym (joined_only (m.moves side s) own
-        (λ o. cond (nat_eq (get_or (one_move total (m.moves side s) own) o 0) 0) [] (reads_of_move m side s (λ _ a b. replied.numbers a b) o)) at
-        (λ o p n. rw (one_move_other total (m.moves side s) own o n) refl)
-        ∙ rw (one_move_at total (m.moves side s) own at, is_other total 0 (λ e. omega arith)) refl);
     step = pure_step m side s total own (λ _ a b. replied.numbers a b) bound goes some at replied.proven;
     backed = λ o a d p q t w. subst (λ (k : ℕ). (c : ℕ) → c < draws_of m side s k a → after_reward m side s k a c (IsBacked m side) (replied.numbers a c)) (positive o w)
         (λ c t'. backed_looser m side _ _ _ (serial_backed m game side (child_of m side s own a c) (child_is m game side s own a c r at q t')) (replied.good a c q t').proven) d t;
@@ -101,7 +79,7 @@ module _ {S G N : Type 0} (m : GameModel S) (game : IsGame m) (side : Side) (s :
         (λ c t'. seen_later m u v side _ _ later (replied.good a c q t').seen) d t;
   }
 
-  pub is_pure : (e : Entry) → e ≡ record { key = m.key s; side = side; bound = bound; weights = one_move total (m.moves side s) own; reads = reads } → IsPureEntry m total e
+  pub is_pure : (e : Entry) → e ≡ record { key = m.key s; side = side; bound = bound; weights = one_move total (m.moves side s) own } → IsPureEntry m total e
   is_pure e h = subst (IsPureEntry m total) (sym h) (record {
     lawful = record {
       state = pure_entry.state;
@@ -110,7 +88,6 @@ module _ {S G N : Type 0} (m : GameModel S) (game : IsGame m) (side : Side) (s :
       low = pure_entry.low;
       high = pure_entry.high;
       numbers = pure_entry.numbers;
-      listed = pure_entry.listed;
       step = pure_entry.step;
       backed = pure_entry.backed;
       known = λ _ _ _ _ _ _ _. tt;

@@ -7,12 +7,13 @@ use Rattle.sim_game.specs.declared.Side.{Side}
 use Rattle.sim_game.specs.Model.{GameModel}
 use Rattle.plan_book.specs.declared.Entry.{Entry}
 use Rattle.plan_book.specs.Books.{Grows}
+use Rattle.plan_book.specs.Entries.{IsPureEntry}
 use Rattle.bounds_board.specs.Views.{BoardView, IsLater}
 use Rattle.bounds_board.proofs.ViewLemmas.{later_refl, later_trans, seen_later}
-use Rattle.serial_ab.specs.declared.stop.Stop.{Stop}
-use Rattle.serial_ab.specs.declared.stop.Stop.TheVariants.{Cut, Full, NoMemory}
+use Rattle.serial_ab.specs.declared.stop.SerialStop.{SerialStop}
+use Rattle.serial_ab.specs.declared.stop.SerialStop.TheVariants.{Cut, Full, NoMemory}
 use Rattle.serial_ab.specs.Counts.{VisitsView, Counts, WasCut}
-use Rattle.serial_ab.specs.Searches.{IsPureEntry, IsSerialKept, IsGoodNumber, Stops, EndsWith}
+use Rattle.serial_ab.specs.Searches.{IsSerialKept, IsGoodNumber, Stops, EndsWith}
 use Rattle.serial_ab.proofs.CountLemmas.{counts_none, counts_after, cut_after}
 
 pub grows_none : (P : Entry → Type 0) (xs ys : List Entry) → ys ≡ xs → Grows P xs ys
@@ -73,18 +74,18 @@ module _ {S G N : Type 0} {m : GameModel S} {side : Side} where
     part_cut l q = cut_after before.visits (count_part f i n l) q
 
 -- where a part stops, the whole stops
-pub stops_below : {C C' : Type 0} (L L' : Type 0) (stop : Stop) → (C → C') → (L → L') → Stops C L stop → Stops C' L' stop
+pub stops_below : {C C' : Type 0} (L L' : Type 0) (stop : SerialStop) → (C → C') → (L → L') → Stops C L stop → Stops C' L' stop
 stops_below L L' Cut c l h = c h
 stops_below L L' Full c l h = l h
 stops_below L L' NoMemory c l h = h
 
-pub stops_more : {C C' : Type 0} (L : Type 0) (stop : Stop) → (C → C') → Stops C L stop → Stops C' L stop
+pub stops_more : {C C' : Type 0} (L : Type 0) (stop : SerialStop) → (C → C') → Stops C L stop → Stops C' L stop
 stops_more L stop c h = stops_below L L stop c (λ l. l) h
 
-pub ends_more : (F : ℤ → Type 0) {C C' : Type 0} (L : Type 0) (r : Result ℤ Stop) → (C → C') → EndsWith F C L r → EndsWith F C' L r
+pub ends_more : (F : ℤ → Type 0) {C C' : Type 0} (L : Type 0) (r : Result ℤ SerialStop) → (C → C') → EndsWith F C L r → EndsWith F C' L r
 ends_more F L (Ok x) c h = h
 ends_more F L (Err stop) c h = stops_more L stop c h
 
-pub ok_more : {P Q : Type 0} (r : Result ℤ Stop) → (P → Q) → OnOk r P → OnOk r Q
+pub ok_more : {P Q : Type 0} (r : Result ℤ SerialStop) → (P → Q) → OnOk r P → OnOk r Q
 ok_more (Ok x) f h = f h
 ok_more (Err stop) f h = h

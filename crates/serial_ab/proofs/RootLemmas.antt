@@ -13,8 +13,8 @@ use Rattle.bounds_board.proofs.FullLemmas.{rows_too_few}
 use Rattle.serial_ab.specs.Counts.{VisitsView, Counts, IsCut, WasCut, spent_on, left_on}
 use Rattle.serial_ab.specs.Roots.{IsSearchable, IsRootValue}
 use Rattle.serial_ab.specs.Searches.{EndsWith, IsFound}
-use Rattle.serial_ab.specs.declared.stop.Stop.{Stop}
-use Rattle.serial_ab.specs.declared.stop.Stop.TheVariants.{Cut, Full, NoMemory}
+use Rattle.serial_ab.specs.declared.stop.SerialStop.{SerialStop}
+use Rattle.serial_ab.specs.declared.stop.SerialStop.TheVariants.{Cut, Full, NoMemory}
 use Rattle.serial_ab.proofs.EndLemmas.{apart}
 use Rattle.serial_ab.proofs.SearchLemmas.{whole_range}
 use Rattle.serial_ab.proofs.ValueLemmas.{serial_low, serial_high}
@@ -52,11 +52,11 @@ root_searched m game goes_on differ = record {
 }
 
 -- a search that was not cut had a visit left
-had_left : (side : Side) (v : VisitsView) (r : Result ℤ Stop) → r ≢ Err Cut → (left_on side v ≡ 0 → r ≡ Err Cut) → 1 ≤ left_on side v
+had_left : (side : Side) (v : VisitsView) (r : Result ℤ SerialStop) → r ≢ Err Cut → (left_on side v ≡ 0 → r ≡ Err Cut) → 1 ≤ left_on side v
 had_left side v r not none = let some : ¬ (left_on side v ≡ 0) = λ e. not (none e) in omega arith
 
 -- how a search of the root over the whole range ends
-pub root_ends : {S G N : Type 0} (m : GameModel S) (game : IsGame m) (side : Side) (v : BoardView G N) (old new : VisitsView) (r : Result ℤ Stop) → IsSearchable m
+pub root_ends : {S G N : Type 0} (m : GameModel S) (game : IsGame m) (side : Side) (v : BoardView G N) (old new : VisitsView) (r : Result ℤ SerialStop) → IsSearchable m
     → (left_on side old ≡ 0 → r ≡ Err Cut) → OnOk r (spent_on side old + 2 ≤ spent_on side new)
     → EndsWith (IsFound m side m.root (opening_bound m side) (opening_bound m (other_side side)) v) (WasCut false side (tree_size m m.root) old new)
     (WasFull m v (LeadsTo m m.root)) r

@@ -1,7 +1,5 @@
 -- The steps of a search.
-use Rattle.std.proofs.Common.{◌≡◌, ◌⊎◌, inl, inr, ⊎_elim, ℕ, zero, suc, ◌+◌, ◌<◌, ◌≤◌, ◌*◌, ℤ, pos, ◌+ℤ◌, ◌-ℤ◌, unsigned_abs, cond, eqb, List, [], ◌∷◌, ◌++◌, length, length-append, take}
-use Rattle.std.proofs.Common.{drop, ◌-◌, refl, sym, ap, subst, ◌∙◌, append-nil, append_assoc, add-one, arith}
-use Rattle.std.proofs.Math.Seq.{drop-append_seam, take-length}
+use Rattle.std.proofs.Common.{◌≡◌, ◌⊎◌, inl, inr, ⊎_elim, ℕ, ◌+◌, ◌<◌, ◌≤◌, ◌-◌, ◌*◌, ℤ, pos, ◌+ℤ◌, ◌-ℤ◌, unsigned_abs, cond, eqb, refl, sym, subst, ◌∙◌, arith}
 use Rattle.std.proofs.lemmas.Bool.{cases_lt}
 use Rattle.sim_game.specs.declared.Side.{Side}
 use Rattle.sim_game.specs.declared.TheConstants.{MOST_TURNS}
@@ -9,7 +7,6 @@ use Rattle.sim_game.specs.Model.{GameModel, IsGame, IsTurn, IsEnd, Reachable}
 use Rattle.sim_game.specs.Sides.{other_side, IsNoTighter, opening_bound, state_bound, end_bound, turn_of, draws_of, child_of, better, IsTighter, turn_reward, after_reward}
 use Rattle.plan_book.specs.Steps.{cell}
 use Rattle.plan_book.specs.Serial.{serial_bound}
-use Rattle.plan_book.specs.Entries.{concat_below}
 use Rattle.plan_book.proofs.ExpectedLemmas.{is_same, is_other}
 use Rattle.sim_game.proofs.SideLemmas.{better_cases, better_left, better_right, looser_refl, looser_trans, looser_left, looser_right, looser_both, tighter_or}
 use Rattle.sim_game.proofs.SideLemmas.{tighter_not, tighter_is, tighter_than, least_tighter, above_better, worse_left, worse_right, below_worse, worse_is}
@@ -25,16 +22,6 @@ use Rattle.serial_ab.specs.Searches.{IsWindow, IsNear, IsInStateRange, IsFound, 
 use Rattle.serial_ab.proofs.KeptLemmas.{good_later}
 use Rattle.serial_ab.proofs.ValueLemmas.{serial_end, serial_from, serial_to, pair_range, turn_from, turn_to, cell_one, cell_same, cell_mono, move_below, pair_above, moves_all, replies_all}
 
--- ---- lists of numbers
-pub joined_same : {A : Type 0} (n : ℕ) (f g : ℕ → List A) → ((i : ℕ) → i < n → f i ≡ g i) → concat_below n f ≡ concat_below n g
-joined_same zero f g h = refl
-joined_same (suc n) f g h = let front = joined_same n f g (λ i p. h i (omega arith)) in let last = h n (omega arith) in cc
-
--- the part of a stack from where it began
-pub part_of : (before part all : List ℤ) (start : ℕ) → start ≡ length before → all ≡ before ++ part → take (length all - start) (drop start all) ≡ part
-part_of before part all start s e = rw (e, s, drop-append_seam before part, length-append before part)
-    (let n : (length before + length part) - length before ≡ length part = omega arith in rw n (take-length part))
-
 -- what is known after the first own moves
 pub record MovesSoFar {S G N : Type 0} (m : GameModel S) (side : Side) (s : S) (worse good : ℤ) (owns : ℕ) (value : ℤ) (v : BoardView G N) : Type 0 where
   pub wide : IsTighter side good value
@@ -47,12 +34,9 @@ pub record MovesSoFar {S G N : Type 0} (m : GameModel S) (side : Side) (s : S) (
   pub opened : IsNoTighter side (opening_bound m side) (v.seen side (m.key s))
 
 -- what is known after the first replies to an own move
-pub record RepliesSoFar {S G N : Type 0} (m : GameModel S) (side : Side) (s : S) (own : ℕ) (floor good : ℤ) (replies : ℕ) (least : ℤ) (v : BoardView G N)
-    (before reads : List ℤ) : Type 0 where
+pub record RepliesSoFar {S G N : Type 0} (m : GameModel S) (side : Side) (s : S) (own : ℕ) (floor good : ℤ) (replies : ℕ) (least : ℤ) (v : BoardView G N) : Type 0 where
   pub wide : IsTighter side least floor
-  pub part : List ℤ
-  pub joins : reads ≡ before ++ part
-  pub replied : IsReplied m side s own replies v part least
+  pub replied : IsReplied m side s own replies v least
   pub reached : IsTighter side good least → IsNoTighter side (move_value m side s own) least
   pub near : IsNear m s least
   pub low : IsNoTighter side (state_bound m side s) least
@@ -258,13 +242,11 @@ module _ {S G N : Type 0} (m : GameModel S) (game : IsGame m) (side : Side) (s :
 
     -- ---- the replies to an own move
     module _ (own : ℕ) (at : own < m.moves side s) where
-      pub replies_start : (floor good : ℤ) (v : BoardView G N) (before : List ℤ) → IsWindow m side s floor good
-          → RepliesSoFar m side s own floor good 0 (better side (state_bound m (other_side side) s) good) v before before
-      replies_start floor good v before window = let top = better_left side (state_bound m (other_side side) s) good in record {
+      pub replies_start : (floor good : ℤ) (v : BoardView G N) → IsWindow m side s floor good
+          → RepliesSoFar m side s own floor good 0 (better side (state_bound m (other_side side) s) good) v
+      replies_start floor good v window = let top = better_left side (state_bound m (other_side side) s) good in record {
         wide = least_tighter side _ good floor (better_right side (state_bound m (other_side side) s) good) window.wide;
-        part = [];
-        joins = sym (append-nil before);
-        replied = record { numbers = λ _ _. pos 0; listed = refl; good = λ reply d h. absurd (omega arith); proven = λ reply h. absurd (omega arith) };
+        replied = record { numbers = λ _ _. pos 0; good = λ reply d h. absurd (omega arith); proven = λ reply h. absurd (omega arith) };
         reached = λ _. let some = game.other_moves (other_side side) s r goes in
             looser_trans side _ _ _ (pair_above m game side s own 0 some (omega arith)) (looser_trans side _ _ _ (pair_range m game side s own 0 r at (omega arith)).high top);
         near = near_better m s side _ good (near_range m game side s _ r (record { low = state_range m side s game r; high = looser_refl side (state_bound m (other_side side) s) })) window.to;
@@ -272,9 +254,9 @@ module _ {S G N : Type 0} (m : GameModel S) (game : IsGame m) (side : Side) (s :
         high = λ some. absurd (omega arith);
       }
 
-      module _ (floor good : ℤ) (reply : ℕ) (against : reply < m.moves (other_side side) s) (least x : ℤ) (u v : BoardView G N) (later : IsLater u v) (before now after : List ℤ)
-          (so_far : RepliesSoFar m side s own floor good reply least u before now)
-          (found : IsPairFound m side s own reply floor (better (other_side side) good least) v now after x) where
+      module _ (floor good : ℤ) (reply : ℕ) (against : reply < m.moves (other_side side) s) (least x : ℤ) (u v : BoardView G N) (later : IsLater u v)
+          (so_far : RepliesSoFar m side s own floor good reply least u)
+          (found : IsPairFound m side s own reply floor (better (other_side side) good least) v x) where
         -- the least number so far bounds the move where it is below the window's better end
         least_reached : IsTighter side good (better (other_side side) least x) → IsNoTighter side (move_value m side s own) (better (other_side side) least x)
         least_reached t = ⊎_elim
@@ -292,9 +274,6 @@ module _ {S G N : Type 0} (m : GameModel S) (game : IsGame m) (side : Side) (s :
           low = above_worse side least x _ so_far.low found.range.low;
           high = looser_trans side _ _ _ (worse_right side least x) found.range.high;
         }
-
-        joined : after ≡ before ++ (so_far.part ++ concat_below (draws_of m side s own reply) (λ d. found.numbers d ∷ []))
-        joined = found.listed ∙ ap (λ (l : List ℤ). l ++ concat_below (draws_of m side s own reply) (λ d. found.numbers d ∷ [])) so_far.joins ∙ append_assoc before so_far.part _
 
         -- the move is left
         pub replies_stop : IsNoTighter side (better (other_side side) least x) floor → IsMoveFound m side s own floor good v (better (other_side side) least x)
@@ -314,8 +293,7 @@ module _ {S G N : Type 0} (m : GameModel S) (game : IsGame m) (side : Side) (s :
         latest : (d : ℕ) → numbers_after reply d ≡ found.numbers d
         latest d = rw (is_same reply reply refl) refl
 
-        pub replies_more : IsTighter side (better (other_side side) least x) floor → RepliesSoFar m side s own floor good (reply + 1) (better (other_side side) least x) v before
-            after
+        pub replies_more : IsTighter side (better (other_side side) least x) floor → RepliesSoFar m side s own floor good (reply + 1) (better (other_side side) least x) v
         replies_more wide =
             let tight : IsTighter side x floor = least_tighter side x (better (other_side side) least x) floor (worse_right side least x) wide in record {
               wide = wide;
@@ -323,15 +301,8 @@ module _ {S G N : Type 0} (m : GameModel S) (game : IsGame m) (side : Side) (s :
               near = near_range m game side s _ r least_range;
               low = least_range.low;
               high = λ _. least_range.high;
-              part = so_far.part ++ concat_below (draws_of m side s own reply) (λ d. found.numbers d ∷ []);
-              joins = joined;
               replied = record {
                 numbers = numbers_after;
-                listed = ap (λ (l : List ℤ). l ++ concat_below (draws_of m side s own reply) (λ d. found.numbers d ∷ [])) (so_far.replied.listed
-                    ∙ joined_same reply _ _ (λ i h. joined_same (draws_of m side s own i) _ _ (λ d _. ap (λ (z : ℤ). z ∷ []) (sym (earlier i d h)))))
-                    ∙ ap (λ (l : List ℤ). concat_below reply (λ i. concat_below (draws_of m side s own i) (λ d. numbers_after i d ∷ [])) ++ l)
-                    (joined_same (draws_of m side s own reply) _ _ (λ d _. ap (λ (z : ℤ). z ∷ []) (sym (latest d))))
-                    ∙ sym (ap (λ (n : ℕ). concat_below n (λ i. concat_below (draws_of m side s own i) (λ d. numbers_after i d ∷ []))) (add-one reply));
                 good = λ i d h w. ⊎_elim
                     (λ (lt : i < reply). subst (λ (z : ℤ). after_reward m side s own i d (IsGoodNumber m side v) z) (sym (earlier i d lt))
                     (good_later later (so_far.replied.good i d lt w)))
@@ -351,9 +322,9 @@ module _ {S G N : Type 0} (m : GameModel S) (game : IsGame m) (side : Side) (s :
             }
 
       -- all replies were tried and the step was posted
-      pub replies_end : (floor good least : ℤ) (u v : BoardView G N) (before reads : List ℤ) → RepliesSoFar m side s own floor good (m.moves (other_side side) s) least u before
-          reads → IsNoTighter side least (known_bound m v side s) → IsMoveFound m side s own floor good v least
-      replies_end floor good least u v before reads so_far seen = record {
+      pub replies_end : (floor good least : ℤ) (u v : BoardView G N) → RepliesSoFar m side s own floor good (m.moves (other_side side) s) least u
+          → IsNoTighter side least (known_bound m v side s) → IsMoveFound m side s own floor good v least
+      replies_end floor good least u v so_far seen = record {
         proven = λ _. replies_all m game side s own least (game.other_moves (other_side side) s r goes) (λ reply q. looser_trans side _ _ _ (so_far.replied.proven reply q)
             (cell_mono m side s (λ _ a b. so_far.replied.numbers a b) (turn_value m side s) own reply
             (λ d w. looser_more side (turn_reward m side s own reply d) _ _ (so_far.replied.good reply d q w).proven)));
@@ -364,18 +335,16 @@ module _ {S G N : Type 0} (m : GameModel S) (game : IsGame m) (side : Side) (s :
 
       -- ---- a reply with one draw
       module _ (reply : ℕ) (against : reply < m.moves (other_side side) s) where
-        module _ (floor ceiling : ℤ) (v : BoardView G N) (before after : List ℤ) (x : ℤ) (one : draws_of m side s own reply ≡ 1) where
+        module _ (floor ceiling : ℤ) (v : BoardView G N) (x : ℤ) (one : draws_of m side s own reply ≡ 1) where
           abbrev pay : ℤ
           pay = turn_reward m side s own reply 0
 
           alone : 0 < draws_of m side s own reply
           alone = omega arith
 
-          pub pair_one : IsFound m side (child_of m side s own reply 0) (floor -ℤ pay) (ceiling -ℤ pay) v x → after ≡ before ++ (pay +ℤ x) ∷ []
-              → IsPairFound m side s own reply floor ceiling v before after (pay +ℤ x)
-          pair_one found listed = record {
+          pub pair_one : IsFound m side (child_of m side s own reply 0) (floor -ℤ pay) (ceiling -ℤ pay) v x → IsPairFound m side s own reply floor ceiling v (pay +ℤ x)
+          pair_one found = record {
             numbers = λ _. pay +ℤ x;
-            listed = listed ∙ ap (λ (n : ℕ). before ++ concat_below n (λ d. (pay +ℤ x) ∷ [])) (sym one);
             good = λ t d w. let first : 0 ≡ d = omega arith in subst (λ (i : ℕ). after_reward m side s own reply i (IsGoodNumber m side v) (pay +ℤ x)) first
                 (subst (IsGoodNumber m side v (child_of m side s own reply 0)) (sym (add_less pay x))
                 (record { proven = found.proven (tighter_less side pay x floor t); seen = found_number m side _ _ _ v x found (tighter_less side pay x floor t) }));
@@ -389,13 +358,11 @@ module _ {S G N : Type 0} (m : GameModel S) (game : IsGame m) (side : Side) (s :
           }
 
         -- ---- a reply with several draws
-        pub pair_several : (floor ceiling : ℤ) (v : BoardView G N) (before after : List ℤ)
-            → after ≡ before ++ concat_below (draws_of m side s own reply) (λ d. turn_value m side s own reply d ∷ [])
+        pub pair_several : (floor ceiling : ℤ) (v : BoardView G N)
             → ((d : ℕ) → d < draws_of m side s own reply → after_reward m side s own reply d (IsGoodNumber m side v) (turn_value m side s own reply d))
-            → IsPairFound m side s own reply floor ceiling v before after (pair_value m side s own reply)
-        pair_several floor ceiling v before after listed good = record {
+            → IsPairFound m side s own reply floor ceiling v (pair_value m side s own reply)
+        pair_several floor ceiling v good = record {
           numbers = λ d. turn_value m side s own reply d;
-          listed = listed;
           good = λ _. good;
           proven = λ _. looser_refl side (pair_value m side s own reply);
           reached = λ _. looser_refl side (pair_value m side s own reply);

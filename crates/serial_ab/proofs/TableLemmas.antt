@@ -14,8 +14,8 @@ use Rattle.bounds_board.specs.Views.{BoardView, IsLater}
 use Rattle.bounds_board.proofs.KnownLemmas.{known_later}
 use Rattle.serial_ab.specs.declared.transpositions.Memo.{Memo}
 use Rattle.serial_ab.specs.declared.transpositions.Query.{Query}
-use Rattle.serial_ab.specs.declared.stop.Stop.{Stop}
-use Rattle.serial_ab.specs.declared.stop.Stop.TheVariants.{Cut, Full, NoMemory}
+use Rattle.serial_ab.specs.declared.stop.SerialStop.{SerialStop}
+use Rattle.serial_ab.specs.declared.stop.SerialStop.TheVariants.{Cut, Full, NoMemory}
 use Rattle.serial_ab.specs.Counts.{VisitsView, IsCut, WasCut}
 use Rattle.serial_ab.specs.Searches.{IsFound, EndsWith}
 use Rattle.serial_ab.specs.Tables.{TableView, same_query, told, Tells}
@@ -86,7 +86,7 @@ module _ {S G N : Type 0} {m : GameModel S} where
     }
 
 -- the answer of a stored search ends as the search does
-pub recall_ends : (F : ℤ → Type 0) {C C' : Type 0} (L : Type 0) (y : ℤ) (r : Result ℤ Stop) → F y → (C → C') → IfOk r (λ x. x ≡ y) → OnErr r C → OnErr r (r ≡ Err Cut)
+pub recall_ends : (F : ℤ → Type 0) {C C' : Type 0} (L : Type 0) (y : ℤ) (r : Result ℤ SerialStop) → F y → (C → C') → IfOk r (λ x. x ≡ y) → OnErr r C → OnErr r (r ≡ Err Cut)
     → EndsWith F C' L r
 recall_ends F L y (Ok x) f c ok cut err = subst F (sym ok) f
 recall_ends F L y (Err Cut) f c ok cut err = c cut

@@ -6,13 +6,13 @@ use Rattle.bounds_board.specs.Views.{BoardView, WasFull}
 use Rattle.serial_ab.specs.Counts.{spent_on, WasCut}
 use Rattle.serial_ab.specs.Searches.{EndsWith, IsSerialKept}
 use Rattle.serial_ab.specs.Transpositions.{AreRemembered}
-use Rattle.serial_ab.specs.declared.stop.Stop.{Stop}
+use Rattle.serial_ab.specs.declared.stop.SerialStop.{SerialStop}
 use Rattle.serial_ab.specs.declared.task.SerialWorker.{SerialWorker}
 
 -- a part of the search of a state, of so many nodes: what it keeps, and the number that it finds by at least one visit,
 -- or why it finds none
 pub record IsPart {S G N : Type 0} (m : GameModel S) (may_stop : Bool) (side : Side) (s : S) (nodes : ℕ) (Found : ℤ → Type 0)
-    (old new : BoardView G N) (before after : SerialWorker) (result : Result ℤ Stop) : Type 0 where
+    (old new : BoardView G N) (before after : SerialWorker) (result : Result ℤ SerialStop) : Type 0 where
   pub kept : IsSerialKept m side nodes old new before.visits after.visits
   pub remembered : AreRemembered m new after.table
   pub same_limit : after.table.limit ≡ before.table.limit

@@ -1,26 +1,19 @@
 -- What a search finds, and what it keeps.
-use Rattle.std.specs.Prelude.{◌≡◌, ℕ, ◌+◌, ◌-◌, ◌*◌, ◌<◌, ◌≤◌, ℤ, Some, unsigned_abs, Result, Ok, Err, List, [], ◌∷◌, ◌++◌, length}
+use Rattle.std.specs.Prelude.{◌≡◌, ℕ, ◌+◌, ◌-◌, ◌*◌, ◌<◌, ◌≤◌, ℤ, Some, unsigned_abs, Result, Ok, Err}
+use Rattle.sums.specs.declared.TheConstants.{MOST_REWARD}
 use Rattle.sim_game.specs.declared.Side.{Side}
 use Rattle.sim_game.specs.declared.TheConstants.{MOST_TURNS}
 use Rattle.sim_game.specs.Model.{GameModel, IsEnd}
-use Rattle.plan_book.specs.declared.Entry.{Entry}
 use Rattle.sim_game.specs.Sides.{other_side, IsNoTighter, opening_bound, state_bound, end_bound, draws_of, after_reward, IsTighter}
 use Rattle.plan_book.specs.Steps.{cell}
 use Rattle.plan_book.specs.Serial.{serial_bound}
-use Rattle.plan_book.specs.Plans.{one_move}
-use Rattle.plan_book.specs.Entries.{IsLawfulEntry, concat_below}
+use Rattle.plan_book.specs.Entries.{IsPureEntry}
 use Rattle.plan_book.specs.Books.{Grows}
 use Rattle.bounds_board.specs.Views.{BoardView, IsLater, IsSeenNumber, known_bound}
-use Rattle.serial_ab.specs.declared.stop.Stop.{Stop}
-use Rattle.serial_ab.specs.declared.stop.Stop.TheVariants.{Cut, Full, NoMemory}
+use Rattle.serial_ab.specs.declared.stop.SerialStop.{SerialStop}
+use Rattle.serial_ab.specs.declared.stop.SerialStop.TheVariants.{Cut, Full, NoMemory}
 use Rattle.serial_ab.specs.Counts.{VisitsView, Counts}
 use Rattle.serial_ab.specs.Values.{pair_value, move_value}
-
--- a lawful entry that puts the whole total on one move
-pub record IsPureEntry {S : Type 0} (m : GameModel S) (total : ℕ) (e : Entry) : Type 0 where
-  pub lawful : IsLawfulEntry m total e
-  pub place : ℕ
-  pub pure : e.weights ≡ one_move total (length e.weights) place
 
 -- the board knows no less, only lawful steps by one move were posted, and visits were counted
 pub record IsSerialKept {S G N : Type 0} (m : GameModel S) (side : Side) (most : ℕ) (old new : BoardView G N)
@@ -36,7 +29,7 @@ pub record IsInStateRange {S : Type 0} (m : GameModel S) (side : Side) (s : S) (
 
 -- the number is no further from 0 than a payoff by more than the rewards of the turns before the state
 abbrev pub IsNear : {S : Type 0} → GameModel S → S → ℤ → Type 0
-IsNear m s x = unsigned_abs x ≤ 8000000000 * (1 + MOST_TURNS - m.rank s)
+IsNear m s x = unsigned_abs x ≤ MOST_REWARD * (1 + MOST_TURNS - m.rank s)
 
 -- the window of a side, from its worse end to its better one, in a game in which payoffs differ
 pub record IsWindow {S : Type 0} (m : GameModel S) (side : Side) (s : S) (worse better : ℤ) : Type 0 where
@@ -46,13 +39,13 @@ pub record IsWindow {S : Type 0} (m : GameModel S) (side : Side) (s : S) (worse 
   pub differ : IsTighter side (opening_bound m (other_side side)) (opening_bound m side)
 
 -- why a search has no number: it was cut, the board is full, or there is no memory
-abbrev pub Stops : Type 0 → Type 0 → Stop → Type 0
+abbrev pub Stops : Type 0 → Type 0 → SerialStop → Type 0
 Stops WasCut IsBoardFull Cut = WasCut
 Stops WasCut IsBoardFull Full = IsBoardFull
 Stops WasCut IsBoardFull NoMemory = Unit {0}
 
 -- how a search ends
-abbrev pub EndsWith : (ℤ → Type 0) → Type 0 → Type 0 → Result ℤ Stop → Type 0
+abbrev pub EndsWith : (ℤ → Type 0) → Type 0 → Type 0 → Result ℤ SerialStop → Type 0
 EndsWith Found WasCut IsBoardFull (Ok x) = Found x
 EndsWith Found WasCut IsBoardFull (Err stop) = Stops WasCut IsBoardFull stop
 
@@ -88,9 +81,8 @@ pub record IsGoodNumber {S G N : Type 0} (m : GameModel S) (side : Side) (v : Bo
 
 -- the same of an own move and a reply, with the numbers of the turns by the draws
 pub record IsPairFound {S G N : Type 0} (m : GameModel S) (side : Side) (s : S) (own reply : ℕ) (floor ceiling : ℤ)
-    (v : BoardView G N) (before after : List ℤ) (x : ℤ) : Type 0 where
+    (v : BoardView G N) (x : ℤ) : Type 0 where
   pub numbers : ℕ → ℤ
-  pub listed : after ≡ before ++ concat_below (draws_of m side s own reply) (λ d. numbers d ∷ [])
   pub good : IsTighter side x floor → (d : ℕ) → d < draws_of m side s own reply
       → after_reward m side s own reply d (IsGoodNumber m side v) (numbers d)
   pub proven : IsTighter side x floor → IsNoTighter side x (cell m side s (λ _ _ d. numbers d) own reply)
@@ -99,10 +91,15 @@ pub record IsPairFound {S G N : Type 0} (m : GameModel S) (side : Side) (s : S) 
 
 -- the numbers against the first replies of an own move
 pub record IsReplied {S G N : Type 0} (m : GameModel S) (side : Side) (s : S) (own replies : ℕ) (v : BoardView G N)
-    (reads : List ℤ) (least : ℤ) : Type 0 where
+    (least : ℤ) : Type 0 where
   pub numbers : ℕ → ℕ → ℤ
-  pub listed : reads ≡ concat_below replies
-      (λ reply. concat_below (draws_of m side s own reply) (λ d. numbers reply d ∷ []))
   pub good : (reply d : ℕ) → reply < replies → d < draws_of m side s own reply
       → after_reward m side s own reply d (IsGoodNumber m side v) (numbers reply d)
   pub proven : (reply : ℕ) → reply < replies → IsNoTighter side least (cell m side s (λ _ r d. numbers r d) own reply)
+
+-- a step by one move: the bound that the own move has over the numbers against all replies, no looser than the state's
+pub record IsMoveStep {S G N : Type 0} (m : GameModel S) (side : Side) (s : S) (own : ℕ) (v : BoardView G N)
+    (bound : ℤ) : Type 0 where
+  pub own_move : own < m.moves side s
+  pub low : IsNoTighter side (state_bound m side s) bound
+  pub replied : IsReplied m side s own (m.moves (other_side side) s) v bound

@@ -1,6 +1,6 @@
 //! What stops a search.
 
-/// Asked by a search, at least once in some thousands of states that it enters.
+/// Asked by a search that may be stopped, at least once in some thousands of states that it enters. No other search asks.
 pub trait Interrupt {
     /// Whether the search is to stop.
     fn is_raised(&self) -> bool;

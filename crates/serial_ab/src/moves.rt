@@ -1,42 +1,21 @@
-//! Steps by one move, and the means of numbers at draws.
-ghost use Rattle.std.specs.Prelude.{◌≡◌, ◌<◌, ◌≤◌, ◌++◌, ◌∷◌, [], Some, OnOk, OnErr, IfOk};
+//! Steps by one move.
+ghost use Rattle.std.specs.Prelude.{◌≡◌, ◌<◌, ◌≤◌, Some, OnOk, OnErr, IfOk};
 ghost use Rattle.sim_game.specs.Model.{Reachable};
-ghost use Rattle.sim_game.specs.Sides.{other_side, IsNoTighter, state_bound};
+ghost use Rattle.sim_game.specs.Sides.{IsNoTighter};
 ghost use Rattle.plan_book.specs.Plans.{one_move};
 ghost use Rattle.plan_book.specs.Books.{Grows};
+ghost use Rattle.plan_book.specs.Entries.{IsPureEntry};
 ghost use Rattle.bounds_board.specs.Views.{IsLater, known_bound};
-ghost use Rattle.serial_ab.specs.Searches.{IsReplied, IsPureEntry};
+ghost use Rattle.serial_ab.specs.Searches.{IsMoveStep};
 
 use crate::interrupt::Interrupt;
-use crate::stop::Stop;
-use crate::task::Task;
+use crate::stop::SerialStop;
+use crate::task::SerialTask;
 use bounds_board::{Bounds, Row, known_bounds};
 use plan_book::Entry;
 use seq::Seq;
 use sim_game::Game;
 use std::alloc::Global;
-
-/// Adds a number at the end.
-pub(crate) fn keep(reads: &mut Vec<i64>, number: i64) -> Result<(), Stop>
-    ensures ok { OnOk result (reads.new.items ≡ reads.old.items ++ number ∷ []) }
-    ensures err { OnErr result (result ≡ Err Stop.NoMemory) }
-{
-    match reads.push(number) {
-        Ok(()) => Ok(()),
-        Err(_) => Err(Stop::NoMemory),
-    }
-}
-
-/// The numbers in a vector of their own size.
-fn copied(alloc: Global, reads: &[i64]) -> Result<Vec<i64>, Stop>
-    ensures ok { IfOk result (λ v. v.items ≡ reads.now) }
-    ensures err { OnErr result (result ≡ Err Stop.NoMemory) }
-{
-    match Vec::from_slice(alloc, reads) {
-        Ok(reads) => Ok(reads),
-        Err(_) => Err(Stop::NoMemory),
-    }
-}
 
 /// All of the total on one move.
 pub(crate) fn pure_weights(
@@ -44,44 +23,40 @@ pub(crate) fn pure_weights(
     total: u32,
     count: u32,
     place: u32,
-) -> Result<Vec<u32>, Stop>
+) -> Result<Vec<u32>, SerialStop>
     requires { place < count }
     ensures ok { IfOk result (λ w. w.items ≡ one_move total count place) }
-    ensures err { OnErr result (result ≡ Err Stop.NoMemory) }
+    ensures err { OnErr result (result ≡ Err SerialStop.NoMemory) }
 {
     match Vec::from_elem(alloc, 0, count as usize) {
         Ok(mut weights) => {
             weights[place as usize] = total;
             Ok(weights)
         }
-        Err(_) => Err(Stop::NoMemory),
+        Err(_) => Err(SerialStop::NoMemory),
     }
 }
 
 /// Posts the step by one move over the numbers at its children, where its bound is tighter than what is known of the state.
 pub(crate) fn post_move<G: Game, I: Interrupt, B: Bounds<G>>(
-    task: &Task<'_, G, I>,
+    task: &SerialTask<'_, G, I>,
     s: G::State,
     row: Row,
     own: u32,
     bound: i64,
-    reads: &[i64],
     board: &mut B,
-) -> Result<(), Stop>
+) -> Result<(), SerialStop>
     requires game { (B.view board.old).game ≡ task.now.game }
     requires reachable { Reachable (G.model task.now.game) s }
     requires goes_on { 1 ≤ (G.model task.now.game).rank s }
-    requires own_move { own < (G.model task.now.game).moves task.now.side s }
     requires row { (B.view board.old).key_at row ≡ Some ((G.model task.now.game).key s) }
-    requires low { IsNoTighter task.now.side (state_bound (G.model task.now.game) task.now.side s) bound }
-    requires replied { IsReplied (G.model task.now.game) task.now.side s own
-        ((G.model task.now.game).moves (other_side task.now.side) s) (B.view board.old) reads.now bound }
+    requires step { IsMoveStep (G.model task.now.game) task.now.side s own (B.view board.old) bound }
     ensures later { IsLater (B.view board.old) (B.view board.new) }
     ensures posted { Grows (IsPureEntry (G.model task.now.game) (B.view board.old).total)
         (B.view board.old).entries (B.view board.new).entries }
     ensures seen { OnOk result (IsNoTighter task.now.side bound
         (known_bound (G.model task.now.game) (B.view board.new) task.now.side s)) }
-    ensures err { OnErr result (result ≡ Err Stop.NoMemory) }
+    ensures err { OnErr result (result ≡ Err SerialStop.NoMemory) }
 {
     let known = known_bounds(task.game, s, row, board).of(task.side);
     if !task.side.is_tighter(bound, known) {
@@ -93,16 +68,14 @@ pub(crate) fn post_move<G: Game, I: Interrupt, B: Bounds<G>>(
         task.game.moves(task.side, s),
         own,
     )?;
-    let reads = copied(task.alloc, reads)?;
     let e = Entry {
         key: task.game.key(s),
         side: task.side,
         bound,
         weights: Seq::from_vec(weights),
-        reads: Seq::from_vec(reads),
     };
     match board.post(row, e) {
         Ok(()) => Ok(()),
-        Err(_) => Err(Stop::NoMemory),
+        Err(_) => Err(SerialStop::NoMemory),
     }
 }

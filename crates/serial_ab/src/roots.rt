@@ -1,5 +1,6 @@
 //! The serial bounds of a whole game.
 ghost use Rattle.std.specs.Prelude.{◌≡◌, ◌≤◌, IfOk};
+ghost use Rattle.sums.specs.declared.TheConstants.{LEAST_WEIGHT, MOST_WEIGHT};
 ghost use Rattle.sim_game.specs.declared.Side.TheVariants.{One, Two};
 ghost use Rattle.sim_game.specs.declared.TheConstants.{MOST_ROWS};
 ghost use Rattle.sim_game.specs.Model.{LeadsTo};
@@ -13,8 +14,8 @@ ghost use Rattle.serial_ab.specs.Roots.{IsSearchable, IsRootValue, IsRootEnd};
 
 use crate::interrupt::NoInterrupt;
 use crate::search::search_state;
-use crate::stop::Stop;
-use crate::task::{SerialWorker, Task, Window};
+use crate::stop::SerialStop;
+use crate::task::{SerialTask, SerialWorker, Window};
 use crate::transpositions::{TABLE_LIMIT, TranspositionTable};
 use crate::visits::Visits;
 use bounds_board::{Bounds, PlainBoard};
@@ -45,9 +46,9 @@ pub fn root_bounds<G: Game>(
 ) -> Result<RootEnd, NoMemory>
     requires rows_low { 1 ≤ rows }
     requires rows_high { rows ≤ MOST_ROWS }
-    requires total_low { 8192 ≤ total }
+    requires total_low { LEAST_WEIGHT ≤ total }
     requires total_fine { IsFineWeight (G.model g) total }
-    requires total_high { total ≤ 1048576 }
+    requires total_high { total ≤ MOST_WEIGHT }
     ensures ends { IfOk result (IsRootEnd (G.model g) rows visits.old visits.new) }
     ensures counted { HasCounted visits.old visits.new }
 {
@@ -106,13 +107,13 @@ fn search_sides<G: Game, B: Bounds<G>>(
     match search_root(g, Side::One, worker, board) {
         Ok(lower) => match search_root(g, Side::Two, worker, board) {
             Ok(upper) => Ok(RootEnd::Found { lower, upper }),
-            Err(Stop::Cut) => Ok(RootEnd::Cut { side: Side::Two }),
-            Err(Stop::Full) => Ok(RootEnd::Full),
-            Err(Stop::NoMemory) => Err(NoMemory),
+            Err(SerialStop::Cut) => Ok(RootEnd::Cut { side: Side::Two }),
+            Err(SerialStop::Full) => Ok(RootEnd::Full),
+            Err(SerialStop::NoMemory) => Err(NoMemory),
         },
-        Err(Stop::Cut) => Ok(RootEnd::Cut { side: Side::One }),
-        Err(Stop::Full) => Ok(RootEnd::Full),
-        Err(Stop::NoMemory) => Err(NoMemory),
+        Err(SerialStop::Cut) => Ok(RootEnd::Cut { side: Side::One }),
+        Err(SerialStop::Full) => Ok(RootEnd::Full),
+        Err(SerialStop::NoMemory) => Err(NoMemory),
     }
 }
 
@@ -122,7 +123,7 @@ fn search_root<G: Game, B: Bounds<G>>(
     side: Side,
     worker: &mut SerialWorker,
     board: &mut B,
-) -> Result<i64, Stop>
+) -> Result<i64, SerialStop>
     requires game { (B.view board.old).game ≡ g }
     requires remembered { AreRemembered (G.model g) (B.view board.old) worker.old.table }
     requires searched { IsSearchable (G.model g) }
@@ -138,7 +139,7 @@ fn search_root<G: Game, B: Bounds<G>>(
         worse: opening_bound(g, side),
         better: opening_bound(g, side.other()),
     };
-    let task = Task {
+    let task = SerialTask {
         alloc: worker.alloc,
         game: g,
         side,

@@ -1,6 +1,6 @@
-//! The search: a state, its moves, a move, a pair of moves, its draws. One stack of numbers, `reads`, serves them all:
-//! a move pushes the numbers of its turns, and pops them when it is left or done.
+//! The search: a state, its moves, a move, a pair of moves, its draws.
 ghost use Rattle.std.specs.Prelude.{◌≡◌, ◌+◌, ◌*◌, ◌<◌, ◌≤◌, ℤ, ◌+ℤ◌, ◌-ℤ◌, unsigned_abs, Some, Err, true, IsTrue, IfSome, IfOk, OnOk, OnErr};
+ghost use Rattle.sums.specs.declared.TheConstants.{MOST_BOUND, MOST_REWARD};
 ghost use Rattle.sim_game.specs.declared.TheConstants.{MOST_TURNS};
 ghost use Rattle.sim_game.specs.Model.{Reachable, LeadsTo};
 ghost use Rattle.sim_game.specs.Sides.{other_side, opening_bound, move_of_one, move_of_two, draws_of, IsTighter};
@@ -13,9 +13,9 @@ ghost use Rattle.serial_ab.specs.Parts.{IsPart};
 ghost use Rattle.serial_ab.specs.Searches.{IsWindow, IsFound, IsOpened, IsMoveFound, IsPairFound};
 
 use crate::interrupt::Interrupt;
-use crate::moves::{keep, post_move};
-use crate::stop::Stop;
-use crate::task::{SerialWorker, Task, Window};
+use crate::moves::post_move;
+use crate::stop::SerialStop;
+use crate::task::{SerialTask, SerialWorker, Window};
 use crate::transpositions::{Memo, Query};
 use crate::visits::Visits;
 use bounds_board::{Bounds, Row};
@@ -30,13 +30,13 @@ const BETWEEN_ASKS: u32 = 4096;
 /// The number of a state. Its row is claimed where it is not known.
 #[cycle(serial)]
 pub(crate) fn search_state<G: Game, I: Interrupt, B: Bounds<G>>(
-    task: &Task<'_, G, I>,
+    task: &SerialTask<'_, G, I>,
     s: G::State,
     known: Option<Row>,
     window: Window,
     worker: &mut SerialWorker,
     board: &mut B,
-) -> Result<i64, Stop>
+) -> Result<i64, SerialStop>
     requires game { (B.view board.old).game ≡ task.now.game }
     requires remembered { AreRemembered (G.model task.now.game) (B.view board.old) worker.old.table }
     requires reachable { Reachable (G.model task.now.game) s }
@@ -46,19 +46,18 @@ pub(crate) fn search_state<G: Game, I: Interrupt, B: Bounds<G>>(
         (tree_size (G.model task.now.game) s)
         (IsFound (G.model task.now.game) task.now.side s window.worse window.better (B.view board.new))
         (B.view board.old) (B.view board.new) worker.old worker.new result }
-    ensures same_reads { OnOk result (worker.new.reads.items ≡ worker.old.reads.items) }
-    ensures none_left { left_on task.now.side worker.old.visits ≡ 0 → result ≡ Err Stop.Cut }
+    ensures none_left { left_on task.now.side worker.old.visits ≡ 0 → result ≡ Err SerialStop.Cut }
     ensures entered { 1 ≤ left_on task.now.side worker.old.visits
         → spent_on task.now.side worker.old.visits + 1 ≤ spent_on task.now.side worker.new.visits }
     ensures below { 1 ≤ (G.model task.now.game).rank s
         → OnOk result (spent_on task.now.side worker.old.visits + 2 ≤ spent_on task.now.side worker.new.visits) }
 {
     if worker.visits.left(task.side) == 0 {
-        return Err(Stop::Cut);
+        return Err(SerialStop::Cut);
     }
     worker.visits.spend(task.side);
     if is_stopped(task, &mut worker.unasked) {
-        return Err(Stop::Cut);
+        return Err(SerialStop::Cut);
     }
     if task.game.rank(s) == 0 {
         return Ok(end_bound(task.game, s));
@@ -71,7 +70,7 @@ pub(crate) fn search_state<G: Game, I: Interrupt, B: Bounds<G>>(
 
 /// Whether the search is stopped. The interrupt is asked now and then, at a state that is entered: `unasked` counts the
 /// states since.
-fn is_stopped<G: Game, I: Interrupt>(task: &Task<'_, G, I>, unasked: &mut u32) -> bool
+fn is_stopped<G: Game, I: Interrupt>(task: &SerialTask<'_, G, I>, unasked: &mut u32) -> bool
     ensures { IsTrue result → task.now.may_stop ≡ true }
 {
     if *unasked < BETWEEN_ASKS {
@@ -86,24 +85,23 @@ fn is_stopped<G: Game, I: Interrupt>(task: &Task<'_, G, I>, unasked: &mut u32) -
 /// answer, for the visits that it took.
 #[cycle(serial)]
 fn search_inner<G: Game, I: Interrupt, B: Bounds<G>>(
-    task: &Task<'_, G, I>,
+    task: &SerialTask<'_, G, I>,
     s: G::State,
     row: Row,
     window: Window,
     worker: &mut SerialWorker,
     board: &mut B,
-) -> Result<i64, Stop>
+) -> Result<i64, SerialStop>
     requires game { (B.view board.old).game ≡ task.now.game }
     requires remembered { AreRemembered (G.model task.now.game) (B.view board.old) worker.old.table }
     requires reachable { Reachable (G.model task.now.game) s }
     requires goes_on { 1 ≤ (G.model task.now.game).rank s }
     requires row { IsOpened (G.model task.now.game) task.now.side s (B.view board.old) row }
     requires window { IsWindow (G.model task.now.game) task.now.side s window.worse window.better }
-    ensures ends { IsPart (G.model task.now.game) task.now.may_stop task.now.side s
+    ensures { IsPart (G.model task.now.game) task.now.may_stop task.now.side s
         (inner_nodes (G.model task.now.game) task.now.side s)
         (IsFound (G.model task.now.game) task.now.side s window.worse window.better (B.view board.new))
         (B.view board.old) (B.view board.new) worker.old worker.new result }
-    ensures same_reads { OnOk result (worker.new.reads.items ≡ worker.old.reads.items) }
 {
     if task.game.rank(s) < STORED_RANK {
         return search_moves(task, s, row, window, worker, board);
@@ -133,27 +131,27 @@ fn search_inner<G: Game, I: Interrupt, B: Bounds<G>>(
 }
 
 /// The answer of a stored search: its number for its visits, or a cut where fewer are left.
-fn recall(side: Side, memo: &Memo, visits: &mut Visits) -> Result<i64, Stop>
+fn recall(side: Side, memo: &Memo, visits: &mut Visits) -> Result<i64, SerialStop>
     ensures counts { Counts side memo.now.visits visits.old visits.new }
     ensures ok { IfOk result (λ x. x ≡ memo.now.number) }
     ensures spent { OnOk result (spent_on side visits.new ≡ spent_on side visits.old + memo.now.visits) }
     ensures cut { OnErr result (IsCut side memo.now.visits visits.old visits.new) }
-    ensures err { OnErr result (result ≡ Err Stop.Cut) }
+    ensures err { OnErr result (result ≡ Err SerialStop.Cut) }
 {
     if visits.spend_all(side, memo.visits) {
         Ok(memo.number)
     } else {
-        Err(Stop::Cut)
+        Err(SerialStop::Cut)
     }
 }
 
 /// The row of a state that is no end: the known one, or one that is claimed.
 fn row_of<G: Game, I: Interrupt, B: Bounds<G>>(
-    task: &Task<'_, G, I>,
+    task: &SerialTask<'_, G, I>,
     s: G::State,
     known: Option<Row>,
     board: &mut B,
-) -> Result<Row, Stop>
+) -> Result<Row, SerialStop>
     requires game { (B.view board.old).game ≡ task.now.game }
     requires reachable { Reachable (G.model task.now.game) s }
     requires goes_on { 1 ≤ (G.model task.now.game).rank s }
@@ -161,7 +159,7 @@ fn row_of<G: Game, I: Interrupt, B: Bounds<G>>(
     ensures later { IsLater (B.view board.old) (B.view board.new) }
     ensures entries { (B.view board.new).entries ≡ (B.view board.old).entries }
     ensures ok { IfOk result (IsOpened (G.model task.now.game) task.now.side s (B.view board.new)) }
-    ensures err { OnErr result (result ≡ Err Stop.Full) }
+    ensures err { OnErr result (result ≡ Err SerialStop.Full) }
     ensures full { OnErr result
         (WasFull (G.model task.now.game) (B.view board.new) (LeadsTo (G.model task.now.game) s)) }
 {
@@ -169,7 +167,7 @@ fn row_of<G: Game, I: Interrupt, B: Bounds<G>>(
         Some(row) => Ok(row),
         None => match board.claim(task.game.key(s)) {
             Ok(row) => Ok(row),
-            Err(_) => Err(Stop::Full),
+            Err(_) => Err(SerialStop::Full),
         },
     }
 }
@@ -177,24 +175,23 @@ fn row_of<G: Game, I: Interrupt, B: Bounds<G>>(
 /// The number of a state that is no end, by a search of its moves.
 #[cycle(serial)]
 fn search_moves<G: Game, I: Interrupt, B: Bounds<G>>(
-    task: &Task<'_, G, I>,
+    task: &SerialTask<'_, G, I>,
     s: G::State,
     row: Row,
     window: Window,
     worker: &mut SerialWorker,
     board: &mut B,
-) -> Result<i64, Stop>
+) -> Result<i64, SerialStop>
     requires game { (B.view board.old).game ≡ task.now.game }
     requires remembered { AreRemembered (G.model task.now.game) (B.view board.old) worker.old.table }
     requires reachable { Reachable (G.model task.now.game) s }
     requires goes_on { 1 ≤ (G.model task.now.game).rank s }
     requires row { IsOpened (G.model task.now.game) task.now.side s (B.view board.old) row }
     requires window { IsWindow (G.model task.now.game) task.now.side s window.worse window.better }
-    ensures ends { IsPart (G.model task.now.game) task.now.may_stop task.now.side s
+    ensures { IsPart (G.model task.now.game) task.now.may_stop task.now.side s
         (inner_nodes (G.model task.now.game) task.now.side s)
         (IsFound (G.model task.now.game) task.now.side s window.worse window.better (B.view board.new))
         (B.view board.old) (B.view board.new) worker.old worker.new result }
-    ensures same_reads { OnOk result (worker.new.reads.items ≡ worker.old.reads.items) }
 {
     // The bound of all values of the state, or the window's worse end where that is worse.
     let all = state_bound(task.game, task.side, s);
@@ -217,14 +214,14 @@ fn search_moves<G: Game, I: Interrupt, B: Bounds<G>>(
 /// The number of an own move. The move is left where it can't be better than the window's worse end.
 #[cycle(serial)]
 fn search_move<G: Game, I: Interrupt, B: Bounds<G>>(
-    task: &Task<'_, G, I>,
+    task: &SerialTask<'_, G, I>,
     s: G::State,
     row: Row,
     own: u32,
     window: Window,
     worker: &mut SerialWorker,
     board: &mut B,
-) -> Result<i64, Stop>
+) -> Result<i64, SerialStop>
     requires game { (B.view board.old).game ≡ task.now.game }
     requires remembered { AreRemembered (G.model task.now.game) (B.view board.old) worker.old.table }
     requires reachable { Reachable (G.model task.now.game) s }
@@ -232,17 +229,15 @@ fn search_move<G: Game, I: Interrupt, B: Bounds<G>>(
     requires own_move { own < (G.model task.now.game).moves task.now.side s }
     requires row { (B.view board.old).key_at row ≡ Some ((G.model task.now.game).key s) }
     requires window { IsWindow (G.model task.now.game) task.now.side s window.worse window.better }
-    ensures ends { IsPart (G.model task.now.game) task.now.may_stop task.now.side s
+    ensures { IsPart (G.model task.now.game) task.now.may_stop task.now.side s
         (move_nodes (G.model task.now.game) task.now.side s own)
         (IsMoveFound (G.model task.now.game) task.now.side s own window.worse window.better (B.view board.new))
         (B.view board.old) (B.view board.new) worker.old worker.new result }
-    ensures same_reads { OnOk result (worker.new.reads.items ≡ worker.old.reads.items) }
 {
     // The other side's bound of all values of the state, or the window's better end where that is better.
     let all = state_bound(task.game, task.side.other(), s);
     let highest = task.side.better(all, window.better);
     let mut least = highest;
-    let start = worker.reads.len();
     for reply in 0..task.game.moves(task.side.other(), s) {
         let below = Window {
             worse: window.worse,
@@ -251,20 +246,18 @@ fn search_move<G: Game, I: Interrupt, B: Bounds<G>>(
         let found = search_pair(task, s, own, reply, below, worker, board)?;
         least = task.side.other().better(least, found);
         if !task.side.is_tighter(least, window.worse) {
-            worker.reads.truncate(start);
             return Ok(least);
         }
     }
-    post_move(task, s, row, own, least, &worker.reads[start..], board)?;
-    worker.reads.truncate(start);
+    post_move(task, s, row, own, least, board)?;
     Ok(least)
 }
 
 /// The window at the state that a turn of this reward leads to.
 fn window_after(window: Window, reward: i64) -> Window
-    requires worse { unsigned_abs window.worse ≤ 8000000000 * (1 + MOST_TURNS) }
-    requires better { unsigned_abs window.better ≤ 8000000000 * (1 + MOST_TURNS) }
-    requires reward { unsigned_abs reward ≤ 8000000000 }
+    requires worse { unsigned_abs window.worse ≤ MOST_REWARD * (1 + MOST_TURNS) }
+    requires better { unsigned_abs window.better ≤ MOST_REWARD * (1 + MOST_TURNS) }
+    requires reward { unsigned_abs reward ≤ MOST_REWARD }
     ensures worse { result.worse ≡ window.worse -ℤ reward }
     ensures better { result.better ≡ window.better -ℤ reward }
 {
@@ -276,25 +269,24 @@ fn window_after(window: Window, reward: i64) -> Window
 
 /// The number of a turn: its reward, and the number of the state that follows.
 fn with_reward(reward: i64, found: i64) -> i64
-    requires reward { unsigned_abs reward ≤ 8000000000 }
-    requires found { unsigned_abs found ≤ 4000000000 }
+    requires reward { unsigned_abs reward ≤ MOST_REWARD }
+    requires found { unsigned_abs found ≤ MOST_BOUND }
     ensures { result ≡ reward +ℤ found }
 {
     reward + found
 }
 
-/// The number of an own move and a reply; the numbers of its turns, each a reward and the number of the state that
-/// follows, are added to the reads.
+/// The number of an own move and a reply.
 #[cycle(serial)]
 fn search_pair<G: Game, I: Interrupt, B: Bounds<G>>(
-    task: &Task<'_, G, I>,
+    task: &SerialTask<'_, G, I>,
     s: G::State,
     own: u32,
     reply: u32,
     window: Window,
     worker: &mut SerialWorker,
     board: &mut B,
-) -> Result<i64, Stop>
+) -> Result<i64, SerialStop>
     requires game { (B.view board.old).game ≡ task.now.game }
     requires remembered { AreRemembered (G.model task.now.game) (B.view board.old) worker.old.table }
     requires reachable { Reachable (G.model task.now.game) s }
@@ -304,8 +296,7 @@ fn search_pair<G: Game, I: Interrupt, B: Bounds<G>>(
     requires window { IsWindow (G.model task.now.game) task.now.side s window.worse window.better }
     ensures { IsPart (G.model task.now.game) task.now.may_stop task.now.side s
         (pair_nodes (G.model task.now.game) task.now.side s own reply)
-        (IsPairFound (G.model task.now.game) task.now.side s own reply window.worse window.better (B.view board.new)
-        worker.old.reads.items worker.new.reads.items)
+        (IsPairFound (G.model task.now.game) task.now.side s own reply window.worse window.better (B.view board.new))
         (B.view board.old) (B.view board.new) worker.old worker.new result }
 {
     let one = task.side.move_of_one(own, reply);
@@ -318,22 +309,20 @@ fn search_pair<G: Game, I: Interrupt, B: Bounds<G>>(
     let reward = turn_reward(task.game, s, one, two, 0);
     let after = window_after(window, reward);
     let found = search_state(task, child, None, after, worker, board)?;
-    let number = with_reward(reward, found);
-    keep(&mut worker.reads, number)?;
-    Ok(number)
+    Ok(with_reward(reward, found))
 }
 
 /// The number of an own move and a reply with several draws, each searched over the whole range.
 #[cycle(serial)]
 fn search_draws<G: Game, I: Interrupt, B: Bounds<G>>(
-    task: &Task<'_, G, I>,
+    task: &SerialTask<'_, G, I>,
     s: G::State,
     own: u32,
     reply: u32,
     draws: u32,
     worker: &mut SerialWorker,
     board: &mut B,
-) -> Result<i64, Stop>
+) -> Result<i64, SerialStop>
     requires game { (B.view board.old).game ≡ task.now.game }
     requires remembered { AreRemembered (G.model task.now.game) (B.view board.old) worker.old.table }
     requires reachable { Reachable (G.model task.now.game) s }
@@ -345,8 +334,7 @@ fn search_draws<G: Game, I: Interrupt, B: Bounds<G>>(
         (opening_bound (G.model task.now.game) task.now.side) }
     ensures { (floor ceiling : ℤ) → IsPart (G.model task.now.game) task.now.may_stop task.now.side s
         (pair_nodes (G.model task.now.game) task.now.side s own reply)
-        (IsPairFound (G.model task.now.game) task.now.side s own reply floor ceiling (B.view board.new)
-        worker.old.reads.items worker.new.reads.items)
+        (IsPairFound (G.model task.now.game) task.now.side s own reply floor ceiling (B.view board.new))
         (B.view board.old) (B.view board.new) worker.old worker.new result }
 {
     let range = Window {
@@ -361,7 +349,6 @@ fn search_draws<G: Game, I: Interrupt, B: Bounds<G>>(
         let found = search_state(task, child, None, range, worker, board)?;
         let number = with_reward(turn_reward(task.game, s, one, two, d), found);
         sum += task.game.chance(s, one, two, d) as i64 * number;
-        keep(&mut worker.reads, number)?;
     }
     Ok(task.side.quotient(sum, CHANCE))
 }

@@ -9,7 +9,7 @@ use std::alloc::Global;
 
 /// The game, the side that discloses its moves, and what may stop the search.
 #[derive(Clone, Copy)]
-pub struct Task<'a, G: Game, I: Interrupt> {
+pub struct SerialTask<'a, G: Game, I: Interrupt> {
     pub alloc: Global,
     pub game: G,
     pub side: Side,
@@ -31,8 +31,6 @@ pub struct SerialWorker {
     pub visits: Visits,
     pub table: TranspositionTable,
     pub(crate) alloc: Global,
-    // The numbers at the children of the moves that are searched.
-    pub(crate) reads: Vec<i64>,
     // How many states were entered since the interrupt was asked.
     pub(crate) unasked: u32,
 }
@@ -47,7 +45,6 @@ impl SerialWorker {
             visits,
             table,
             alloc,
-            reads: Vec::new(alloc),
             unasked: 0,
         }
     }

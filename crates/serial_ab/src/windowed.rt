@@ -9,8 +9,8 @@ ghost use Rattle.serial_ab.specs.Transpositions.{AreRemembered};
 
 use crate::interrupt::{Interrupt, NoInterrupt};
 use crate::search::search_state;
-use crate::stop::Stop;
-use crate::task::{SerialWorker, Task, Window};
+use crate::stop::SerialStop;
+use crate::task::{SerialTask, SerialWorker, Window};
 use crate::transpositions::{TABLE_LIMIT, TranspositionTable};
 use crate::visits::Visits;
 use bounds_board::{BoardFault, Bounds, Row};
@@ -48,7 +48,7 @@ pub fn serial<G: Game, B: Bounds<G>>(
     let table = TranspositionTable::new(alloc, TABLE_LIMIT);
     let mine = mem::replace(visits, Visits::new(0));
     let mut worker = SerialWorker::new(alloc, mine, table);
-    let task = Task {
+    let task = SerialTask {
         alloc,
         game: g,
         side,
@@ -64,7 +64,7 @@ pub fn serial<G: Game, B: Bounds<G>>(
 /// table, which takes what is searched now; and it may be stopped. What holds of `serial` holds of it, but
 /// for why it was cut. That an answer of the table counts just the visits of the search that it stands for is only tested.
 pub fn serial_with<G: Game, I: Interrupt, B: Bounds<G>>(
-    task: &Task<'_, G, I>,
+    task: &SerialTask<'_, G, I>,
     s: G::State,
     row: Row,
     window: (i64, i64),
@@ -89,7 +89,7 @@ pub fn serial_with<G: Game, I: Interrupt, B: Bounds<G>>(
 
 /// Searches a state whose row may be known.
 fn search_window<G: Game, I: Interrupt, B: Bounds<G>>(
-    task: &Task<'_, G, I>,
+    task: &SerialTask<'_, G, I>,
     s: G::State,
     known: Option<Row>,
     window: (i64, i64),
@@ -110,12 +110,11 @@ fn search_window<G: Game, I: Interrupt, B: Bounds<G>>(
         worse: worse(task.side, window.0, window.1),
         better: better(task.side, window.0, window.1),
     };
-    worker.reads.clear();
     match search_state(task, s, known, ends, worker, board) {
         Ok(value) => Ok(placed(window.0, window.1, value)),
-        Err(Stop::Cut) => Ok(SerialEnd::Cut),
-        Err(Stop::Full) => Err(BoardFault::Full),
-        Err(Stop::NoMemory) => Err(BoardFault::NoMemory),
+        Err(SerialStop::Cut) => Ok(SerialEnd::Cut),
+        Err(SerialStop::Full) => Err(BoardFault::Full),
+        Err(SerialStop::NoMemory) => Err(BoardFault::NoMemory),
     }
 }
 

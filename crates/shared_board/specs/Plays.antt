@@ -1,5 +1,5 @@
 -- The views after each kind of step, and what a step tells its caller.
-use Rattle.std.specs.Prelude.{◌≡◌, ◌≢◌, ℕ, suc, ◌+◌, ◌*◌, ◌<◌, ◌≤◌, max, false, ◌||◌, List, [], ◌∷◌, ◌++◌, slice_set, Some}
+use Rattle.std.specs.Prelude.{◌≡◌, ◌≢◌, ℕ, suc, ◌+◌, ◌*◌, ◌<◌, ◌≤◌, max, false, ◌||◌, List, [], ◌∷◌, ◌++◌, length, slice_set, Some}
 use Rattle.atomic_table.specs.Table.{Me, Step}
 use Rattle.atomic_table.specs.Seated.{TableId}
 use Rattle.sim_game.specs.declared.Side.{Side}
@@ -87,6 +87,14 @@ module _ {S G : Type 0} (model : G → GameModel S) where
     pub named : (g : G) → v.game ≡ Some g → IsInnerKey (model g) key
     pub is_new : n ≡ 0 → key ≡ k
     pub is_old : n ≢ 0 → n ≡ suc key
+
+  -- the view v became w, which knows at most so many keys more: those of inner states and in rows of the board, where all
+  -- before were, and none twice
+  pub record HasMoreKeys (rows : ℕ) (v w : View G) : Type 0 where
+    pub more : (ks : List (ℕ × ℕ)) × (w ≡ more_keys ks v) × (length ks ≤ rows)
+    pub named : (g : G) → v.game ≡ Some g → AllNamed (model g) v.keys → AllNamed (model g) w.keys
+    pub inside : ((i k : ℕ) → Has (i, k) v.keys → i < rows) → (i k : ℕ) → Has (i, k) w.keys → i < rows
+    pub apart : IsApart w.keys
 
   -- the row has the key that was asked for, or another one, and the view knows it
   abbrev pub claimed : At → Sat → ℕ → Sat → Type 0

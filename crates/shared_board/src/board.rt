@@ -1,5 +1,6 @@
 //! The board that threads share.
 ghost use Rattle.std.specs.Prelude.{◌≡◌, ◌<◌, ◌≤◌, true, [], ◌++◌, IfOk, IfErr, OnOk, OnErr};
+ghost use Rattle.sums.specs.declared.TheConstants.{LEAST_WEIGHT, MOST_WEIGHT};
 ghost use Rattle.sim_game.specs.declared.Side.TheVariants.{One, Two};
 ghost use Rattle.sim_game.specs.declared.TheConstants.{MOST_ROWS};
 ghost use Rattle.sim_game.specs.Resolution.{IsFineWeight};
@@ -33,6 +34,7 @@ pub struct Board<G: Game> {
 
 impl<G: Game> Model for Board<G> {
     ghost use Rattle.std.specs.Prelude.{◌≡◌, ◌+◌, ◌*◌, ◌≤◌};
+    ghost use Rattle.sums.specs.declared.TheConstants.{LEAST_WEIGHT, MOST_WEIGHT};
     ghost use Rattle.sim_game.specs.declared.TheConstants.{MOST_ROWS};
     ghost use Rattle.sim_game.specs.Resolution.{IsFineWeight};
     ghost use Rattle.shared_board.specs.Values.{BoardValue};
@@ -42,8 +44,8 @@ impl<G: Game> Model for Board<G> {
     ghost view = { λ b. record { name = b.words.shared.table_id; game = b.game; rows = b.rows; total = b.total } };
 
     ghost invariant = { λ b. (b.words.shared.key ≡ (b.game, b.rows)) × (b.words.shared.table_id.words ≡ 3 * b.rows + 1)
-        × (1 ≤ b.rows) × (b.rows ≤ MOST_ROWS) × (b.words.shared.table_id.slots ≡ 0) × (8192 ≤ b.total)
-        × (b.total ≤ 1048576) × IsFineWeight (G.model b.game) b.total };
+        × (1 ≤ b.rows) × (b.rows ≤ MOST_ROWS) × (b.words.shared.table_id.slots ≡ 0) × (LEAST_WEIGHT ≤ b.total)
+        × (b.total ≤ MOST_WEIGHT) × IsFineWeight (G.model b.game) b.total };
 }
 
 /// 65535 tickets of the board were issued.
@@ -67,9 +69,9 @@ impl<G: Game> Board<G> {
         total: u32,
     ) -> Result<(Board<G>, Pass<G>), NoMemory>
         requires rows { (1 ≤ rows) × (rows ≤ MOST_ROWS) }
-        requires total_low { 8192 ≤ total }
+        requires total_low { LEAST_WEIGHT ≤ total }
         requires total_fine { IsFineWeight (G.model game) total }
-        requires total_high { total ≤ 1048576 }
+        requires total_high { total ≤ MOST_WEIGHT }
         ensures game { IfOk result (λ r. r.0.game ≡ game) }
         ensures rows { IfOk result (λ r. r.0.rows ≡ rows) }
         ensures total { IfOk result (λ r. r.0.total ≡ total) }

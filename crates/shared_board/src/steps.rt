@@ -1,9 +1,9 @@
 //! The steps of a seat at the words of a board.
-ghost use Rattle.std.specs.Prelude.{◌≡◌, ◌≢◌, ℕ, ◌+◌, ◌*◌, ◌<◌, ◌≤◌, List, length, Some, IfSome, IfNone};
+ghost use Rattle.std.specs.Prelude.{◌≡◌, ◌≢◌, ℕ, ◌<◌, Some, IfSome, IfNone};
 ghost use Rattle.bounds_board.specs.Views.{IsInnerKey};
 ghost use Rattle.shared_board.specs.Rule.{Has};
 ghost use Rattle.shared_board.specs.Marks.{AreMarks};
-ghost use Rattle.shared_board.specs.Plays.{more_keys, reading, posting, IsBound, IsLearnt, IsApart, AllNamed, IsAt, IsSized, MayClaim, MayPost};
+ghost use Rattle.shared_board.specs.Plays.{reading, posting, HasMoreKeys, IsBound, IsLearnt, IsApart, IsAt, IsSized, MayClaim, MayPost};
 
 use crate::marks::{Marks, mark_of_key};
 use crate::rule::{Claim, Cut, Look, Raise, ReadLower, ReadUpper, Rules};
@@ -60,12 +60,7 @@ pub(crate) fn claim_row<G: Game>(
     requires key { IsInnerKey (G.model words.now.key.0) key }
     requires marks { AreMarks seat.old.me.0.keys marks.old.by_row.items }
     ensures seat { IsAt words.now.table_id seat.new.table_id seat.new.me × (seat.new.id ≡ seat.old.id) }
-    ensures keys { (ks : List (ℕ × ℕ)) × (seat.new.me.0 ≡ more_keys ks seat.old.me.0) × (length ks ≤ rows) }
-    ensures named { (g : G) → seat.old.me.0.game ≡ Some g → AllNamed (G.model g) seat.old.me.0.keys
-        → AllNamed (G.model g) seat.new.me.0.keys }
-    ensures inside { ((i k : ℕ) → Has (i, k) seat.old.me.0.keys → i < rows) → (i k : ℕ) → Has (i, k) seat.new.me.0.keys
-        → i < rows }
-    ensures apart { IsApart seat.new.me.0.keys }
+    ensures keys { HasMoreKeys G.model rows seat.old.me.0 seat.new.me.0 }
     ensures some { IfSome result (λ r. (r < rows) × Has (r, key) seat.new.me.0.keys) }
     ensures none { IfNone result ((i : ℕ) → i < rows → (k : ℕ) × Has (i, k) seat.new.me.0.keys × (k ≢ key)) }
     ensures marks { AreMarks seat.new.me.0.keys marks.new.by_row.items }

@@ -1,5 +1,6 @@
 //! Bounds as words of a board.
 ghost use Rattle.std.specs.Prelude.{◌≡◌, ◌+◌, ◌*◌, ◌≤◌, pos, neg_ℤ, ◌≤ℤ◌, IfOk};
+ghost use Rattle.sums.specs.declared.TheConstants.{MOST_BOUND};
 ghost use Rattle.sim_game.specs.declared.TheConstants.{MOST_ROWS};
 ghost use Rattle.shared_board.specs.Words.{word_of, as_bound, IsBlank};
 
@@ -10,8 +11,8 @@ const SHIFT: i64 = 4000000000;
 
 /// The word of a bound.
 pub(crate) fn word_of_bound(bound: i64) -> u64
-    requires low { neg_ℤ (pos 4000000000) ≤ℤ bound }
-    requires high { bound ≤ℤ pos 4000000000 }
+    requires low { neg_ℤ (pos MOST_BOUND) ≤ℤ bound }
+    requires high { bound ≤ℤ pos MOST_BOUND }
     ensures word { result ≡ word_of bound }
     ensures small { result ≤ 8000000000 }
 {

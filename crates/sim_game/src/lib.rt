@@ -2,7 +2,7 @@
 #![tactic(auto)]
 
 ghost use Rattle.std.specs.Prelude.{◌≡◌, ℕ, ◌<◌, ◌≤◌, pos, ◌≤ℤ◌};
-ghost use Rattle.sums.specs.declared.TheConstants.{MOST_MOVES};
+ghost use Rattle.sums.specs.declared.TheConstants.{MOST_MOVES, LEAST_WEIGHT, MOST_WEIGHT};
 ghost use Rattle.sim_game.specs.Model.{GameModel, HasAtMost, IsGame, IsEnd, Reachable};
 ghost use Rattle.sim_game.specs.Numbers.{Numbering, IsNumbering};
 ghost use Rattle.sim_game.specs.Resolution.{IsLeastGap, IsResolution};
@@ -214,6 +214,14 @@ pub trait Game: Copy {
         None
     }
 
+    /// The first of a side's moves at which a list of all states has to look for further ones: what follows the moves before
+    /// it follows other states too. Lists of states alone read it: nothing is promised of it, and no bound rests on it.
+    fn first_listed(&self, _side: Side, _s: Self::State) -> u32
+        requires { Reachable (model self.now) _s }
+    {
+        0
+    }
+
     ghost lawful: { (g : Self) → IsGame (model g) };
 
     ghost numbered: { (g : Self) → IsNumbering (model g) (numbering g) };
@@ -221,8 +229,8 @@ pub trait Game: Copy {
 
 /// The gap, in millionths of a payoff, that a search with stages of this weight reaches at the root.
 pub fn resolution<G: Game>(g: G, weight: u32) -> i64
-    requires low { 8192 ≤ weight }
-    requires high { weight ≤ 1048576 }
+    requires low { LEAST_WEIGHT ≤ weight }
+    requires high { weight ≤ MOST_WEIGHT }
     ensures is { (n : ℕ) × (result ≡ pos n) × IsResolution (G.model g) weight n }
     ensures most { result ≤ℤ pos 99999999999 }
 {
@@ -236,8 +244,8 @@ pub fn resolution<G: Game>(g: G, weight: u32) -> i64
 fn least_gap(width: u32, range: u32, weight: u32) -> u32
     requires width { width ≤ MOST_MOVES }
     requires range { range ≤ 8000 }
-    requires low { 8192 ≤ weight }
-    requires high { weight ≤ 1048576 }
+    requires low { LEAST_WEIGHT ≤ weight }
+    requires high { weight ≤ MOST_WEIGHT }
     ensures least { IsLeastGap width range weight result }
     ensures small { result ≤ 1073741824 }
 {

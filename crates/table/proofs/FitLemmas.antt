@@ -7,9 +7,9 @@ use Rattle.sums.specs.Sums.{count_below}
 use Rattle.sim_game.specs.declared.Side.{Side}
 use Rattle.sim_game.specs.declared.Side.TheVariants.{One, Two}
 use Rattle.table.specs.Below.{all_below}
-use Rattle.table.specs.BelowLemmas.{all_at, all_from, not_all}
+use Rattle.table.specs.laws.Below.{all_at, all_from, not_all}
 use Rattle.table.specs.Faults.{are_rewards, cell_fits, do_draws_fit, do_fit, do_states_fit, have_counts, state_fits}
-use Rattle.table.specs.Laws.{count_up_to}
+use Rattle.table.specs.laws.Game.{count_up_to}
 use Rattle.table.specs.Lists.{Lists, table_cell, cells_of, draw_total, draws_end, end_at, first_draw, table_moves, table_rank, state_count, table_value}
 use Rattle.table.specs.Position.{AreFitting}
 

@@ -21,9 +21,9 @@ use Rattle.table.specs.declared.TableError.TheVariants as errors
 use Rattle.table.specs.declared.rules.CellRule.TheVariants as CellRule
 use Rattle.table.specs.declared.rules.Rule.TheVariants as Rule
 use Rattle.table.specs.Below.{first_below, worst_upto}
-use Rattle.table.specs.BelowLemmas.{all_at, all_from, greatest_high, or_none, or_there, worst_found}
+use Rattle.table.specs.laws.Below.{all_at, all_from, greatest_high, or_none, or_there, worst_found}
 use Rattle.table.specs.Faults.{AreOrdered, are_rewards, cell_fits, fault_at, is_rank, first_fault, most_table_turns, shape_fault, rule_fault, do_draws_fit, do_fit, do_states_fit, have_counts, state_fits}
-use Rattle.table.specs.Laws.{bound_turn, is_inner, last_is_end, least_at, moves_width, pair_below, payoff_at, range_state}
+use Rattle.table.specs.laws.Game.{bound_turn, is_inner, last_is_end, least_at, moves_width, pair_below, payoff_at, range_state}
 use Rattle.table.specs.Lists.{Lists, cell_rank, next_rank, cells_of, count_in, count_of, draw_reward, draw_state, draw_total, draw_weight, draws_end, draws_at, end_at, first_draw, has_rewards, is_chance_free, place_at, state_count, table_cell, table_moves, table_rank, table_reward, table_state, table_value, table_weight, table_width}
 use Rattle.table.specs.Nested.{CellForm, Follows, Draws, StateForm, End, Rows, are_in_range, cell_in_range, columns_in, draw_told, draws_of_form, greatest_in, has_paid_draw, kept_cells, lists_of_states, named_by, rank_behind, rank_told, ranks_told, reward_told, state_in_range}
 use Rattle.table.specs.NestedGame.{cell_chance, cell_draws, cell_follows, cell_reward, form_at, form_cell, form_moves, form_sum, range_sum, rows_in, worst_sum, HaveMoves, HaveOneDraw, IsFormTurn, IsNestedGame, IsPaidFor, IsUnpaid}

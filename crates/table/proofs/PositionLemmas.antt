@@ -16,12 +16,12 @@ use Rattle.table.specs.declared.rules.CellRule.TheVariants.{Draws, Weights, Orde
 use Rattle.table.specs.declared.rules.Rule.TheVariants.{Payoff, Rows, Cells, Each, Turns}
 use Rattle.table.specs.declared.TableError.TheVariants as errors
 use Rattle.table.specs.Below.{all_below, first_below}
-use Rattle.table.specs.BelowLemmas.{all_at, greatest_at, none_at, none_below, or_none}
+use Rattle.table.specs.laws.Below.{all_at, greatest_at, none_at, none_below, or_none}
 use Rattle.table.proofs.FitLemmas.{fits_from}
 use Rattle.table.specs.declared.TableError.{TableError}
 use Rattle.table.specs.Faults.{count_fault, do_fit, first_fault, lists_fault, are_moves, fault_at, is_payoff, is_rank, is_total, is_weight, most_table_moves, most_table_turns, rule_fault, shape_fault, total_fault, total_fault_at}
 use Rattle.table.specs.Lists.{Lists, cells_of, draws_at, table_moves, place_at, table_rank, table_state, state_count, table_value, table_weight, cell_rank, has_rewards, next_rank, table_width}
-use Rattle.table.specs.Laws.{moves_in_width, width_at_most}
+use Rattle.table.specs.laws.Game.{moves_in_width, width_at_most}
 use Rattle.table.specs.Position.{AreFitting, AreSmallTotals, IsTableCell, IsTable}
 use Rattle.table.specs.Totals.{state_total}
 use Rattle.table.proofs.RuleLemmas.{keeps_all, kept, leads_behind, leads_there}

@@ -8,11 +8,11 @@ use Rattle.sim_game.specs.declared.Side.TheVariants.{One, Two}
 use Rattle.sim_game.specs.Model.{Turn, IsTurn, Reachable, after_turn}
 use Rattle.table.specs.declared.State.{State}
 use Rattle.table.specs.Below.{highest_below}
-use Rattle.table.specs.Laws.{is_cell, sound, turn_bound}
+use Rattle.table.specs.laws.Game.{is_cell, sound, turn_bound}
 use Rattle.table.specs.Lists.{Lists, cell_rank, cells_of, draws_at, has_rewards, table_moves, place_at, state_count, table_rank, table_reward, table_state, table_value}
 use Rattle.table.specs.Position.{IsTable}
 use Rattle.table.specs.Rules.{KeepsRules, place_of, table_game, turn_sum}
-use Rattle.table.specs.TotalLaws.{cells_some, total_at_end}
+use Rattle.table.specs.laws.Totals.{cells_some, total_at_end}
 use Rattle.table.specs.Totals.{state_total, table_bound, turn_total, worst_payoff}
 use Rattle.table.proofs.TotalLemmas.{total_found}
 

@@ -8,9 +8,9 @@ use Rattle.table.specs.declared.TableError.{TableError}
 use Rattle.table.specs.declared.rules.CellRule.{CellRule}
 use Rattle.table.specs.declared.rules.Rule.TheVariants.{Each}
 use Rattle.table.specs.Below.{all_below}
-use Rattle.table.specs.BelowLemmas.{all_at, none_at, not_all}
+use Rattle.table.specs.laws.Below.{all_at, none_at, not_all}
 use Rattle.table.specs.Faults.{are_weights, cell_error, draw_leads_on, fault_at, fault_in, is_weight, keeps, leads_on, rule_fault}
-use Rattle.table.specs.Laws.{count_up_to}
+use Rattle.table.specs.laws.Game.{count_up_to}
 use Rattle.table.specs.Lists.{Lists, draw_state, draw_weight, table_cell, cells_of, draws_at, table_moves, place_at, table_rank, table_state, state_count, table_weight}
 use Rattle.table.specs.Position.{AreFitting}
 

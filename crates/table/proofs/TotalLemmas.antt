@@ -8,10 +8,10 @@ use Rattle.sim_game.specs.declared.Side.{Side}
 use Rattle.sim_game.specs.declared.Side.TheVariants.{One, Two}
 use Rattle.sim_game.specs.Sides.{other_side, better}
 use Rattle.table.specs.Below.{worst_upto}
-use Rattle.table.specs.BelowLemmas.{worst_found}
+use Rattle.table.specs.laws.Below.{worst_found}
 use Rattle.table.specs.Lists.{Lists, state_count, table_rank, table_value, cells_of, place_at, draws_at, draw_reward, table_cell, table_state, draw_state}
 use Rattle.table.specs.Position.{IsTable, IsTableCell}
-use Rattle.table.specs.TotalLaws.{cells_some, next_same, total_at_end, total_is}
+use Rattle.table.specs.laws.Totals.{cells_some, next_same, total_at_end, total_is}
 use Rattle.table.specs.Totals.{turn_total, cell_total, next_total, state_total, total_in, AreNear, AreSmallRewards, AreStateTotals}
 
 -- ---- one more number

@@ -1,8 +1,6 @@
 pub mod Below
-pub mod BelowLemmas
 pub mod Draws
 pub mod Faults
-pub mod Laws
 pub mod Lists
 pub mod Nested
 pub mod NestedGame
@@ -12,5 +10,5 @@ pub mod Ranges
 pub mod Refusals
 pub mod Rules
 pub mod Setting
-pub mod TotalLaws
 pub mod Totals
+pub mod laws

@@ -9,7 +9,7 @@ ghost use Rattle.table.specs.Draws.{AreDraws};
 ghost use Rattle.table.specs.Faults.{first_fault, most_table_moves, most_table_turns, HasTotals};
 ghost use Rattle.table.specs.Setting.{cell_number, lists_of, IsSettingOf};
 ghost use Rattle.sim_game.specs.Numbers.{by_key, numbered_by_key};
-ghost use Rattle.table.specs.Laws.{sound, table_is_game};
+ghost use Rattle.table.specs.laws.Game.{sound, table_is_game};
 ghost use Rattle.table.specs.Lists.{Lists, table_cell, has_rewards, is_chance_free, lists_from, table_moves, table_rank, state_count, table_width};
 ghost use Rattle.table.specs.Position.{AreSmallTotals, IsTable};
 ghost use Rattle.table.specs.Rules.{place_of, table_game, KeepsRules};

@@ -11,7 +11,7 @@ use Rattle.std.specs.List.{All, list_any, position_or_len}
 use Rattle.tron.specs.declared.Setting.{Setting}
 use Rattle.tron.specs.Cells.{is_listed, with_cell, IsSetOf}
 use Rattle.state_key.proofs.SetLemmas.{below_bits, bit_clear, same_set}
-use Rattle.tron.specs.CellLaws.{set_more}
+use Rattle.tron.specs.laws.Cells.{set_more}
 use Rattle.text.specs.Faults.{is_outside}
 use Rattle.tron.specs.Position.{named_cells, first_fault, IsGrid, IsSettingOf, IsPosition}
 

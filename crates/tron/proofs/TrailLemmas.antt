@@ -9,7 +9,7 @@ use Rattle.tron.specs.declared.Setting.{Setting}
 use Rattle.tron.specs.declared.State.{State}
 use Rattle.tron.specs.Cells.{with_cell, is_listed, add_cell, AreDistinct, IsSetOf}
 use Rattle.state_key.proofs.SetLemmas.{in_with, or_last}
-use Rattle.tron.specs.CellLaws.{listed_push}
+use Rattle.tron.specs.laws.Cells.{listed_push}
 use Rattle.tron.specs.Position.{named_cells, IsSettingOf}
 use Rattle.tron.specs.Rules.{Arena, Trails, arena_of, arena_of_trails, entered, tron_root, first_trails, with_heads, after_moves, moved, StandsFor}
 

@@ -1,6 +1,5 @@
-pub mod CellLaws
 pub mod Cells
-pub mod Laws
 pub mod Position
 pub mod Refusals
 pub mod Rules
+pub mod laws

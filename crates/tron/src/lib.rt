@@ -5,7 +5,7 @@ ghost use Rattle.std.specs.Prelude.{◌≡◌, ◌*◌, ◌<◌, ◌^◌, true, 
 ghost use Rattle.tron.specs.declared.Direction.TheVariants.{North};
 ghost use Rattle.sim_game.specs.Model.{Reachable};
 ghost use Rattle.sim_game.specs.Numbers.{by_key, numbered_by_key};
-ghost use Rattle.tron.specs.Laws.{tron_is_game};
+ghost use Rattle.tron.specs.laws.Game.{tron_is_game};
 ghost use Rattle.tron.specs.Position.{first_fault, IsPosition, IsSettingOf};
 ghost use Rattle.tron.specs.Rules.{arena_of, directions_of, entered, goes_on, head_of, is_open, is_over, neighbour, number_of, tron_game, ways_of, KeepsRules};
 

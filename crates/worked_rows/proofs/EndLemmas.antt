@@ -35,8 +35,8 @@ module _ {S G N : Type 0} (m : GameModel S) (game : IsGame m) (v : BoardView G N
   proven bound high (suc reply) p = absurd (omega (arith, two))
 
   pub end_entry : (bound : ℤ) (total : ℕ) → state_bound m One s ≤ℤ bound → bound ≤ℤ payoff → 1 ≤ total
-      → IsEntry m total (IsSeenNumber m v) (record { key = m.key s; side = One; bound = bound; weights = total ∷ []; reads = payoff ∷ [] })
+      → IsEntry m total (IsSeenNumber m v) (record { key = m.key s; side = One; bound = bound; weights = total ∷ [] })
   end_entry bound total low high some =
-      let replied : IsReplied m One s 0 (m.moves Two s) v (payoff ∷ []) bound = record { numbers = λ _ _. payoff; listed = rw (two, draw) refl; good = good; proven = proven bound high } in
-      subst (λ n. IsEntry m total (IsSeenNumber m v) (record { key = m.key s; side = One; bound = bound; weights = one_move total n 0; reads = payoff ∷ [] })) one
-      (pure_entry m game One s r goes 0 (omega (arith, one)) v v (later_refl v) (payoff ∷ []) bound low replied total some)
+      let replied : IsReplied m One s 0 (m.moves Two s) v bound = record { numbers = λ _ _. payoff; good = good; proven = proven bound high } in
+      subst (λ n. IsEntry m total (IsSeenNumber m v) (record { key = m.key s; side = One; bound = bound; weights = one_move total n 0 })) one
+      (pure_entry m game One s r goes 0 (omega (arith, one)) v v (later_refl v) bound low replied total some)

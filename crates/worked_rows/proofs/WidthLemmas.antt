@@ -3,7 +3,7 @@ use Rattle.std.proofs.Common.{◌≡◌, ℕ, ◌*◌, ◌≤◌, pos, arith}
 use Rattle.std.proofs.Math.Nat.{mul-le-mul}
 use Rattle.sim_game.specs.Model.{GameModel}
 use Rattle.goofspiel.specs.declared.Goofspiel.{Goofspiel}
-use Rattle.goofspiel.specs.CardLaws.{few_cards}
+use Rattle.goofspiel.specs.laws.Cards.{few_cards}
 use Rattle.goofspiel.specs.Rules.{goofspiel_game}
 use Rattle.oshi_zumo.specs.declared.Setting.{Setting}
 use Rattle.oshi_zumo.specs.Position.{setting_of}

@@ -1,4 +1,4 @@
-use best_reply::{Reply, reply_one, reply_two};
+use best_reply::{BestReply, reply_one, reply_two};
 use matrix_game::{Matrix, ShapeError, SolverKind, StageError, StageMemory, StageSolver, Turns};
 use std::alloc::{AllocError, Global};
 use std::test::Fail;
@@ -163,19 +163,19 @@ fn programs_agree_with_another_solver(rt: HostRuntime) -> Result<(), Fail> {
 #[test]
 fn replies_range_over_all_moves(rt: HostRuntime) {
     let cells = [-1000000, 0, 0, -1000000];
-    let fresh = Reply {
+    let fresh = BestReply {
         place: 1,
         sum: -65536000000,
         fresh: true,
     };
     assert_eq!(rt; reply_two(&cells, 2, &[0, 65536], &[0]), fresh);
-    let held = Reply {
+    let held = BestReply {
         place: 1,
         sum: -32768000000,
         fresh: false,
     };
     assert_eq!(rt; reply_two(&cells, 2, &[32768, 32768], &[1]), held);
-    let first = Reply {
+    let first = BestReply {
         place: 0,
         sum: -32768000000,
         fresh: true,

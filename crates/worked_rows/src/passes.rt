@@ -47,14 +47,12 @@ fn post_root<G: Game, B: Bounds<G>>(rt: &impl Abort, alloc: Global, bound: i64, 
     assert!(rt; state_bound(g, Side::One, root) <= bound);
     assert!(rt; bound <= payoff);
     let weights = vec![in alloc; board.total()].expect(rt, "memory");
-    let reads = vec![in alloc; payoff].expect(rt, "memory");
     let key = g.key(root);
     let e = Entry {
         key,
         side: Side::One,
         bound,
         weights: Seq::from_vec(weights),
-        reads: Seq::from_vec(reads),
     };
     let Ok(row) = board.claim(key) else {
         panic!(rt; "a row is free");

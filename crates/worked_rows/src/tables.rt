@@ -8,7 +8,7 @@ ghost use Rattle.serial_ab.specs.Transpositions.{AreRemembered};
 use crate::games::cards_to_four;
 use bounds_board::{BoardFault, Bounds, PlainBoard};
 use serial_ab::{
-    NoInterrupt, SerialEnd, SerialWorker, Task, TranspositionTable, Visits, serial_with,
+    NoInterrupt, SerialEnd, SerialTask, SerialWorker, TranspositionTable, Visits, serial_with,
 };
 use sim_game::{Game, Side, opening_bound};
 use std::alloc::Global;
@@ -38,7 +38,7 @@ fn search_root<G: Game, B: Bounds<G>>(
         Ok(row) => row,
         Err(_) => return Err(BoardFault::Full),
     };
-    let task = Task {
+    let task = SerialTask {
         alloc,
         game: g,
         side,

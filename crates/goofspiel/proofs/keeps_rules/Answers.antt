@@ -1,7 +1,8 @@
 use Rattle.std.proofs.Common.{ℕ, take, length, refl, ap, ◌∙◌}
 use Rattle.std.proofs.lemmas.List.{nil_from_length}
-use Rattle.goofspiel.specs.DealLaws.{same_hands, near_same, is_deal}
-use Rattle.goofspiel.specs.Laws.{gone, goofspiel_sound, bids_for, goofspiel_is_game}
+use Rattle.goofspiel.specs.laws.Deals.{same_hands, near_same, is_deal}
+use Rattle.goofspiel.specs.Deals.{gone}
+use Rattle.goofspiel.specs.laws.Game.{goofspiel_sound, bids_for, goofspiel_is_game}
 use Rattle.goofspiel.specs.Rules.{deal_of}
 use Rattle.goofspiel.proofs.HandLemmas.{array_prizes}
 use Rattle.goofspiel.proofs.keeps_rules.Goals as goal

@@ -101,7 +101,8 @@ claimed g t c =
     let count = c.draws-draw-end.ensures in let inside = c.loop-draw-test.true in (
       rw c.drawn-child.ensures (drawn_after m (g.met.G.Game.lawful c.args.setup.now.game) c.args.s c.requires.here.reachable c.args.moves.0 c.args.moves.1 c.loop-draw.draw
           c.requires.one c.requires.two (omega arith)),
-      searching_read c.loop-draw.invariant c.claim.ensures.later c.claim.ensures.entries c.claim.ensures.children (λ d l. done_later m _ c.claim.ensures.later (c.loop-draw.invariant.done d l)),
+      searching_read c.loop-draw.invariant c.claim.ensures.board.later c.claim.ensures.board.entries c.claim.ensures.board.children
+          (λ d l. done_later m _ c.claim.ensures.board.later (c.loop-draw.invariant.done d l)),
     )
 
 -- a claim that was full
@@ -129,7 +130,7 @@ children::search_draws-loop-draw-preserved g t c =
     let lower = k.0.lower in
     let later = c.search_child.ensures.worked.board.later in
     let end = rw c.in-Ok-None.field-0-is at c.in-Ok-None.ensures.searched in
-    searching_more k.1 (worked_child k.0 c.search_child.ensures.worked) (omega arith) end.1 (child_rows_later m _ _ c.args.s _ later c.claim.ensures.children)
+    searching_more k.1 (worked_child k.0 c.search_child.ensures.worked) (omega arith) end.1 (child_rows_later m _ _ c.args.s _ later c.claim.ensures.board.children)
     (below_more _ c.loop-draw.draw (λ d l. done_later m _ later (k.1.done d l)) (rw c.drawn-child.ensures at end.0))
 
 pub children::search_draws-returns-in-Ok-Some-clause-worked : goal.children::search_draws-returns-in-Ok-Some-clause-worked
@@ -138,7 +139,7 @@ children::search_draws-returns-in-Ok-Some-clause-worked g t c =
     worked_after k.1.worked (worked_child k.0 c.search_child.ensures.worked)
 
 pub children::search_draws-returns-in-Ok-Some-clause-children : goal.children::search_draws-returns-in-Ok-Some-clause-children
-children::search_draws-returns-in-Ok-Some-clause-children g t c = child_rows_later _ _ _ _ _ c.search_child.ensures.worked.board.later c.claim.ensures.children
+children::search_draws-returns-in-Ok-Some-clause-children g t c = child_rows_later _ _ _ _ _ c.search_child.ensures.worked.board.later c.claim.ensures.board.children
 
 pub children::search_draws-returns-in-Ok-Some-clause-searched : goal.children::search_draws-returns-in-Ok-Some-clause-searched
 children::search_draws-returns-in-Ok-Some-clause-searched g t c =
@@ -155,10 +156,10 @@ children::search_draws-returns-in-Err-search_child-clause-worked g t c =
     worked_after k.1.worked (worked_child k.0 c.search_child.ensures.worked)
 
 pub children::search_draws-returns-in-Err-search_child-clause-children : goal.children::search_draws-returns-in-Err-search_child-clause-children
-children::search_draws-returns-in-Err-search_child-clause-children g t c = child_rows_later _ _ _ _ _ c.search_child.ensures.worked.board.later c.claim.ensures.children
+children::search_draws-returns-in-Err-search_child-clause-children g t c = child_rows_later _ _ _ _ _ c.search_child.ensures.worked.board.later c.claim.ensures.board.children
 
 pub children::search_draws-returns-in-Err-clause-worked : goal.children::search_draws-returns-in-Err-clause-worked
-children::search_draws-returns-in-Err-clause-worked g t c = worked_full c.loop-draw.invariant.worked c.claim.ensures.later c.claim.ensures.entries c.note_full.ensures
+children::search_draws-returns-in-Err-clause-worked g t c = worked_full c.loop-draw.invariant.worked c.claim.ensures.board.later c.claim.ensures.board.entries c.note_full.ensures
     (full g t (goal.at.children::search_draws-returns-in-Err-clause-worked g t c).In-Err)
 
 pub children::search_draws-returns-in-Err-clause-searched : goal.children::search_draws-returns-in-Err-clause-searched
@@ -177,8 +178,8 @@ children::search_children-search_draws-requires g t c =
     let m = g.G.Game.model c.args.setup.now.game in
     let below = c.loop-turn-test.true in
     let inside = pair_inside (c.args.setup.now.worker + c.loop-turn.turn) (length rows) (length cols) (omega arith) in
-    let one = rw c.requires.rows at (All-get_or (λ (n : ℕ). n < c.args.held.now.most_rows) rows _ 0 inside.0 c.rows-rows.ensures.held.within) in
-    let two = rw c.requires.cols at (All-get_or (λ (n : ℕ). n < c.args.held.now.most_cols) cols _ 0 inside.1 c.cols-cols.ensures.held.within) in
+    let one = rw c.requires.fits.rows at (All-get_or (λ (n : ℕ). n < c.args.held.now.most_rows) rows _ 0 inside.0 c.rows-rows.ensures.held.within) in
+    let two = rw c.requires.fits.cols at (All-get_or (λ (n : ℕ). n < c.args.held.now.most_cols) cols _ 0 inside.1 c.cols-cols.ensures.held.within) in
     let here = at_children_after c.requires.here c.loop-turn.invariant.worked c.loop-turn.invariant.children in
     let regret = c.loop-turn.invariant.worked.linear ∙ c.requires.regret in
     search rules
@@ -269,8 +270,8 @@ growth::grow-returns-then-is_within_told-clause-worked g t c =
 pub growth::grow-returns-then-is_within_told-clause-ended : goal.growth::grow-returns-then-is_within_told-clause-ended
 growth::grow-returns-then-is_within_told-clause-ended g t c = record {
   ends = λ _. rw (to_z-of_z w64 c.args.target c.ranges.target) at c.if-is_within_told.ensures.within;
-  turns = growing_turn c.requires.here.has_row.goes_on (passed g t (goal.at.growth::grow-returns-then-is_within_told-clause-ended g t c).In-Ok-None) c.in-Ok-take_turn.ensures.turn
-      (ap (λ (w : WorkerView). w.settled) c.take_turn.ensures.same);
+  turns = growing_turn c.requires.here.has_row.goes_on (passed g t (goal.at.growth::grow-returns-then-is_within_told-clause-ended g t c).In-Ok-None) c.in-Ok-take_turn.ensures.turn.turn
+      (ap (λ (w : WorkerView). w.settled) c.take_turn.ensures.turn.same);
 }
 
 pub growth::grow-returns-in-Done-clause-worked : goal.growth::grow-returns-in-Done-clause-worked
@@ -285,8 +286,8 @@ growth::grow-returns-in-Done-clause-ended g t c =
     let holding = c.search_children.ensures.holding in
     let close = close_after m c.args.s here.has_row.goes_on (g.met.G.Game.lawful c.args.setup.now.game) here.reachable (g.B.Bounds.view c.search_children.new.board)
     (g.B.Bounds.view c.take_turn.new.board) held c.in-Done.lower c.in-Done.upper c.take_turn.ensures.worked.board.later.total
-    (λ one has. rw c.growth.invariant.rows at (All-contains (λ (n : ℕ). n < held.most_rows) held.rows one holding.rows.within has))
-    (λ two has. rw c.growth.invariant.cols at (All-contains (λ (n : ℕ). n < held.most_cols) held.cols two holding.cols.within has))
+    (λ one has. rw c.growth.invariant.fits.rows at (All-contains (λ (n : ℕ). n < held.most_rows) held.rows one holding.rows.within has))
+    (λ two has. rw c.growth.invariant.fits.cols at (All-contains (λ (n : ℕ). n < held.most_cols) held.cols two holding.cols.within has))
     (rw c.in-Ok-None.field-0-is at c.in-Ok-None.ensures.searched).0 (rw c.in-Done.is at c.in-Ok-take_turn.ensures.gap) in
     record {
       ends = (
@@ -294,15 +295,15 @@ growth::grow-returns-in-Done-clause-ended g t c =
         rw (to_z-of_z w64 c.args.target c.ranges.target) at c.if-is_within_told.ensures.within,
         close_later m c.args.s c.is_within_told.ensures.later close,
       );
-      turns = growing_turn here.has_row.goes_on (passed g t (goal.at.growth::grow-returns-in-Done-clause-ended g t c).In-Ok-None) c.in-Ok-take_turn.ensures.turn
-          (ap (λ (w : WorkerView). w.settled) c.take_turn.ensures.same);
+      turns = growing_turn here.has_row.goes_on (passed g t (goal.at.growth::grow-returns-in-Done-clause-ended g t c).In-Ok-None) c.in-Ok-take_turn.ensures.turn.turn
+          (ap (λ (w : WorkerView). w.settled) c.take_turn.ensures.turn.same);
     }
 
 pub growth::grow-growth-preserved : goal.growth::grow-growth-preserved
 growth::grow-growth-preserved g t c = growing_more c.requires.here.has_row.goes_on (passed g t (goal.at.growth::grow-growth-preserved g t c).In-Ok-None) c.in-Ok-take_turn.end
-    (worked_read c.take_turn.ensures.worked c.is_within_told.ensures.later c.is_within_told.ensures.entries) c.in-Ok-take_turn.ensures.turn
-    (ap (λ (w : WorkerView). w.settled) c.take_turn.ensures.same) c.in-Ok-take_turn.ensures.held (g.met.G.Game.lawful c.args.setup.now.game) c.requires.here.reachable
-    (rw c.in-Grown.is at c.in-Ok-take_turn.ensures.grown)
+    (worked_read c.take_turn.ensures.worked c.is_within_told.ensures.later c.is_within_told.ensures.entries) c.in-Ok-take_turn.ensures.turn.turn
+    (ap (λ (w : WorkerView). w.settled) c.take_turn.ensures.turn.same) c.in-Ok-take_turn.ensures.held.held (g.met.G.Game.lawful c.args.setup.now.game) c.requires.here.reachable
+    (rw c.in-Grown.is at c.in-Ok-take_turn.ensures.held.grown)
     (child_rows_later _ _ _ c.args.s _ c.is_within_told.ensures.later c.take_turn.ensures.children)
 
 pub growth::grow-returns-in-Err-Spent-clause-worked : goal.growth::grow-returns-in-Err-Spent-clause-worked
@@ -312,8 +313,8 @@ growth::grow-returns-in-Err-Spent-clause-worked g t c =
 pub growth::grow-returns-in-Err-Spent-clause-ended : goal.growth::grow-returns-in-Err-Spent-clause-ended
 growth::grow-returns-in-Err-Spent-clause-ended g t c =
     let goes_on = c.requires.here.has_row.goes_on in
-    let spent = c.take_turn.ensures.spent (c.in-Err-Spent.is ∙ ap Err c.in-Err-Spent.field-0-is) in
-    let none = taken_by spent.1 (ap (λ (w : WorkerView). w.settled.keys) c.take_turn.ensures.same) in
+    let spent = c.take_turn.ensures.turn.spent (c.in-Err-Spent.is ∙ ap Err c.in-Err-Spent.field-0-is) in
+    let none = taken_by spent.1 (ap (λ (w : WorkerView). w.settled.keys) c.take_turn.ensures.turn.same) in
     stopped_ended _ c.args.s goes_on _ (at_work (g.B.Bounds.view c.stopped-in-Err-Spent.new.board) c.take_turn.new.worker) c.args.target stops.Spent c.stopped-in-Err-Spent.result
     spent.0 (rw (to_z-of_z w64 c.args.target c.ranges.target) at c.stopped-in-Err-Spent.ensures.end)
     (growing_stopped goes_on (passed g t (goal.at.growth::grow-returns-in-Err-Spent-clause-ended g t c).In-Ok-None) c.take_turn.ensures.worked none)

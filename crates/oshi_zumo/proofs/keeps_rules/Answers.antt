@@ -7,7 +7,7 @@ use Rattle.sim_game.specs.declared.Limits.TheVariants.{Narrow}
 use Rattle.sim_game.specs.declared.Side.{Side}
 use Rattle.oshi_zumo.specs.declared.Setting.{Setting}
 use Rattle.oshi_zumo.specs.declared.State.{State}
-use Rattle.oshi_zumo.specs.Laws.{bid_paid, moves_open, open_bids, over_at_end, oshi_zumo_is_game}
+use Rattle.oshi_zumo.specs.laws.Game.{bid_paid, moves_open, open_bids, over_at_end, oshi_zumo_is_game}
 use Rattle.oshi_zumo.specs.Position.{first_fault, IsPosition}
 use Rattle.oshi_zumo.specs.Rules.{bids, bids_from, coin_bits, coins_of, is_off, is_bout_over, oshi_zumo_rank}
 use Rattle.oshi_zumo.proofs.keeps_rules.Goals as goal

@@ -2,7 +2,7 @@ use Rattle.std.proofs.Common.{◌≡◌, ◌⊎◌, ◌↔◌, ℕ, ◌≤◌, B
 use Rattle.std.proofs.lemmas.Bool.{le-ltb}
 use Rattle.sim_game.specs.declared.Limits.TheVariants.{Narrow}
 use Rattle.sim_game.specs.declared.Side.TheVariants.{One, Two}
-use Rattle.pursuit.specs.Laws.{pursuit_is_game}
+use Rattle.pursuit.specs.laws.Game.{pursuit_is_game}
 use Rattle.pursuit.specs.Position.{most_nodes, most_rounds}
 use Rattle.pursuit.specs.Rules.{Graph, after_round, first_of, key_bits, pursuit_key, width_of, ways}
 use Rattle.pursuit.proofs.PositionLemmas.{same_graph}

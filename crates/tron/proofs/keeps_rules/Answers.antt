@@ -2,7 +2,7 @@ use Rattle.std.proofs.Common.{◌≡◌, ◌+◌, ◌/◌, Bool, true, cond, len
 use Rattle.tron.specs.declared.Direction.TheVariants.{North}
 use Rattle.sim_game.proofs.ReachLemmas.{reachable_induction}
 use Rattle.tron.specs.declared.State.{State}
-use Rattle.tron.specs.Laws.{tron_sound, rank_over, tron_is_game}
+use Rattle.tron.specs.laws.Game.{tron_sound, rank_over, tron_is_game}
 use Rattle.tron.specs.Rules.{Arena, arena_of_trails, free_cells, is_over, number_of, tron_payoff, tron_rank, tron_game, ways_of, Trails, first_trails, after_moves, StandsFor, tron_key}
 use Rattle.tron.proofs.TrailLemmas.{same_arena, stands_after, stands_first}
 use Rattle.tron.proofs.keeps_rules.Goals as goal

@@ -1,6 +1,6 @@
 use Rattle.std.proofs.Common.{arith, ℕ, ◌-◌, get_or, ap, ◌∙◌}
-use Rattle.goofspiel.specs.DealLaws.{few_prizes}
-use Rattle.goofspiel.specs.Laws.{goofspiel_sound, prize_is}
+use Rattle.goofspiel.specs.laws.Deals.{few_prizes}
+use Rattle.goofspiel.specs.laws.Game.{goofspiel_sound, prize_is}
 use Rattle.goofspiel.proofs.Goofspiel.prize.Goals as goal
 
 pub overflow_sub-gone : goal.overflow_sub-gone

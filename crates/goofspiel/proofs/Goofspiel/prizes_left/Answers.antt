@@ -1,7 +1,7 @@
 use Rattle.std.proofs.Common.{arith, ◌≡◌, ℕ, ◌-◌, ◌+◌, ◌≤◌, List, length, take, drop, sum, ap, sym, ◌∙◌}
 use Rattle.std.proofs.lemmas.List.{drop-take}
 use Rattle.goofspiel.specs.Cards.{cards}
-use Rattle.goofspiel.specs.Laws.{goofspiel_sound}
+use Rattle.goofspiel.specs.laws.Game.{goofspiel_sound}
 use Rattle.goofspiel.specs.Position.{prizes_of}
 use Rattle.goofspiel.proofs.Goofspiel.prizes_left.Goals as goal
 

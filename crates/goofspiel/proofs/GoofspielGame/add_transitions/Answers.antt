@@ -1,5 +1,5 @@
 use Rattle.std.proofs.Common.{arith}
-use Rattle.goofspiel.specs.Laws.{goofspiel_sound, small}
+use Rattle.goofspiel.specs.laws.Game.{goofspiel_sound, small}
 use Rattle.goofspiel.proofs.GoofspielGame.add_transitions.Goals as goal
 
 pub deals_below-first-requires : goal.deals_below-first-requires

@@ -1,4 +1,4 @@
-use Rattle.goofspiel.specs.Laws.{small}
+use Rattle.goofspiel.specs.laws.Game.{small}
 use Rattle.goofspiel.proofs.GoofspielGame.key.Goals as goal
 
 pub hands_key-requires : goal.hands_key-requires

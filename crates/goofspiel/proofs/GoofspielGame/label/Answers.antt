@@ -1,4 +1,4 @@
-use Rattle.goofspiel.specs.Laws.{goofspiel_sound}
+use Rattle.goofspiel.specs.laws.Game.{goofspiel_sound}
 use Rattle.goofspiel.proofs.GoofspielGame.label.Goals as goal
 
 pub number_at-requires-clause-small : goal.number_at-requires-clause-small

@@ -1,6 +1,6 @@
 use Rattle.std.proofs.Common.{arith}
 use Rattle.std.proofs.lemmas.Int.{ints}
-use Rattle.goofspiel.specs.Laws.{small}
+use Rattle.goofspiel.specs.laws.Game.{small}
 use Rattle.goofspiel.proofs.ScoreLemmas.{least_is}
 use Rattle.goofspiel.proofs.GoofspielGame.least.Goals as goal
 

@@ -1,4 +1,4 @@
-use Rattle.goofspiel.specs.Laws.{small}
+use Rattle.goofspiel.specs.laws.Game.{small}
 use Rattle.goofspiel.proofs.GoofspielGame.next.Goals as goal
 
 pub play-requires-clause-small : goal.play-requires-clause-small

@@ -1,7 +1,8 @@
 use Rattle.std.proofs.Common.{ap, ◌∙◌, arith}
-use Rattle.goofspiel.specs.DealLaws.{few_prizes}
-use Rattle.goofspiel.specs.Laws.{gone, goofspiel_sound}
-use Rattle.goofspiel.specs.PlaceLaws.{parts}
+use Rattle.goofspiel.specs.laws.Deals.{few_prizes}
+use Rattle.goofspiel.specs.Deals.{gone}
+use Rattle.goofspiel.specs.laws.Game.{goofspiel_sound}
+use Rattle.goofspiel.specs.laws.Places.{parts}
 use Rattle.goofspiel.specs.Places.{far_with}
 use Rattle.goofspiel.proofs.GoofspielGame.place.Goals as goal
 

@@ -1,4 +1,4 @@
-use Rattle.goofspiel.specs.Laws.{small}
+use Rattle.goofspiel.specs.laws.Game.{small}
 use Rattle.goofspiel.proofs.GoofspielGame.reward.Goals as goal
 
 pub won_by-requires-clause-small : goal.won_by-requires-clause-small

@@ -3,9 +3,9 @@ use Rattle.std.proofs.lemmas.List.{nil_from_length}
 use Rattle.std.proofs.lemmas.List.Elements.{All-from_get_or}
 use Rattle.std.specs.List.{range_with_len}
 use Rattle.goofspiel.specs.Cards.{places}
-use Rattle.goofspiel.specs.CardLaws.{members_increase}
-use Rattle.goofspiel.specs.DealLaws.{same_hands, near_same, is_deal}
-use Rattle.goofspiel.specs.DrawnLaws.{root_undrawn, drawn_sound, drawn_share, drawn_follows, drawn_is_game, same_drawn_deal}
+use Rattle.goofspiel.specs.laws.Cards.{members_increase}
+use Rattle.goofspiel.specs.laws.Deals.{same_hands, near_same, is_deal}
+use Rattle.goofspiel.specs.laws.Drawn.{root_undrawn, drawn_sound, drawn_share, drawn_follows, drawn_is_game, same_drawn_deal}
 use Rattle.goofspiel.specs.DrawnRules.{drawn_deal_of}
 use Rattle.goofspiel.proofs.HandLemmas.{array_prizes}
 use Rattle.goofspiel.proofs.drawn.keeps_drawn_rules.Goals as goal

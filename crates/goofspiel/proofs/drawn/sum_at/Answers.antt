@@ -4,7 +4,7 @@ use Rattle.std.proofs.lemmas.List.Sums.{sum_by_more}
 use Rattle.std.specs.Int.Count.{count_trailing_zeros}
 use Rattle.state_key.proofs.SetLemmas.{next_number}
 use Rattle.goofspiel.specs.Cards.{places}
-use Rattle.goofspiel.specs.CardLaws.{few_members, taken_out}
+use Rattle.goofspiel.specs.laws.Cards.{few_members, taken_out}
 use Rattle.goofspiel.proofs.drawn.sum_at.Goals as goal
 
 pub bounds-prizes-rest : goal.bounds-prizes-rest

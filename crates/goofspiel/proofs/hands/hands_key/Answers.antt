@@ -1,7 +1,7 @@
 use Rattle.std.proofs.Common.{arith, ◌≡◌, ◌+◌, ◌*◌, ◌^◌, pos, ◌+ℤ◌, sym, ◌∙◌}
 use Rattle.std.proofs.lemmas.Int.{ints}
 use Rattle.std.specs.Int.RustNames.{unsigned_abs}
-use Rattle.goofspiel.specs.DealLaws.{hands_key_is}
+use Rattle.goofspiel.specs.laws.Deals.{hands_key_is}
 use Rattle.goofspiel.proofs.hands.hands_key.Goals as goal
 
 pub put-requires-clause-value_high : goal.put-requires-clause-value_high

@@ -3,7 +3,7 @@ use Rattle.std.proofs.lemmas.Int.{ints, to_z-of_z}
 use Rattle.std.specs.Int.RustNames.{unsigned_abs}
 use Rattle.goofspiel.specs.Cards.{cards}
 use Rattle.goofspiel.specs.Rules.{won, score_after}
-use Rattle.goofspiel.specs.DealLaws.{same_goofspiel_state}
+use Rattle.goofspiel.specs.laws.Deals.{same_goofspiel_state}
 use Rattle.goofspiel.proofs.hands.play.Goals as goal
 
 same_number : (z : ℤ) → unsigned_abs z ≤ 2300 → to_z w32 (of_z w32 z) ≡ z

@@ -1,5 +1,5 @@
 use Rattle.std.proofs.Common.{arith}
-use Rattle.goofspiel.specs.CardLaws.{few_members}
+use Rattle.goofspiel.specs.laws.Cards.{few_members}
 use Rattle.goofspiel.proofs.places.mirrored_number.Goals as goal
 
 pub choose-hands-requires-clause-taken : goal.choose-hands-requires-clause-taken

@@ -1,5 +1,5 @@
 use Rattle.std.proofs.Common.{◌∙◌, arith}
-use Rattle.goofspiel.specs.CardLaws.{few_members}
+use Rattle.goofspiel.specs.laws.Cards.{few_members}
 use Rattle.goofspiel.proofs.PartLemmas.{part_of_run}
 use Rattle.goofspiel.proofs.places.part_number.Goals as goal
 

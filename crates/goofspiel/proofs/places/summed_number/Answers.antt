@@ -1,7 +1,7 @@
 use Rattle.std.proofs.Common.{◌≡◌, ℕ, ◌+◌, ◌-◌, ◌/◌, ◌^◌, ◌<◌, length, sym, ap, ap₂, subst, ◌∙◌, arith}
 use Rattle.std.specs.Int.Count.{ones, count_trailing_zeros}
 use Rattle.state_key.proofs.SetLemmas.{next_number}
-use Rattle.goofspiel.specs.CardLaws.{few_members, taken_out}
+use Rattle.goofspiel.specs.laws.Cards.{few_members, taken_out}
 use Rattle.goofspiel.specs.Cards.{members}
 use Rattle.goofspiel.specs.Counts.{choose}
 use Rattle.goofspiel.proofs.PartLemmas.{IsCounted, counted_all, counted_more}

@@ -1,6 +1,6 @@
 use Rattle.std.proofs.Common.{arith, ℕ, ◌≡◌, ◌+◌, ◌-◌, ◌*◌, ◌%◌, ◌^◌, ◌<◌, ap, sym, ◌∙◌}
 use Rattle.std.proofs.lemmas.Nat.{one_shl}
-use Rattle.goofspiel.specs.CardLaws.{taken_out}
+use Rattle.goofspiel.specs.laws.Cards.{taken_out}
 use Rattle.goofspiel.proofs.sets.take_out.Goals as goal
 
 pub overflow_sub-result : goal.overflow_sub-result

@@ -8,7 +8,7 @@ pub loop-done-init : goal.loop-done-init
 loop-done-init g c =
     let b = c.args.board.now in let ask = c.args.ask.now in let first = c.args.lead.now in let found = c.args.found.items in
     subst (λ (l : List Budget). IsJoining g.G.Game.model c.args.g b ask c.args.begun first first found found l false) (sym c.requires.none)
-    (joining_none g.G.Game.model c.args.g b ask c.args.begun first found c.requires.ours c.requires.lead c.requires.entries c.requires.found)
+    (joining_none g.G.Game.model c.args.g b ask c.args.begun first found c.requires.lead.ours c.requires.lead.leads c.requires.lead.none c.requires.found)
 
 pub from_bare-requires : goal.from_bare-requires
 from_bare-requires g c =

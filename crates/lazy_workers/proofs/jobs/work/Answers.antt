@@ -1,6 +1,7 @@
 use Rattle.std.proofs.Common.{⊎_elim, inl, inr, true, false, All, Some, ◌≡◌, ◌≤◌, [], ◌∷◌, w64, SFits, sym, ap, subst, ◌∙◌, arith}
 use Rattle.std.proofs.lemmas.Int.{ints, to_z-of_z}
 use Rattle.sim_game.proofs.SideLemmas.{looser_refl}
+use Rattle.plan_book.specs.Entries.{IsPureEntry}
 use Rattle.shared_board.specs.Passes.{seen_by, known_key}
 use Rattle.shared_board.proofs.SeenLemmas.{has_key_of}
 use Rattle.shared_board.specs.Values.{IsPassOf, desk_view}
@@ -13,7 +14,6 @@ use Rattle.oracle_search.proofs.WorkLemmas.{kept_none}
 use Rattle.oracle_search.specs.declared.ends.SearchEnd.TheVariants.{Full}
 use Rattle.lazy_workers.specs.Keeping.{HasLimit}
 use Rattle.lazy_workers.specs.Workers.{HaveFound, HasView, rows_of}
-use Rattle.serial_ab.specs.Searches.{IsPureEntry}
 use Rattle.lazy_workers.proofs.WorkerLemmas.{AreTaken, of_limits, found, pure_alone}
 use Rattle.lazy_workers.proofs.JoinLemmas.{seen_later, pass_later}
 use Rattle.lazy_workers.proofs.jobs.work.Goals as goal
@@ -42,15 +42,13 @@ returns g c =
     let inside = subst (λ t. t.spent ≤ t.limit) (sym turns) c.requires.job.limit.spent in
     let rows = worked.board.later.rows ∙ ap (λ b. b.rows) c.new-desk.ensures.board ∙ c.requires.board.rows in
     let weight : 1 ≤ ask.weight = omega (arith, c.requires.board.asked.weight.0) in
-    let ends = rw (c.root.ensures, gap) at c.in_ok-end.ensures.ends in
+    let ended = rw (c.root.ensures, gap) at c.in_ok-end.ensures.ended in
     let linear : c.new-state.result.linear ≡ is_linear (solver_of c.limits_for.result.stages) = ap (λ w. w.linear) c.new-state.ensures in
-    let few = rw c.root.ensures at c.in_ok-end.ensures.turns in
-    let owed = c.in_ok-end.ensures.owed in
     let takes : AreTaken m ask c.in_ok-end.end start last = ⊎_elim
-    (λ (a : (ask.stages ≡ Regret) × (is_linear (solver_of c.limits_for.result.stages) ≡ false)). inl (a.0, few (linear ∙ a.1)))
-    (λ (b : (ask.stages ≡ Linear) × (is_linear (solver_of c.limits_for.result.stages) ≡ true)). inr (b.0, owed (linear ∙ b.1)))
+    (λ (a : (ask.stages ≡ Regret) × (is_linear (solver_of c.limits_for.result.stages) ≡ false)). inl (a.0, ended.turns (linear ∙ a.1)))
+    (λ (b : (ask.stages ≡ Linear) × (is_linear (solver_of c.limits_for.result.stages) ≡ true)). inr (b.0, ended.owed (linear ∙ b.1)))
     (of_limits ask.workers ask.stages c.limits_for.result c.limits_for.ensures.few c.limits_for.ensures.many) in
-    let of_worker = found m (g.met.G.Game.lawful c.args.g) ask c.args.begun start last c.in_ok-end.end rows total weight c.requires.board.goes_on none limit begun inside worked ends takes
+    let of_worker = found m (g.met.G.Game.lawful c.args.g) ask c.args.begun start last c.in_ok-end.end rows total weight c.requires.board.goes_on none limit begun inside worked ended.ends takes
     (ap (λ w. w.visits) c.new-state.ensures ∙ c.new-visits.ensures) (λ visits quiet. pure.tight visits quiet c.requires.board.goes_on) (rowed c.requires.board.goes_on) pure.at_once in
     let desk = c.search.new.board in
     let game_is : desk.board.game ≡ c.args.g = worked.board.later.game ∙ ap (λ x. x.game) c.new-desk.ensures.board ∙ c.requires.board.game in
@@ -65,7 +63,8 @@ returns g c =
       total = ap (λ p. p.total) c.into_bare.ensures.same ∙ c.into_pass.ensures.ours.total ∙ total ∙ sym c.requires.board.total;
     } in
     let entries : start.board.entries ≡ [] = ap (λ p. p.entries) from ∙ c.requires.job.none in
-    let alone = pure_alone m (g.met.G.Game.lawful c.args.g) ask c.args.begun start last c.in_ok-end.end rows total weight c.requires.board.goes_on none limit begun inside worked ends takes entries in
+    let alone = pure_alone m (g.met.G.Game.lawful c.args.g) ask c.args.begun start last c.in_ok-end.end rows total weight c.requires.board.goes_on none limit begun inside worked
+    ended.ends takes entries in
     record {
       alone = λ unspent. subst (λ p. All (IsPureEntry m ask.weight) p.entries) (sym to) (alone (ap (λ t. t.spent) (sym c.into_turns.ensures) ∙ unspent));
       pass = pass_later model c.args.g c.args.board.now ask c.args.begun c.args.job.pass c.into_bare.result c.new-desk.result desk from to

@@ -7,6 +7,9 @@ use Rattle.lazy_workers.proofs.JoinLemmas.{none_forgotten}
 use Rattle.lazy_workers.proofs.KeptLemmas.{joined_searched, root_tighter}
 use Rattle.lazy_workers.proofs.workers.gather.Goals as goal
 
+pub join_all-requires-clause-lead : goal.join_all-requires-clause-lead
+join_all-requires-clause-lead g c = record { ours = c.requires.ours; leads = c.requires.lead.leads; none = c.requires.entries }
+
 pub returns-in-Ok-clause-searched : goal.returns-in-Ok-clause-searched
 returns-in-Ok-clause-searched g c =
     let m = g.G.Game.model c.args.g in

@@ -65,8 +65,8 @@ claimed g t c =
     let count = c.draws-draw-end.ensures in let inside = c.loop-draw-test.true in (
       rw c.drawn-child.ensures (drawn_after m (g.met.G.Game.lawful c.args.setup.now.game) c.args.s c.requires.here.reachable c.args.moves.0 c.args.moves.1 c.loop-draw.draw
           c.requires.one c.requires.two (omega arith)),
-      sweeping_read c.loop-draw.invariant c.claim.ensures.later c.claim.ensures.entries c.claim.ensures.children
-          (λ d l last. done_later m _ c.claim.ensures.later (c.loop-draw.invariant.done d l last)),
+      sweeping_read c.loop-draw.invariant c.claim.ensures.board.later c.claim.ensures.board.entries c.claim.ensures.board.children
+          (λ d l last. done_later m _ c.claim.ensures.board.later (c.loop-draw.invariant.done d l last)),
     )
 
 -- a claim that was full
@@ -93,7 +93,7 @@ sweep_draws-loop-draw-preserved g t c =
     let k = claimed g t (goal.at.sweep_draws-loop-draw-preserved g t c).After-drawn-child in
     let later = c.sweep_child.ensures.swept.worked.board.later in
     let end = rw c.in-Ok-None.field-0-is at c.in-Ok-None.ensures.ended in
-    sweeping_more k.1 (swept_child k.0 c.sweep_child.ensures.swept) end.1 (child_rows_later m _ _ c.args.s _ later c.claim.ensures.children)
+    sweeping_more k.1 (swept_child k.0 c.sweep_child.ensures.swept) end.1 (child_rows_later m _ _ c.args.s _ later c.claim.ensures.board.children)
     (below_more _ c.loop-draw.draw (λ d l last. done_later m _ later (k.1.done d l last)) (rw c.drawn-child.ensures at end.0))
 
 pub sweep_draws-returns-in-Ok-Some-clause-swept : goal.sweep_draws-returns-in-Ok-Some-clause-swept
@@ -102,7 +102,7 @@ sweep_draws-returns-in-Ok-Some-clause-swept g t c =
     swept_after k.1.swept (swept_child k.0 c.sweep_child.ensures.swept)
 
 pub sweep_draws-returns-in-Ok-Some-clause-children : goal.sweep_draws-returns-in-Ok-Some-clause-children
-sweep_draws-returns-in-Ok-Some-clause-children g t c = child_rows_later _ _ _ _ _ c.sweep_child.ensures.swept.worked.board.later c.claim.ensures.children
+sweep_draws-returns-in-Ok-Some-clause-children g t c = child_rows_later _ _ _ _ _ c.sweep_child.ensures.swept.worked.board.later c.claim.ensures.board.children
 
 pub sweep_draws-returns-in-Ok-Some-clause-ended : goal.sweep_draws-returns-in-Ok-Some-clause-ended
 sweep_draws-returns-in-Ok-Some-clause-ended g t c =
@@ -117,10 +117,10 @@ sweep_draws-returns-in-Err-sweep_child-clause-swept g t c =
     swept_after k.1.swept (swept_child k.0 c.sweep_child.ensures.swept)
 
 pub sweep_draws-returns-in-Err-sweep_child-clause-children : goal.sweep_draws-returns-in-Err-sweep_child-clause-children
-sweep_draws-returns-in-Err-sweep_child-clause-children g t c = child_rows_later _ _ _ _ _ c.sweep_child.ensures.swept.worked.board.later c.claim.ensures.children
+sweep_draws-returns-in-Err-sweep_child-clause-children g t c = child_rows_later _ _ _ _ _ c.sweep_child.ensures.swept.worked.board.later c.claim.ensures.board.children
 
 pub sweep_draws-returns-in-Err-clause-swept : goal.sweep_draws-returns-in-Err-clause-swept
-sweep_draws-returns-in-Err-clause-swept g t c = swept_full c.loop-draw.invariant.swept c.claim.ensures.later c.claim.ensures.entries c.note_full.ensures
+sweep_draws-returns-in-Err-clause-swept g t c = swept_full c.loop-draw.invariant.swept c.claim.ensures.board.later c.claim.ensures.board.entries c.note_full.ensures
     (full g t (goal.at.sweep_draws-returns-in-Err-clause-swept g t c).In-Err)
 
 pub sweep_draws-returns-in-Err-clause-ended : goal.sweep_draws-returns-in-Err-clause-ended

@@ -4,6 +4,7 @@ use Rattle.matrix_game.specs.Budget.{left_of}
 use Rattle.bounds_board.proofs.FullLemmas.{full_weaker}
 use Rattle.bounds_board.proofs.ViewLemmas.{later_trans}
 use Rattle.restricted_game.specs.Stages.{AreStageNumbers}
+use Rattle.restricted_game.proofs.NodeLemmas.{node_later}
 use Rattle.restricted_game.proofs.OverLemmas.{numbers_later}
 use Rattle.restricted_game.proofs.ReadLemmas.{read_child_leads}
 use Rattle.oracle_search.specs.Finished.{IsClose}
@@ -11,7 +12,7 @@ use Rattle.oracle_search.specs.Workers.{WorkerView, at_work}
 use Rattle.oracle_search.specs.Searches.{IsWorked, IsBoardFull}
 use Rattle.oracle_search.proofs.GrowLemmas.{stop_full}
 use Rattle.oracle_search.proofs.SweepLemmas.{swept_by, swept_none, swept_full, swept_added, swept_read, one_full, one_added, one_none, close_full}
-use Rattle.oracle_search.proofs.WorkLemmas.{worked_none, worked_after, worked_read, worked_posted, worked_asked, turned_asked, turn_asked, at_row_after}
+use Rattle.oracle_search.proofs.WorkLemmas.{node_of, worked_none, worked_after, worked_read, worked_posted, worked_asked, turned_asked, turn_asked, at_row_after}
 use Rattle.oracle_search.proofs.sweeps.close_in.Given.{Over}
 use Rattle.oracle_search.proofs.sweeps.close_in.Goals as goal
 use Rattle.oracle_search.proofs.sweeps.close_in.Goals.{After-post_alone, After-is_within, After-ask, After-take_turn_over, In-Ok-take_turn_over, In-Err-Full}
@@ -19,14 +20,14 @@ use Rattle.oracle_search.proofs.sweeps.close_in.Goals.{After-post_alone, After-i
 -- what was read, and posted alone
 posted : (g : Over) (c : After-post_alone g) → IsWorked (g.G.Game.model c.args.setup.now.game) c.args.node.state (at_work (g.B.Bounds.view c.args.board.now) c.args.worker.now)
     (at_work (g.B.Bounds.view c.post_alone.new.board) c.args.worker.now)
-posted g c = worked_posted (worked_read (worked_none c.requires.here.kept) c.read.ensures.later c.read.ensures.entries) c.post_alone.ensures.later c.post_alone.ensures.posted
+posted g c = worked_posted (worked_read (worked_none c.requires.here.kept) c.read.ensures.board.later c.read.ensures.board.entries) c.post_alone.ensures.later c.post_alone.ensures.posted
 
 -- and read again; the numbers are those of the first reading
 near : (g : Over) (c : After-is_within g) → let m = g.G.Game.model c.args.setup.now.game in
     IsWorked m c.args.node.state (at_work (g.B.Bounds.view c.args.board.now) c.args.worker.now) (at_work (g.B.Bounds.view c.is_within.new.board) c.args.worker.now)
     × AreStageNumbers m (g.B.Bounds.view c.args.board.now) (g.B.Bounds.view c.is_within.new.board) c.args.node.state c.args.growth.now.held c.in-Ok.numbers
 near g c = (
-  worked_read (worked_posted (worked_read (worked_none c.requires.here.kept) c.read.ensures.later c.read.ensures.entries) c.post_alone.ensures.later c.post_alone.ensures.posted)
+  worked_read (worked_posted (worked_read (worked_none c.requires.here.kept) c.read.ensures.board.later c.read.ensures.board.entries) c.post_alone.ensures.later c.post_alone.ensures.posted)
       c.is_within.ensures.later c.is_within.ensures.entries,
   numbers_later (g.G.Game.model c.args.setup.now.game) _ _ _ c.args.node.state c.args.growth.now.held c.in-Ok.numbers
       (later_trans _ _ _ c.post_alone.ensures.later c.is_within.ensures.later) c.in-Ok.ensures.read,
@@ -36,14 +37,14 @@ near g c = (
 told : (g : Over) (c : After-ask g) → IsWorked (g.G.Game.model c.args.setup.now.game) c.args.node.state (at_work (g.B.Bounds.view c.args.board.now) c.args.worker.now)
     (at_work (g.B.Bounds.view c.is_within.new.board) c.ask.new.self)
 told g c = worked_asked (worked_read
-    (worked_posted (worked_read (worked_none c.requires.here.kept) c.read.ensures.later c.read.ensures.entries) c.post_alone.ensures.later c.post_alone.ensures.posted)
+    (worked_posted (worked_read (worked_none c.requires.here.kept) c.read.ensures.board.later c.read.ensures.board.entries) c.post_alone.ensures.later c.post_alone.ensures.posted)
     c.is_within.ensures.later c.is_within.ensures.entries) c.ask.ensures
 
 -- a turn
 turned : (g : Over) (c : After-take_turn_over g) → IsWorked (g.G.Game.model c.args.setup.now.game) c.args.node.state (at_work (g.B.Bounds.view c.args.board.now) c.args.worker.now)
     (at_work (g.B.Bounds.view c.take_turn_over.new.board) c.take_turn_over.new.worker)
 turned g c = worked_after (worked_asked (worked_read
-    (worked_posted (worked_read (worked_none c.requires.here.kept) c.read.ensures.later c.read.ensures.entries) c.post_alone.ensures.later c.post_alone.ensures.posted)
+    (worked_posted (worked_read (worked_none c.requires.here.kept) c.read.ensures.board.later c.read.ensures.board.entries) c.post_alone.ensures.later c.post_alone.ensures.posted)
     c.is_within.ensures.later c.is_within.ensures.entries) c.ask.ensures) c.take_turn_over.ensures.worked
 
 swept_as : (g : Over) (c : After-take_turn_over g) → c.take_turn_over.new.worker.swept ≡ c.args.worker.now.swept
@@ -55,8 +56,8 @@ closed g c last =
     let old = g.B.Bounds.view c.args.board.now in
     let here = c.requires.here in
     close_full m (g.met.G.Game.lawful c.args.setup.now.game) c.args.node.state here.has_row.goes_on here.reachable old (g.B.Bounds.view c.take_turn_over.new.board) c.args.growth.now.held
-    c.in-Ok-take_turn_over.field-0 (c.take_turn_over.ensures.worked.board.later.total ∙ c.is_within.ensures.later.total ∙ c.post_alone.ensures.later.total ∙ c.read.ensures.later.total)
-    c.requires.held (c.requires.done last) (c.in-Ok-take_turn_over.ensures.all c.requires.held.all)
+    c.in-Ok-take_turn_over.field-0 (c.take_turn_over.ensures.worked.board.later.total ∙ c.is_within.ensures.later.total ∙ c.post_alone.ensures.later.total ∙ c.read.ensures.board.later.total)
+    c.requires.held (c.requires.done last) (c.in-Ok-take_turn_over.ensures.held.all c.requires.held.all)
     (c.in-Ok-take_turn_over.ensures.gap old (numbers_later m _ _ _ c.args.node.state c.args.growth.now.held c.in-Ok.numbers
     (later_trans _ _ _ c.post_alone.ensures.later c.is_within.ensures.later) c.in-Ok.ensures.read))
 
@@ -68,7 +69,7 @@ full g c =
 
 pub returns-in-Err-Full-clause-swept : goal.returns-in-Err-Full-clause-swept
 returns-in-Err-Full-clause-swept g c =
-    swept_full (swept_none c.requires.here.kept c.requires.swept) c.read.ensures.later c.read.ensures.entries c.note_full.ensures
+    swept_full (swept_none c.requires.here.kept c.requires.swept) c.read.ensures.board.later c.read.ensures.board.entries c.note_full.ensures
     (full g (goal.at.returns-in-Err-Full-clause-swept g c).In-Err-Full)
 
 pub returns-in-Err-Full-clause-ended : goal.returns-in-Err-Full-clause-ended
@@ -78,7 +79,7 @@ returns-in-Err-Full-clause-ended g c = (
 )
 
 pub returns-in-Err-NoMemory-clause-swept : goal.returns-in-Err-NoMemory-clause-swept
-returns-in-Err-NoMemory-clause-swept g c = swept_read (swept_none c.requires.here.kept c.requires.swept) c.read.ensures.later c.read.ensures.entries
+returns-in-Err-NoMemory-clause-swept g c = swept_read (swept_none c.requires.here.kept c.requires.swept) c.read.ensures.board.later c.read.ensures.board.entries
 
 pub returns-in-Err-clause-swept : goal.returns-in-Err-clause-swept
 returns-in-Err-clause-swept g c = swept_by (swept_none c.requires.here.kept c.requires.swept) (posted g (goal.at.returns-in-Err-clause-swept g c).After-post_alone) refl
@@ -96,8 +97,17 @@ returns-then-left-eq0-clause-ended g c =
     let none : left_of c.ask.new.self.turns ≡ 0 = search rules in
     (none, one_none (turned_asked _ _ c.ask.ensures.turns).1 (ap (λ (w : WorkerView). w.swept) c.ask.ensures.same))
 
+pub post_alone-requires-clause-here : goal.post_alone-requires-clause-here
+post_alone-requires-clause-here g c = node_later _ _ _ _ _ _ c.read.ensures.board.later (node_of c.requires.here)
+
+pub post_alone-requires-clause-fits : goal.post_alone-requires-clause-fits
+post_alone-requires-clause-fits g c = record { rows = c.requires.held.most_rows; cols = c.requires.held.most_cols }
+
 pub take_turn_over-requires-clause-here : goal.take_turn_over-requires-clause-here
 take_turn_over-requires-clause-here g c = at_row_after c.requires.here (told g (goal.at.take_turn_over-requires-clause-here g c).After-ask)
+
+pub take_turn_over-requires-clause-fits : goal.take_turn_over-requires-clause-fits
+take_turn_over-requires-clause-fits g c = record { rows = c.requires.held.most_rows; cols = c.requires.held.most_cols }
 
 pub take_turn_over-requires-clause-read : goal.take_turn_over-requires-clause-read
 take_turn_over-requires-clause-read g c = record { since = g.B.Bounds.view c.args.board.now; are = (near g (goal.at.take_turn_over-requires-clause-read g c).After-is_within).1 }

@@ -1,7 +1,7 @@
 use Rattle.std.proofs.Common.{◌≡◌, ℕ, ◌+◌, ◌*◌, ◌^◌, ◌+ℤ◌, pos, ap, ◌∙◌, arith}
 use Rattle.std.specs.Int.RustNames.{unsigned_abs}
 use Rattle.std.proofs.lemmas.Int.{ints}
-use Rattle.oshi_zumo.specs.Laws.{key_fields}
+use Rattle.oshi_zumo.specs.laws.Game.{key_fields}
 use Rattle.oshi_zumo.proofs.OshiZumoGame.key.Goals as goal
 
 pub overflow_add-s : goal.overflow_add-s

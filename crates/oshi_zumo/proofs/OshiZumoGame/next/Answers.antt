@@ -2,7 +2,7 @@ use Rattle.std.proofs.Common.{arith, ◌≡◌, slice_index, false, refl}
 use Rattle.std.proofs.lemmas.Int.{ints}
 use Rattle.sim_game.specs.declared.Side.TheVariants.{One, Two}
 use Rattle.oshi_zumo.specs.Rules.{bids, is_bout_over}
-use Rattle.oshi_zumo.specs.Laws.{oshi_zumo_sound, same_oshi_zumo_state, open_bids, moves_open}
+use Rattle.oshi_zumo.specs.laws.Game.{oshi_zumo_sound, same_oshi_zumo_state, open_bids, moves_open}
 use Rattle.oshi_zumo.proofs.OshiZumoGame.next.Goals as goal
 
 pub returns : goal.returns

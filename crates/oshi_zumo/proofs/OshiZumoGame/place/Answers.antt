@@ -1,5 +1,5 @@
 use Rattle.std.proofs.Common.{arith}
-use Rattle.oshi_zumo.specs.Laws.{few_places, oshi_zumo_numbered, oshi_zumo_sound}
+use Rattle.oshi_zumo.specs.laws.Game.{few_places, oshi_zumo_numbered, oshi_zumo_sound}
 use Rattle.oshi_zumo.proofs.OshiZumoGame.place.Goals as goal
 
 pub from_end-requires-clause-near : goal.from_end-requires-clause-near

@@ -1,5 +1,5 @@
 use Rattle.std.proofs.Common.{rules, sym}
-use Rattle.oshi_zumo.specs.Laws.{bid_within}
+use Rattle.oshi_zumo.specs.laws.Game.{bid_within}
 use Rattle.oshi_zumo.proofs.Setting.bid.Goals as goal
 
 pub overflow_cast-result : goal.overflow_cast-result

@@ -1,4 +1,4 @@
-use Rattle.pursuit.specs.Laws.{reach_listed, set_small}
+use Rattle.pursuit.specs.laws.Game.{reach_listed, set_small}
 use Rattle.pursuit.proofs.Pursuit.reach.Goals as goal
 
 pub returns-clause-is : goal.returns-clause-is

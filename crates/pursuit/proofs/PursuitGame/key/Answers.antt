@@ -1,4 +1,4 @@
-use Rattle.pursuit.specs.Laws.{chase_fields}
+use Rattle.pursuit.specs.laws.Game.{chase_fields}
 use Rattle.pursuit.proofs.PursuitGame.key.Goals as goal
 
 pub put-rounds-requires-clause-value_high : goal.put-rounds-requires-clause-value_high

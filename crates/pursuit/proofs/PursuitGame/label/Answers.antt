@@ -1,4 +1,4 @@
-use Rattle.pursuit.specs.Laws.{node_below, pursuit_sound}
+use Rattle.pursuit.specs.laws.Game.{node_below, pursuit_sound}
 use Rattle.pursuit.proofs.PursuitGame.label.Goals as goal
 
 pub reach_node-requires-clause-node : goal.reach_node-requires-clause-node

@@ -1,5 +1,5 @@
 use Rattle.std.proofs.Common.{◌≡◌, ℕ, false, length, ap, sym, ◌∙◌}
-use Rattle.pursuit.specs.Laws.{node_below, open_ways, pursuit_sound}
+use Rattle.pursuit.specs.laws.Game.{node_below, open_ways, pursuit_sound}
 use Rattle.state_key.proofs.SetLemmas.{members_count}
 use Rattle.pursuit.specs.Rules.{graph_of, is_chase_over, reach}
 use Rattle.pursuit.proofs.PursuitGame.moves.Goals as goal

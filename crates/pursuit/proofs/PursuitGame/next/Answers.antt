@@ -1,4 +1,4 @@
-use Rattle.pursuit.specs.Laws.{pursuit_sound}
+use Rattle.pursuit.specs.laws.Game.{pursuit_sound}
 use Rattle.pursuit.proofs.PursuitGame.next.Goals as goal
 
 pub reach_node-one-requires-clause-node : goal.reach_node-one-requires-clause-node

@@ -1,6 +1,6 @@
 use Rattle.std.proofs.Common.{arith, get_or}
 use Rattle.std.proofs.lemmas.Nat.{ones-le}
-use Rattle.pursuit.specs.Laws.{degree_is, greatest_more}
+use Rattle.pursuit.specs.laws.Game.{degree_is, greatest_more}
 use Rattle.pursuit.specs.Rules.{degree, graph_from}
 use Rattle.pursuit.proofs.position.width_of.Goals as goal
 

@@ -1,4 +1,4 @@
-use Rattle.std.proofs.Common.{rules, ◌<◌, w64, SFits}
+use Rattle.std.proofs.Common.{rules, ◌<◌, w64, SFits, ◌∙◌}
 use Rattle.std.proofs.lemmas.Int.{to_z-of_z}
 use Rattle.sim_game.specs.declared.Side.TheVariants.{One}
 use Rattle.sim_game.proofs.SideLemmas.{side_turn}
@@ -23,11 +23,12 @@ with_reward-requires-clause-reward g c =
     (reward_small m (g.met.G.Game.lawful c.args.g) One c.args.s c.args.at.one c.args.at.two c.args.at.draw c.requires.reachable
     (side_turn m One c.args.s c.args.at.one c.args.at.two c.args.at.draw c.requires.one c.requires.two inside))
 
-pub returns-in-Ok-clause-later : goal.returns-in-Ok-clause-later
-returns-in-Ok-clause-later g c = later_trans _ _ _ c.claim.ensures.later c.read_state-read.ensures.later
-
-pub returns-in-Ok-clause-children : goal.returns-in-Ok-clause-children
-returns-in-Ok-clause-children g c = child_rows_later (g.G.Game.model c.args.g) _ _ c.args.s _ c.read_state-read.ensures.later c.claim.ensures.children
+pub returns-in-Ok-clause-board : goal.returns-in-Ok-clause-board
+returns-in-Ok-clause-board g c = record {
+  later = later_trans _ _ _ c.claim.ensures.board.later c.read_state-read.ensures.later;
+  entries = c.read_state-read.ensures.entries ∙ c.claim.ensures.board.entries;
+  children = child_rows_later (g.G.Game.model c.args.g) _ _ c.args.s _ c.read_state-read.ensures.later c.claim.ensures.board.children;
+}
 
 pub returns-in-Ok-clause-read : goal.returns-in-Ok-clause-read
 returns-in-Ok-clause-read g c wanted inside =
@@ -36,7 +37,7 @@ returns-in-Ok-clause-read g c wanted inside =
     let paid = rw (to_z-of_z w64 c.turn_reward.result f, c.turn_reward.ensures) at c.with_reward.ensures in
     let read = rw c.drawn.ensures at c.read_state-read.ensures.read in
     turn_read m (g.B.Bounds.view c.args.board.now) (g.B.Bounds.view c.read_state-read.new.board) c.args.s c.args.at.one c.args.at.two c.args.at.draw c.read_state-read.result
-    c.with_reward.result (read_between m _ _ _ _ _ _ c.claim.ensures.later (later_refl _) read) paid
+    c.with_reward.result (read_between m _ _ _ _ _ _ c.claim.ensures.board.later (later_refl _) read) paid
 
 pub returns-in-Ok-clause-small : goal.returns-in-Ok-clause-small
 returns-in-Ok-clause-small g c =

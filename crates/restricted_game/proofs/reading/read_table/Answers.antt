@@ -1,15 +1,15 @@
-use Rattle.std.proofs.Common.{rules, ◌≡◌, ◌*◌, ◌<◌, length, sym, subst, ◌∙◌, arith}
+use Rattle.std.proofs.Common.{rules, ◌≡◌, ◌*◌, ◌<◌, length, sym, subst, arith}
 use Rattle.std.proofs.lemmas.List.Elements.{All-set}
 use Rattle.sim_game.specs.declared.Side.TheVariants.{Two}
-use Rattle.bounds_board.proofs.ViewLemmas.{later_trans}
 use Rattle.restricted_game.specs.Sizes.{IsSmallEnclosure}
 use Rattle.restricted_game.specs.Tables.{IsStride}
+use Rattle.restricted_game.proofs.NodeLemmas.{only_read_after}
 use Rattle.restricted_game.proofs.PlaceLemmas.{place_within}
 use Rattle.restricted_game.proofs.TableLemmas.{filled_more}
 use Rattle.restricted_game.proofs.reading.read_table.Goals as goal
 
-pub returns-in-Err-clause-later : goal.returns-in-Err-clause-later
-returns-in-Err-clause-later g c = later_trans _ _ _ c.loop-place.invariant.later c.in-Err.ensures.later
+pub returns-in-Err-clause-board : goal.returns-in-Err-clause-board
+returns-in-Err-clause-board g c = only_read_after (g.G.Game.model c.args.g) c.args.s _ _ _ _ _ c.loop-place.invariant.board c.read_child.ensures.board
 
 pub loop-place-preserved : goal.loop-place-preserved
 loop-place-preserved g c =
@@ -18,10 +18,8 @@ loop-place-preserved g c =
     let inside : c.loop-place.place < length c.loop-place.enclosures.items = search rules in
     let stride = subst (IsStride (g.G.Game.model c.args.g) c.args.s) (sym c.stride-stride.ensures) c.requires.children.places.stride in
     record {
-      later = later_trans _ _ _ c.loop-place.invariant.later found.later;
-      entries = found.entries ∙ c.loop-place.invariant.entries;
-      children = found.children;
-      filled = filled_more (g.G.Game.model c.args.g) c.args.s c.requires.reachable _ _ _ c.loop-place.invariant.later found.later c.args.rows.now
+      board = only_read_after (g.G.Game.model c.args.g) c.args.s _ _ _ _ _ c.loop-place.invariant.board c.read_child.ensures.board;
+      filled = filled_more (g.G.Game.model c.args.g) c.args.s c.requires.reachable _ _ _ c.loop-place.invariant.board.later c.read_child.ensures.board.later c.args.rows.now
           c.args.cols.now c.moves-width.result c.stride-stride.result c.moves-width.ensures some
           stride c.loop-place.place c.in-Ok-read_child.found found.read c.loop-place.enclosures.items inside c.loop-place.invariant.filled;
       small = All-set IsSmallEnclosure c.loop-place.enclosures.items _ _ found.small c.loop-place.invariant.small;

@@ -1,12 +1,10 @@
-use Rattle.std.proofs.Common.{rules, length, true, Err, Some, ◌≡◌, ◌-◌, ◌<◌, ◌≤◌, ℕ, [], ◌∷◌, ◌++◌, w64, ℤ, pos, ◌+ℤ◌, ◌-ℤ◌, ◌*ℤ◌, to_z, of_z, SFits, append-nil, refl, sym, ap, subst, ◌∙◌, arith}
+use Rattle.std.proofs.Common.{rules, true, Err, Some, ◌≡◌, ◌-◌, ◌<◌, ◌≤◌, ℕ, w64, ℤ, pos, ◌+ℤ◌, ◌-ℤ◌, ◌*ℤ◌, to_z, of_z, SFits, refl, sym, ap, subst, ◌∙◌, arith}
 use Rattle.std.proofs.lemmas.Int.{ints, to_z-of_z}
-use Rattle.std.proofs.lemmas.Grind.{common_steps}
 use Rattle.sums.specs.Sums.{sum_below, count_below}
 use Rattle.sim_game.specs.Model.{IsTurn, Reachable, LeadsTo}
 use Rattle.sim_game.specs.Sides.{other_side, opening_bound, turn_of, draws_of, child_of, chance_of, better, turn_reward, after_reward}
 use Rattle.sim_game.proofs.RewardLemmas.{reward_small}
 use Rattle.sim_game.proofs.SideLemmas.{add_less, side_turn}
-use Rattle.plan_book.specs.Entries.{concat_below}
 use Rattle.plan_book.specs.Serial.{tree_size}
 use Rattle.plan_book.specs.Steps.{rounded}
 use Rattle.bounds_board.specs.Views.{WasFull}
@@ -15,10 +13,10 @@ use Rattle.serial_ab.specs.Transpositions.{AreRemembered}
 use Rattle.serial_ab.specs.Values.{turn_value, pair_value, pair_nodes, move_nodes, inner_nodes}
 use Rattle.serial_ab.specs.Searches.{IsSerialKept, IsWindow, IsReplied, IsFound, IsMoveFound, IsPairFound, IsGoodNumber}
 use Rattle.serial_ab.proofs.CountLemmas.{counts_none, counts_after, cut_after}
-use Rattle.serial_ab.proofs.DrawLemmas.{product_fits, added_fits, added_is, listed_more, good_more, sum_low}
+use Rattle.serial_ab.proofs.DrawLemmas.{product_fits, added_fits, added_is, good_more, sum_low}
 use Rattle.serial_ab.proofs.KeptLemmas.{kept_none, kept_after, kept_counted, kept_quiet, kept_posted, part_kept, part_more, part_cut, stops_below, stops_more, ends_more, ok_more}
 use Rattle.serial_ab.proofs.SearchLemmas.{MovesSoFar, RepliesSoFar, moves_start, move_window, pair_window, moves_stop, moves_more, moves_end, replies_start}
-use Rattle.serial_ab.proofs.SearchLemmas.{replies_stop, replies_more, replies_end, part_of, pair_one, pair_several, whole_window, whole_range, turn_window, range_small, found_end}
+use Rattle.serial_ab.proofs.SearchLemmas.{replies_stop, replies_more, replies_end, pair_one, pair_several, whole_window, whole_range, turn_window, range_small, found_end}
 use Rattle.serial_ab.proofs.TableLemmas.{remembered_later, remembered_more, recall_ends, cut_more}
 use Rattle.serial_ab.proofs.ValueLemmas.{tree_moves, child_is, child_lower, some_draws, full_below}
 use Rattle.serial_ab.proofs.search.+serial.Given as given
@@ -106,7 +104,6 @@ search_draws-loop-d-init g t c = record {
   remembered = c.requires.remembered;
   below = λ some. absurd (omega arith);
   summed = refl;
-  listed = sym (append-nil c.args.worker.now.reads.items);
   good = λ d h. absurd (omega arith);
 }
 
@@ -148,20 +145,6 @@ search_draws-overflow_add-sum g t c =
     added_fits (g.G.Game.model c.args.task.now.game) (g.met.G.Game.lawful c.args.task.now.game) c.args.task.now.side c.args.s c.args.own c.args.reply c.requires.reachable
     c.requires.own_move c.requires.reply c.loop-d.d n.0 c.chance.result n.1 c.with_reward-number.result n.2 (to_z w64 c.loop-d.sum-bits) c.loop-d.invariant.summed
 
-pub search_draws-returns-in_err-keep :
-    goal.search_draws-returns-in_err-keep
-search_draws-returns-in_err-keep g t c =
-    let m = g.G.Game.model c.args.task.now.game in
-    let d = drawn g t (goal.at.search_draws-returns-in_err-keep g t c).After-drawn-child in
-    λ floor ceiling. record {
-      kept = part_kept (λ d. tree_size m (child_of m c.args.task.now.side c.args.s c.args.own c.args.reply d)) c.loop-d.d
-          (draws_of m c.args.task.now.side c.args.s c.args.own c.args.reply) c.loop-d.invariant.kept d.0 (rw d.1 at c.search_state.ensures.ends.kept);
-      same_limit = c.search_state.ensures.ends.same_limit ∙ c.loop-d.invariant.same_limit;
-      remembered = search rules;
-      ends = search rules;
-      below = search rules;
-    }
-
 pub search_draws-returns-in_err-found : goal.search_draws-returns-in_err-found
 search_draws-returns-in_err-found g t c =
     let m = g.G.Game.model c.args.task.now.game in
@@ -197,9 +180,6 @@ search_draws-loop-d-preserved g t c =
       remembered = c.search_state.ensures.ends.remembered;
       summed = added_is m game c.args.task.now.side c.args.s c.args.own c.args.reply c.requires.reachable c.requires.own_move c.requires.reply c.loop-d.d n.0 c.chance.result n.1
           c.with_reward-number.result n.2 (to_z w64 c.loop-d.sum-bits) c.loop-d.invariant.summed;
-      listed = listed_more m game c.args.task.now.side c.args.s c.args.own c.args.reply c.requires.reachable c.requires.own_move c.requires.reply c.loop-d.d n.0 c.chance.result n.1
-          c.with_reward-number.result n.2 c.args.worker.now.reads.items c.loop-d.worker.reads.items c.search_state.new.worker.reads.items c.keep.new.reads.items c.loop-d.invariant.listed
-          c.in_ok-found.ensures.same_reads c.in_ok-keep.ensures.ok;
       good = good_more m game c.args.task.now.side c.args.s c.args.own c.args.reply c.requires.reachable c.requires.own_move c.requires.reply c.loop-d.d n.0 c.chance.result n.1
           c.with_reward-number.result n.2 (g.B.Bounds.view c.loop-d.board) (g.B.Bounds.view c.search_state.new.board) c.search_state.ensures.ends.kept.later c.loop-d.invariant.good n.3;
     }
@@ -230,10 +210,7 @@ search_draws-returns g t c =
       same_limit = c.loop-d.invariant.same_limit;
       remembered = c.loop-d.invariant.remembered;
       ends = rw (to_z-of_z w64 c.quotient.result fm, is) (pair_several m game c.args.task.now.side c.args.s c.requires.reachable c.requires.goes_on c.args.own c.requires.own_move
-          c.args.reply c.requires.reply floor ceiling (g.B.Bounds.view c.loop-d.board) c.args.worker.now.reads.items c.loop-d.worker.reads.items
-          (subst (λ (n : ℕ). c.loop-d.worker.reads.items ≡ c.args.worker.now.reads.items ++ concat_below n
-          (λ d. turn_value m c.args.task.now.side c.args.s c.args.own c.args.reply d ∷ [])) all c.loop-d.invariant.listed)
-          (λ d h. c.loop-d.invariant.good d (omega arith)));
+          c.args.reply c.requires.reply floor ceiling (g.B.Bounds.view c.loop-d.board) (λ d h. c.loop-d.invariant.good d (omega arith)));
       below = c.loop-d.invariant.below (omega (arith, some, all));
     }
 
@@ -241,10 +218,9 @@ search_draws-returns g t c =
 -- the number of the reply, and the least so far with it
 replied : (g : given.Over) (t : ℕ) (c : search_move-After-is_tighter g t) → let m = g.G.Game.model c.args.task.now.game in
     RepliesSoFar m c.args.task.now.side c.args.s c.args.own c.args.window.worse c.args.window.better c.loop-reply.reply (to_z w64 c.loop-reply.least-bits)
-    (g.B.Bounds.view c.loop-reply.board) c.args.worker.now.reads.items c.loop-reply.worker.reads.items
+    (g.B.Bounds.view c.loop-reply.board)
     × IsPairFound m c.args.task.now.side c.args.s c.args.own c.loop-reply.reply c.args.window.worse
-    (better (other_side c.args.task.now.side) c.args.window.better (to_z w64 c.loop-reply.least-bits)) (g.B.Bounds.view c.search_pair.new.board) c.loop-reply.worker.reads.items
-    c.search_pair.new.worker.reads.items c.in_ok-found.found
+    (better (other_side c.args.task.now.side) c.args.window.better (to_z w64 c.loop-reply.least-bits)) (g.B.Bounds.view c.search_pair.new.board) c.in_ok-found.found
     × (to_z w64 (of_z w64 c.better-least.result) ≡ better (other_side c.args.task.now.side) (to_z w64 c.loop-reply.least-bits) c.in_ok-found.found)
 replied g t c =
     let ff : SFits w64 c.args.window.worse = search rules in
@@ -271,7 +247,7 @@ search_move-loop-reply-init g t c =
       remembered = c.requires.remembered;
       below = λ some. absurd (omega arith);
       so_far = replies_start (g.G.Game.model c.args.task.now.game) (g.met.G.Game.lawful c.args.task.now.game) c.args.task.now.side c.args.s c.requires.reachable c.requires.goes_on
-          c.args.own c.requires.own_move c.args.window.worse c.args.window.better (g.B.Bounds.view c.args.board.now) c.args.worker.now.reads.items c.requires.window;
+          c.args.own c.requires.own_move c.args.window.worse c.args.window.better (g.B.Bounds.view c.args.board.now) c.requires.window;
     })
 
 pub search_move-search_pair-requires : goal.search_move-search_pair-requires
@@ -295,18 +271,14 @@ search_move-returns-then-not-is_tighter g t c =
     let r = replied g t (goal.at.search_move-returns-then-not-is_tighter g t c).After-is_tighter in
     let test = rw (r.2, to_z-of_z w64 c.args.window.worse fit_worse) at c.if-not-is_tighter.ensures in
     record {
-      ends = record {
-        kept = part_kept (pair_nodes m c.args.task.now.side c.args.s c.args.own) c.loop-reply.reply (m.moves (other_side c.args.task.now.side) c.args.s) c.loop-reply.invariant.kept
-            at c.search_pair.ensures.kept;
-        same_limit = c.search_pair.ensures.same_limit ∙ c.loop-reply.invariant.same_limit;
-        remembered = c.search_pair.ensures.remembered;
-        ends = rw r.2 (replies_stop m (g.met.G.Game.lawful c.args.task.now.game) c.args.task.now.side c.args.s c.requires.reachable c.requires.goes_on c.args.own
-            c.requires.own_move c.args.window.worse c.args.window.better c.loop-reply.reply at (to_z w64 c.loop-reply.least-bits) c.in_ok-found.found
-            (g.B.Bounds.view c.loop-reply.board) (g.B.Bounds.view c.search_pair.new.board) c.search_pair.ensures.kept.later c.args.worker.now.reads.items
-            c.loop-reply.worker.reads.items c.search_pair.new.worker.reads.items r.0 r.1 test);
-        below = let so_far = c.loop-reply.invariant.kept.visits.rises in let now = c.in_ok-found.ensures.below in omega (arith, so_far, now);
-      };
-      same_reads = grind (arith, common_steps);
+      kept = part_kept (pair_nodes m c.args.task.now.side c.args.s c.args.own) c.loop-reply.reply (m.moves (other_side c.args.task.now.side) c.args.s) c.loop-reply.invariant.kept
+          at c.search_pair.ensures.kept;
+      same_limit = c.search_pair.ensures.same_limit ∙ c.loop-reply.invariant.same_limit;
+      remembered = c.search_pair.ensures.remembered;
+      ends = rw r.2 (replies_stop m (g.met.G.Game.lawful c.args.task.now.game) c.args.task.now.side c.args.s c.requires.reachable c.requires.goes_on c.args.own
+          c.requires.own_move c.args.window.worse c.args.window.better c.loop-reply.reply at (to_z w64 c.loop-reply.least-bits) c.in_ok-found.found
+          (g.B.Bounds.view c.loop-reply.board) (g.B.Bounds.view c.search_pair.new.board) c.search_pair.ensures.kept.later r.0 r.1 test);
+      below = let so_far = c.loop-reply.invariant.kept.visits.rises in let now = c.in_ok-found.ensures.below in omega (arith, so_far, now);
     }
 
 pub search_move-returns-in_err-found : goal.search_move-returns-in_err-found
@@ -315,17 +287,14 @@ search_move-returns-in_err-found g t c =
     let at : c.loop-reply.reply < m.moves (other_side c.args.task.now.side) c.args.s = rw (← c.other-2.ensures, ← c.moves-reply-end.ensures) c.loop-reply-test.true in
     let stopped : c.from_residual.result ≡ Err c.in_err-found.field-0.0 = search rules in
     record {
-      ends = record {
-        kept = part_kept (pair_nodes m c.args.task.now.side c.args.s c.args.own) c.loop-reply.reply (m.moves (other_side c.args.task.now.side) c.args.s) c.loop-reply.invariant.kept
-            at c.search_pair.ensures.kept;
-        same_limit = c.search_pair.ensures.same_limit ∙ c.loop-reply.invariant.same_limit;
-        remembered = c.search_pair.ensures.remembered;
-        ends = rw stopped (stops_more (WasFull m (g.B.Bounds.view c.search_pair.new.board) (LeadsTo m c.args.s)) c.in_err-found.field-0.0
-            (part_cut (pair_nodes m c.args.task.now.side c.args.s c.args.own) c.loop-reply.reply (m.moves (other_side c.args.task.now.side) c.args.s) c.loop-reply.invariant.kept
-            at) c.in_err-found.ensures.ends);
-        below = search rules;
-      };
-      same_reads = search rules;
+      kept = part_kept (pair_nodes m c.args.task.now.side c.args.s c.args.own) c.loop-reply.reply (m.moves (other_side c.args.task.now.side) c.args.s) c.loop-reply.invariant.kept
+          at c.search_pair.ensures.kept;
+      same_limit = c.search_pair.ensures.same_limit ∙ c.loop-reply.invariant.same_limit;
+      remembered = c.search_pair.ensures.remembered;
+      ends = rw stopped (stops_more (WasFull m (g.B.Bounds.view c.search_pair.new.board) (LeadsTo m c.args.s)) c.in_err-found.field-0.0
+          (part_cut (pair_nodes m c.args.task.now.side c.args.s c.args.own) c.loop-reply.reply (m.moves (other_side c.args.task.now.side) c.args.s) c.loop-reply.invariant.kept
+          at) c.in_err-found.ensures.ends);
+      below = search rules;
     }
 
 pub search_move-loop-reply-preserved : goal.search_move-loop-reply-preserved
@@ -344,24 +313,25 @@ search_move-loop-reply-preserved g t c =
       remembered = c.search_pair.ensures.remembered;
       so_far = replies_more m (g.met.G.Game.lawful c.args.task.now.game) c.args.task.now.side c.args.s c.requires.reachable c.requires.goes_on c.args.own c.requires.own_move
           c.args.window.worse c.args.window.better c.loop-reply.reply at (to_z w64 c.loop-reply.least-bits) c.in_ok-found.found (g.B.Bounds.view c.loop-reply.board)
-          (g.B.Bounds.view c.search_pair.new.board) c.search_pair.ensures.kept.later c.args.worker.now.reads.items c.loop-reply.worker.reads.items
-          c.search_pair.new.worker.reads.items r.0 r.1 test;
+          (g.B.Bounds.view c.search_pair.new.board) c.search_pair.ensures.kept.later r.0 r.1 test;
     })
 
-pub search_move-post_move-requires-clause-replied : goal.search_move-post_move-requires-clause-replied
-search_move-post_move-requires-clause-replied g t c =
+pub search_move-post_move-requires-clause-step : goal.search_move-post_move-requires-clause-step
+search_move-post_move-requires-clause-step g t c =
     let m = g.G.Game.model c.args.task.now.game in
     let all : c.loop-reply.reply ≡ m.moves (other_side c.args.task.now.side) c.args.s =
     rw (← c.other-2.ensures) (omega (arith, c.moves-reply-end.ensures, c.loop-reply-test.false, c.loop-reply.auto.reply-end)) in
     let so_far = c.loop-reply.invariant.so_far in
-    let start : c.len-start.result ≡ length c.args.worker.now.reads.items = search rules in
-    rw (part_of c.args.worker.now.reads.items so_far.part c.deref.result.now c.len-start.result start (c.deref.ensures.value ∙ so_far.joins))
-    (subst (λ (n : ℕ). IsReplied m c.args.task.now.side c.args.s c.args.own n (g.B.Bounds.view c.loop-reply.board) so_far.part (to_z w64 c.loop-reply.least-bits)) all
-    so_far.replied)
+    record {
+      own_move = c.requires.own_move;
+      low = so_far.low;
+      replied = subst (λ (n : ℕ). IsReplied m c.args.task.now.side c.args.s c.args.own n (g.B.Bounds.view c.loop-reply.board) (to_z w64 c.loop-reply.least-bits)) all
+          so_far.replied;
+    }
 
-pub search_move-returns-in_err-post_move-clause-ends :
-    goal.search_move-returns-in_err-post_move-clause-ends
-search_move-returns-in_err-post_move-clause-ends g t c =
+pub search_move-returns-in_err-post_move :
+    goal.search_move-returns-in_err-post_move
+search_move-returns-in_err-post_move g t c =
     let m = g.G.Game.model c.args.task.now.game in
     let all : c.loop-reply.reply ≡ m.moves (other_side c.args.task.now.side) c.args.s =
     rw (← c.other-2.ensures) (omega (arith, c.moves-reply-end.ensures, c.loop-reply-test.false, c.loop-reply.auto.reply-end)) in
@@ -382,20 +352,17 @@ search_move-returns g t c =
     let all : c.loop-reply.reply ≡ m.moves (other_side c.args.task.now.side) c.args.s =
     rw (← c.other-2.ensures) (omega (arith, c.moves-reply-end.ensures, c.loop-reply-test.false, c.loop-reply.auto.reply-end)) in
     let so_far = subst (λ (n : ℕ). RepliesSoFar m c.args.task.now.side c.args.s c.args.own c.args.window.worse c.args.window.better n (to_z w64 c.loop-reply.least-bits)
-    (g.B.Bounds.view c.loop-reply.board) c.args.worker.now.reads.items c.loop-reply.worker.reads.items) all c.loop-reply.invariant.so_far in
+    (g.B.Bounds.view c.loop-reply.board)) all c.loop-reply.invariant.so_far in
     record {
-      ends = record {
-        kept = kept_after {b = 0} c.loop-reply.invariant.kept (kept_posted c.post_move.ensures.later c.post_move.ensures.posted)
-            (omega (arith, ap (λ (n : ℕ). count_below n (pair_nodes m c.args.task.now.side c.args.s c.args.own)) all));
-        same_limit = c.loop-reply.invariant.same_limit;
-        remembered = remembered_later c.post_move.ensures.later c.loop-reply.invariant.remembered;
-        ends = replies_end m (g.met.G.Game.lawful c.args.task.now.game) c.args.task.now.side c.args.s c.requires.reachable c.requires.goes_on c.args.own c.requires.own_move
-            c.args.window.worse c.args.window.better (to_z w64 c.loop-reply.least-bits) (g.B.Bounds.view c.loop-reply.board) (g.B.Bounds.view c.post_move.new.board)
-            c.args.worker.now.reads.items c.loop-reply.worker.reads.items so_far c.in_ok-post_move.ensures.seen;
-        below = let some = (g.met.G.Game.lawful c.args.task.now.game).other_moves (other_side c.args.task.now.side) c.args.s c.requires.reachable c.requires.goes_on in
-            c.loop-reply.invariant.below (omega (arith, all, some));
-      };
-      same_reads = grind (arith, common_steps);
+      kept = kept_after {b = 0} c.loop-reply.invariant.kept (kept_posted c.post_move.ensures.later c.post_move.ensures.posted)
+          (omega (arith, ap (λ (n : ℕ). count_below n (pair_nodes m c.args.task.now.side c.args.s c.args.own)) all));
+      same_limit = c.loop-reply.invariant.same_limit;
+      remembered = remembered_later c.post_move.ensures.later c.loop-reply.invariant.remembered;
+      ends = replies_end m (g.met.G.Game.lawful c.args.task.now.game) c.args.task.now.side c.args.s c.requires.reachable c.requires.goes_on c.args.own c.requires.own_move
+          c.args.window.worse c.args.window.better (to_z w64 c.loop-reply.least-bits) (g.B.Bounds.view c.loop-reply.board) (g.B.Bounds.view c.post_move.new.board)
+          so_far c.in_ok-post_move.ensures.seen;
+      below = let some = (g.met.G.Game.lawful c.args.task.now.game).other_moves (other_side c.args.task.now.side) c.args.s c.requires.reachable c.requires.goes_on in
+          c.loop-reply.invariant.below (omega (arith, all, some));
     }
 
 -- ---- the moves of a state
@@ -413,7 +380,7 @@ moved g t c =
     let fx : SFits w64 c.in_ok-found.found = search rules in
     let floor = simp to_z-of_z at c.better.ensures in (
       c.loop-own.invariant.so_far,
-      rw (to_z-of_z w64 c.better.result ff, to_z-of_z w64 c.args.window.better fb, floor) at c.in_ok-found.ensures.ends.ends,
+      rw (to_z-of_z w64 c.better.result ff, to_z-of_z w64 c.args.window.better fb, floor) at c.in_ok-found.ensures.ends,
       to_z-of_z w64
           c.better-value.result fv ∙ (simp to_z-of_z at c.better-value.ensures),
     )
@@ -431,7 +398,6 @@ search_moves-loop-own-init g t c =
       below = λ some. absurd (omega arith);
       so_far = moves_start (g.G.Game.model c.args.task.now.game) (g.met.G.Game.lawful c.args.task.now.game) c.args.task.now.side c.args.s c.requires.reachable c.requires.goes_on
           c.args.window.worse c.args.window.better (g.B.Bounds.view c.args.board.now) c.requires.window c.requires.row.opened;
-      same_reads = refl;
     })
 
 pub search_moves-search_move-requires : goal.search_moves-search_move-requires
@@ -459,17 +425,14 @@ search_moves-returns-then-not-is_tighter g t c =
     let r = moved g t (goal.at.search_moves-returns-then-not-is_tighter g t c).After-is_tighter in
     let test = rw (to_z-of_z w64 c.args.window.better fit_better, r.2) at c.if-not-is_tighter.ensures in
     record {
-      ends = record {
-        kept = part_kept (move_nodes m c.args.task.now.side c.args.s) c.loop-own.own (m.moves c.args.task.now.side c.args.s) c.loop-own.invariant.kept at
-            c.search_move.ensures.ends.kept;
-        same_limit = c.search_move.ensures.ends.same_limit ∙ c.loop-own.invariant.same_limit;
-        remembered = c.search_move.ensures.ends.remembered;
-        ends = rw r.2 (moves_stop m (g.met.G.Game.lawful c.args.task.now.game) c.args.task.now.side c.args.s c.requires.reachable c.requires.goes_on c.args.window.worse
-            c.args.window.better c.loop-own.own at (to_z w64 c.loop-own.value-bits) c.in_ok-found.found (g.B.Bounds.view c.loop-own.board) (g.B.Bounds.view c.search_move.new.board)
-            c.search_move.ensures.ends.kept.later r.0 r.1 test);
-        below = let so_far = c.loop-own.invariant.kept.visits.rises in let now = c.in_ok-found.ensures.ends.below in omega (arith, so_far, now);
-      };
-      same_reads = search rules;
+      kept = part_kept (move_nodes m c.args.task.now.side c.args.s) c.loop-own.own (m.moves c.args.task.now.side c.args.s) c.loop-own.invariant.kept at
+          c.search_move.ensures.kept;
+      same_limit = c.search_move.ensures.same_limit ∙ c.loop-own.invariant.same_limit;
+      remembered = c.search_move.ensures.remembered;
+      ends = rw r.2 (moves_stop m (g.met.G.Game.lawful c.args.task.now.game) c.args.task.now.side c.args.s c.requires.reachable c.requires.goes_on c.args.window.worse
+          c.args.window.better c.loop-own.own at (to_z w64 c.loop-own.value-bits) c.in_ok-found.found (g.B.Bounds.view c.loop-own.board) (g.B.Bounds.view c.search_move.new.board)
+          c.search_move.ensures.kept.later r.0 r.1 test);
+      below = let so_far = c.loop-own.invariant.kept.visits.rises in let now = c.in_ok-found.ensures.below in omega (arith, so_far, now);
     }
 
 pub search_moves-returns-in_err-found : goal.search_moves-returns-in_err-found
@@ -478,17 +441,14 @@ search_moves-returns-in_err-found g t c =
     let at : c.loop-own.own < m.moves c.args.task.now.side c.args.s = rw (← c.moves-own-end.ensures) c.loop-own-test.true in
     let stopped : c.from_residual.result ≡ Err c.in_err-found.field-0.0 = search rules in
     record {
-      ends = record {
-        kept = part_kept (move_nodes m c.args.task.now.side c.args.s) c.loop-own.own (m.moves c.args.task.now.side c.args.s) c.loop-own.invariant.kept at
-            c.search_move.ensures.ends.kept;
-        same_limit = c.search_move.ensures.ends.same_limit ∙ c.loop-own.invariant.same_limit;
-        remembered = c.search_move.ensures.ends.remembered;
-        ends = rw stopped (stops_more (WasFull m (g.B.Bounds.view c.search_move.new.board) (LeadsTo m c.args.s)) c.in_err-found.field-0.0
-            (part_cut (move_nodes m c.args.task.now.side c.args.s) c.loop-own.own (m.moves c.args.task.now.side c.args.s) c.loop-own.invariant.kept at)
-            c.in_err-found.ensures.ends.ends);
-        below = search rules;
-      };
-      same_reads = search rules;
+      kept = part_kept (move_nodes m c.args.task.now.side c.args.s) c.loop-own.own (m.moves c.args.task.now.side c.args.s) c.loop-own.invariant.kept at
+          c.search_move.ensures.kept;
+      same_limit = c.search_move.ensures.same_limit ∙ c.loop-own.invariant.same_limit;
+      remembered = c.search_move.ensures.remembered;
+      ends = rw stopped (stops_more (WasFull m (g.B.Bounds.view c.search_move.new.board) (LeadsTo m c.args.s)) c.in_err-found.field-0.0
+          (part_cut (move_nodes m c.args.task.now.side c.args.s) c.loop-own.own (m.moves c.args.task.now.side c.args.s) c.loop-own.invariant.kept at)
+          c.in_err-found.ensures.ends);
+      below = search rules;
     }
 
 pub search_moves-loop-own-preserved : goal.search_moves-loop-own-preserved
@@ -500,19 +460,18 @@ search_moves-loop-own-preserved g t c =
     let r = moved g t (goal.at.search_moves-loop-own-preserved g t c).After-is_tighter in
     let test = rw (to_z-of_z w64 c.args.window.better fit_better, r.2) at c.if-not-is_tighter.ensures in
     rw r.2 (record {
-      below = λ _. let so_far = c.loop-own.invariant.kept.visits.rises in let now = c.in_ok-found.ensures.ends.below in omega (arith, so_far, now);
+      below = λ _. let so_far = c.loop-own.invariant.kept.visits.rises in let now = c.in_ok-found.ensures.below in omega (arith, so_far, now);
       kept = part_more (move_nodes m c.args.task.now.side c.args.s) c.loop-own.own (m.moves c.args.task.now.side c.args.s) c.loop-own.invariant.kept
-          c.search_move.ensures.ends.kept;
-      same_limit = c.search_move.ensures.ends.same_limit ∙ c.loop-own.invariant.same_limit;
-      remembered = c.search_move.ensures.ends.remembered;
+          c.search_move.ensures.kept;
+      same_limit = c.search_move.ensures.same_limit ∙ c.loop-own.invariant.same_limit;
+      remembered = c.search_move.ensures.remembered;
       so_far = moves_more m (g.met.G.Game.lawful c.args.task.now.game) c.args.task.now.side c.args.s c.requires.reachable c.requires.goes_on c.args.window.worse
           c.args.window.better c.loop-own.own at (to_z w64 c.loop-own.value-bits) c.in_ok-found.found (g.B.Bounds.view c.loop-own.board) (g.B.Bounds.view c.search_move.new.board)
-          c.search_move.ensures.ends.kept.later r.0 r.1 test;
-      same_reads = c.in_ok-found.ensures.same_reads ∙ c.loop-own.invariant.same_reads;
+          c.search_move.ensures.kept.later r.0 r.1 test;
     })
 
-pub search_moves-returns-clause-ends : goal.search_moves-returns-clause-ends
-search_moves-returns-clause-ends g t c =
+pub search_moves-returns : goal.search_moves-returns
+search_moves-returns g t c =
     let m = g.G.Game.model c.args.task.now.game in
     let fw : SFits w64 c.args.window.worse = search rules in
     let fb : SFits w64 c.args.window.better = search rules in
@@ -565,11 +524,11 @@ search_pair-window_after-after-requires g t c =
       reward = rw p.2 (reward_small (g.G.Game.model c.args.task.now.game) (g.met.G.Game.lawful c.args.task.now.game) c.args.task.now.side c.args.s c.args.own c.args.reply 0 c.requires.reachable p.1);
     }
 
-pub search_pair-with_reward-number-requires : goal.search_pair-with_reward-number-requires
-search_pair-with_reward-number-requires g t c =
+pub search_pair-with_reward-requires : goal.search_pair-with_reward-requires
+search_pair-with_reward-requires g t c =
     let m = g.G.Game.model c.args.task.now.game in
     let game = g.met.G.Game.lawful c.args.task.now.game in
-    let here = goal.at.search_pair-with_reward-number-requires g t c in
+    let here = goal.at.search_pair-with_reward-requires g t c in
     let one = alone g t here.After-drawn-child in
     let p = paid g t here.After-turn_reward-reward in
     let found = rw one.1 at c.in_ok-found.ensures.ends.ends in
@@ -606,20 +565,19 @@ search_pair-returns g t c =
     let m = g.G.Game.model c.args.task.now.game in
     let one = alone g t (goal.at.search_pair-returns g t c).After-drawn-child in
     let fx : SFits w64 c.in_ok-found.found = search rules in
-    let fn : SFits w64 c.with_reward-number.result = search rules in
+    let fn : SFits w64 c.with_reward.result = search rules in
     let p = paid g t (goal.at.search_pair-returns g t c).After-turn_reward-reward in
     let worse = rw p.2 at c.window_after-after.ensures.worse in
     let better = rw p.2 at c.window_after-after.ensures.better in
     let found = rw (one.1, worse, better) at c.in_ok-found.ensures.ends.ends in
-    let number = rw (p.2, to_z-of_z w64 c.in_ok-found.found fx) at c.with_reward-number.ensures in
-    let listed = rw (c.in_ok-found.ensures.same_reads, to_z-of_z w64 c.with_reward-number.result fn, number) at c.in_ok-keep.ensures.ok in
+    let number = rw (p.2, to_z-of_z w64 c.in_ok-found.found fx) at c.with_reward.ensures in
     record {
       kept = kept_after {a = 0} kept_none (rw one.1 at c.search_state.ensures.ends.kept) (rw one.0 (omega arith));
       same_limit = c.search_state.ensures.ends.same_limit;
       remembered = c.search_state.ensures.ends.remembered;
-      ends = rw (to_z-of_z w64 c.with_reward-number.result fn, number) (pair_one m (g.met.G.Game.lawful c.args.task.now.game) c.args.task.now.side c.args.s c.requires.reachable c.requires.goes_on
+      ends = rw (to_z-of_z w64 c.with_reward.result fn, number) (pair_one m (g.met.G.Game.lawful c.args.task.now.game) c.args.task.now.side c.args.s c.requires.reachable c.requires.goes_on
           c.args.own c.requires.own_move c.args.reply c.requires.reply c.args.window.worse c.args.window.better (g.B.Bounds.view c.search_state.new.board)
-          c.args.worker.now.reads.items c.keep.new.reads.items c.in_ok-found.found one.0 found listed);
+          c.in_ok-found.found one.0 found);
       below = c.in_ok-found.ensures.ends.below;
     }
 
@@ -640,18 +598,6 @@ search_pair-returns-in_err-found g t c =
           (λ (full : WasFull m (g.B.Bounds.view c.search_state.new.board) (LeadsTo m c.drawn-child.result)). full_below m (g.met.G.Game.lawful c.args.task.now.game)
           (g.B.Bounds.view c.search_state.new.board) c.args.task.now.side c.args.s c.args.own c.args.reply 0 c.requires.own_move c.requires.reply some (rw one.1 at full))
           c.in_err-found.ensures.ends.ends);
-      below = search rules;
-    }
-
-pub search_pair-returns-in_err-keep : goal.search_pair-returns-in_err-keep
-search_pair-returns-in_err-keep g t c =
-    let m = g.G.Game.model c.args.task.now.game in
-    let one = alone g t (goal.at.search_pair-returns-in_err-keep g t c).After-drawn-child in
-    record {
-      kept = kept_after {a = 0} kept_none (rw one.1 at c.search_state.ensures.ends.kept) (rw one.0 (omega arith));
-      same_limit = c.search_state.ensures.ends.same_limit;
-      remembered = c.search_state.ensures.ends.remembered;
-      ends = search rules;
       below = search rules;
     }
 
@@ -706,22 +652,21 @@ pub search_state-returns-in-Ok : goal.search_state-returns-in-Ok
 search_state-returns-in-Ok g t c =
     let m = g.G.Game.model c.args.task.now.game in
     let tree = tree_moves m (g.met.G.Game.lawful c.args.task.now.game) c.args.task.now.side c.args.s c.requires.reachable in
-    let ends = c.search_inner.ensures.ends.ends in
+    let ends = c.search_inner.ensures.ends in
     record {
       ends = record {
         kept = kept_after {a = 1} (kept_after {a = 1} {b = 0} (kept_counted c.spend.ensures.counts) (kept_quiet c.row_of.ensures.later c.row_of.ensures.entries) (omega arith))
-            c.search_inner.ensures.ends.kept (omega arith);
-        same_limit = c.search_inner.ensures.ends.same_limit;
-        remembered = c.search_inner.ensures.ends.remembered;
+            c.search_inner.ensures.kept (omega arith);
+        same_limit = c.search_inner.ensures.same_limit;
+        remembered = c.search_inner.ensures.remembered;
         ends = ends_more (IsFound m c.args.task.now.side c.args.s c.args.window.worse c.args.window.better (g.B.Bounds.view c.search_inner.new.board))
             (WasFull m (g.B.Bounds.view c.search_inner.new.board) (LeadsTo m c.args.s)) c.search_inner.result
             (cut_after {b = inner_nodes m c.args.task.now.side c.args.s} c.spend.ensures.counts (omega arith)) ends;
-        below = ok_more c.search_inner.result (λ below. omega (arith, below)) c.search_inner.ensures.ends.below;
+        below = ok_more c.search_inner.result (λ below. omega (arith, below)) c.search_inner.ensures.below;
       };
-      same_reads = search rules;
       none_left = search rules;
       entered = search rules;
-      below = λ _. ok_more c.search_inner.result (λ below. let one = c.spend.ensures.one in omega (arith, one, below)) c.search_inner.ensures.ends.below;
+      below = λ _. ok_more c.search_inner.result (λ below. let one = c.spend.ensures.one in omega (arith, one, below)) c.search_inner.ensures.below;
     }
 
 pub search_state-returns-in-Err-clause-ends : goal.search_state-returns-in-Err-clause-ends
@@ -754,37 +699,34 @@ search_inner-returns-in-Some g t c =
     let m = g.G.Game.model c.args.task.now.game in
     let told = told_before g t (goal.at.search_inner-returns-in-Some g t c).After-recall in
     record {
-      ends = record {
-        kept = kept_counted (counts_after {b = 0} c.recall.ensures.counts counts_none (omega (arith, told.2)));
-        same_limit = refl;
-        remembered = c.requires.remembered;
-        ends = recall_ends (IsFound m c.args.task.now.side c.args.s c.args.window.worse c.args.window.better (g.B.Bounds.view c.args.board.now))
-            (WasFull m (g.B.Bounds.view c.args.board.now) (LeadsTo m c.args.s)) c.in-Some.memo.number c.recall.result told.0 (cut_more told.2)
-            c.recall.ensures.ok c.recall.ensures.cut c.recall.ensures.err;
-        below = ok_more c.recall.result (λ spent. omega (arith, spent, told.1)) c.recall.ensures.spent;
-      };
-      same_reads = search rules;
+      kept = kept_counted (counts_after {b = 0} c.recall.ensures.counts counts_none (omega (arith, told.2)));
+      same_limit = refl;
+      remembered = c.requires.remembered;
+      ends = recall_ends (IsFound m c.args.task.now.side c.args.s c.args.window.worse c.args.window.better (g.B.Bounds.view c.args.board.now))
+          (WasFull m (g.B.Bounds.view c.args.board.now) (LeadsTo m c.args.s)) c.in-Some.memo.number c.recall.result told.0 (cut_more told.2)
+          c.recall.ensures.ok c.recall.ensures.cut c.recall.ensures.err;
+      below = ok_more c.recall.result (λ spent. omega (arith, spent, told.1)) c.recall.ensures.spent;
     }
 
-pub search_inner-returns-in_ok-number-in-None-clause-ends :
-    goal.search_inner-returns-in_ok-number-in-None-clause-ends
-search_inner-returns-in_ok-number-in-None-clause-ends g t c =
+pub search_inner-returns-in_ok-number-in-None :
+    goal.search_inner-returns-in_ok-number-in-None
+search_inner-returns-in_ok-number-in-None g t c =
     let fit_worse : SFits w64 c.args.window.worse = search rules in
     let fit_better : SFits w64 c.args.window.better = search rules in
     let m = g.G.Game.model c.args.task.now.game in
     let v = g.B.Bounds.view c.search_moves-in-None.new.board in
     let fx : SFits w64 c.in_ok-number-in-None.number = search rules in
-    let found : IsFound m c.args.task.now.side c.args.s c.args.window.worse c.args.window.better v c.in_ok-number-in-None.number = c.in_ok-number-in-None.ensures.ends.ends in
+    let found : IsFound m c.args.task.now.side c.args.s c.args.window.worse c.args.window.better v c.in_ok-number-in-None.number = c.in_ok-number-in-None.ensures.ends in
     let stored = rw (to_z-of_z w64 c.args.window.worse fit_worse, to_z-of_z w64 c.args.window.better fit_better, to_z-of_z w64 c.in_ok-number-in-None.number fx) at
     c.store.ensures.others in
-    let some : 1 ≤ c.spent.result - c.spent-before.result = omega (arith, c.spent.ensures, c.spent-before.ensures, c.in_ok-number-in-None.ensures.ends.below) in
+    let some : 1 ≤ c.spent.result - c.spent-before.result = omega (arith, c.spent.ensures, c.spent-before.ensures, c.in_ok-number-in-None.ensures.below) in
     let few : c.spent.result - c.spent-before.result ≤ inner_nodes m c.args.task.now.side c.args.s =
-    omega (arith, c.spent.ensures, c.spent-before.ensures, c.search_moves-in-None.ensures.ends.kept.visits.few) in
+    omega (arith, c.spent.ensures, c.spent-before.ensures, c.search_moves-in-None.ensures.kept.visits.few) in
     record {
-      kept = c.search_moves-in-None.ensures.ends.kept;
-      same_limit = c.store.ensures.limit ∙ c.search_moves-in-None.ensures.ends.same_limit;
+      kept = c.search_moves-in-None.ensures.kept;
+      same_limit = c.store.ensures.limit ∙ c.search_moves-in-None.ensures.same_limit;
       remembered = remembered_more (g.met.G.Game.lawful c.args.task.now.game) c.args.s c.requires.reachable (sym c.key.ensures) found some few
-          c.search_moves-in-None.ensures.ends.remembered stored;
+          c.search_moves-in-None.ensures.remembered stored;
       ends = search rules;
       below = search rules;
     }

@@ -1,8 +1,7 @@
-use Rattle.std.proofs.Common.{◌≡◌, ◌<◌, ◌≤◌, ℕ, pos, ◌+◌, ◌*◌, ◌*ℤ◌, [], ◌∷◌, ◌++◌}
+use Rattle.std.proofs.Common.{◌≡◌, ◌<◌, ◌≤◌, ℕ, pos, ◌+◌, ◌*◌, ◌*ℤ◌}
 use Rattle.sums.specs.Sums.{sum_below, count_below}
 use Rattle.sim_game.specs.Sides.{chance_of, child_of, after_reward}
 use Rattle.plan_book.specs.Serial.{tree_size}
-use Rattle.plan_book.specs.Entries.{concat_below}
 use Rattle.serial_ab.specs.Counts.{spent_on}
 use Rattle.serial_ab.specs.Values.{turn_value, pair_nodes, move_nodes}
 use Rattle.serial_ab.specs.Searches.{IsSerialKept, IsGoodNumber}
@@ -37,8 +36,6 @@ invariant-search_draws-loop-d g l = record {
   same_limit : l.worker.table.limit ≡ l.initial.worker.table.limit;
   summed : l.sum ≡ sum_below l.d (λ d. pos (chance_of (g.G.Game.model l.task.game) l.task.side l.s l.own l.reply d) *ℤ turn_value (g.G.Game.model l.task.game) l.task.side
       l.s l.own l.reply d);
-  listed : l.worker.reads.items ≡ l.initial.worker.reads.items ++ concat_below l.d
-      (λ d. turn_value (g.G.Game.model l.task.game) l.task.side l.s l.own l.reply d ∷ []);
   good : (d : ℕ) → d < l.d → after_reward (g.G.Game.model l.task.game) l.task.side l.s l.own l.reply d (IsGoodNumber (g.G.Game.model l.task.game) l.task.side (g.B.Bounds.view l.board))
       (turn_value (g.G.Game.model l.task.game) l.task.side l.s l.own l.reply d);
   below : 1 ≤ l.d → spent_on l.task.side l.initial.worker.visits + 1 ≤ spent_on l.task.side l.worker.visits;
@@ -50,8 +47,7 @@ invariant-search_move-loop-reply g l = record {
       (g.B.Bounds.view l.initial.board) (g.B.Bounds.view l.board) l.initial.worker.visits l.worker.visits;
   remembered : AreRemembered (g.G.Game.model l.task.game) (g.B.Bounds.view l.board) l.worker.table;
   same_limit : l.worker.table.limit ≡ l.initial.worker.table.limit;
-  so_far : RepliesSoFar (g.G.Game.model l.task.game) l.task.side l.s l.own l.window.worse l.window.better l.reply l.least (g.B.Bounds.view l.board) l.initial.worker.reads.items
-      l.worker.reads.items;
+  so_far : RepliesSoFar (g.G.Game.model l.task.game) l.task.side l.s l.own l.window.worse l.window.better l.reply l.least (g.B.Bounds.view l.board);
   below : 1 ≤ l.reply → spent_on l.task.side l.initial.worker.visits + 1 ≤ spent_on l.task.side l.worker.visits;
 }
 
@@ -62,6 +58,5 @@ invariant-search_moves-loop-own g l = record {
   remembered : AreRemembered (g.G.Game.model l.task.game) (g.B.Bounds.view l.board) l.worker.table;
   same_limit : l.worker.table.limit ≡ l.initial.worker.table.limit;
   so_far : MovesSoFar (g.G.Game.model l.task.game) l.task.side l.s l.window.worse l.window.better l.own l.value (g.B.Bounds.view l.board);
-  same_reads : l.worker.reads.items ≡ l.initial.worker.reads.items;
   below : 1 ≤ l.own → spent_on l.task.side l.initial.worker.visits + 1 ≤ spent_on l.task.side l.worker.visits;
 }

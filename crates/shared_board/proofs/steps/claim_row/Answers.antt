@@ -28,10 +28,12 @@ returns-then-found-eq0 g c = let told = c.try_row-found.ensures in let l = told.
       apart = told.apart;
     } in record {
       seat = (told.seat.0, search rules);
-      keys = (learns.0.0, learns.0.1, omega (arith, learns.0.2, c.loop-tried-test.true));
-      named = learns.1;
-      inside = keeps_inside g.G.Game.model c.args.rows c.args.key c.args.seat.now.me.0 _ _ _ _ _ _ so l inside;
-      apart = told.apart;
+      keys = record {
+        more = (learns.0.0, learns.0.1, omega (arith, learns.0.2, c.loop-tried-test.true));
+        named = learns.1;
+        inside = keeps_inside g.G.Game.model c.args.rows c.args.key c.args.seat.now.me.0 _ _ _ _ _ _ so l inside;
+        apart = told.apart;
+      };
       some = (inside, here.has);
       none = tt;
       marks = marks_learnt g.G.Game.model _ _ _ _ _ _ _ _ l here c.note.ensures c.loop-tried.invariant.4;
@@ -73,11 +75,13 @@ loop-tried-preserved g c = let before = c.loop-tried.invariant in let old = c.ar
           )
     ]
 
-pub returns-clause-apart : goal.returns-clause-apart
-returns-clause-apart g c = let l = c.loop-tried-test.false in let size = c.requires.board in c.loop-tried.invariant.2.apart (omega arith)
-
 pub returns-clause-keys : goal.returns-clause-keys
-returns-clause-keys g c = let so = c.loop-tried.invariant.2 in (so.more.0, so.more.1, omega (arith, so.more.2, c.loop-tried-test.false, c.loop-tried.auto.tried-end))
+returns-clause-keys g c = let so = c.loop-tried.invariant.2 in let l = c.loop-tried-test.false in let size = c.requires.board in record {
+  more = (so.more.0, so.more.1, omega (arith, so.more.2, l, c.loop-tried.auto.tried-end));
+  named = so.named;
+  inside = so.inside;
+  apart = so.apart (omega arith);
+}
 
 pub returns-clause-none : goal.returns-clause-none
 returns-clause-none g c = let l = c.loop-tried-test.false in let same : c.loop-tried.tried ≡ c.args.rows = omega arith in

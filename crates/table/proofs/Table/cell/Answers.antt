@@ -3,7 +3,7 @@ use Rattle.std.proofs.lemmas.Int.{ints}
 use Rattle.sums.specs.Sums.{count_below}
 use Rattle.sim_game.specs.declared.Side.TheVariants.{One}
 use Rattle.table.specs.Setting.{lists_of}
-use Rattle.table.specs.Laws.{is_inner, place_high}
+use Rattle.table.specs.laws.Game.{is_inner, place_high}
 use Rattle.table.specs.Lists.{cells_of, table_value}
 use Rattle.table.proofs.Table.cell.Goals as goal
 

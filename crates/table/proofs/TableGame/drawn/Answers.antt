@@ -1,4 +1,4 @@
-use Rattle.table.specs.Laws.{has_draw}
+use Rattle.table.specs.laws.Game.{has_draw}
 use Rattle.table.specs.Rules.{place_of}
 use Rattle.table.specs.Setting.{cell_number, lists_of}
 use Rattle.table.proofs.TableGame.drawn.Goals as goal

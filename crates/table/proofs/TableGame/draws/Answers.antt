@@ -1,5 +1,5 @@
 use Rattle.table.specs.Setting.{lists_of}
-use Rattle.table.specs.Laws.{are_draws, sound}
+use Rattle.table.specs.laws.Game.{are_draws, sound}
 use Rattle.table.specs.Lists.{draws_at}
 use Rattle.table.specs.Rules.{place_of}
 use Rattle.table.proofs.DrawLemmas.{same_count}

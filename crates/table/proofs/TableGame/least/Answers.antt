@@ -1,5 +1,5 @@
 use Rattle.table.specs.Setting.{lists_of}
-use Rattle.table.specs.Laws.{sound}
+use Rattle.table.specs.laws.Game.{sound}
 use Rattle.table.proofs.TableGame.least.Goals as goal
 
 pub bound-requires : goal.bound-requires

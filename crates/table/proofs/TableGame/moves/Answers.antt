@@ -1,6 +1,6 @@
 use Rattle.std.proofs.Common.{arith}
 use Rattle.table.specs.Setting.{lists_of}
-use Rattle.table.specs.Laws.{sound}
+use Rattle.table.specs.laws.Game.{sound}
 use Rattle.table.proofs.TableGame.moves.Goals as goal
 
 pub moves-requires : goal.moves-requires

@@ -1,5 +1,5 @@
 use Rattle.table.specs.Setting.{lists_of}
-use Rattle.table.specs.Laws.{is_cell, sound}
+use Rattle.table.specs.laws.Game.{is_cell, sound}
 use Rattle.table.proofs.TableGame.next.Goals as goal
 
 pub drawn-requires-clause-draw : goal.drawn-requires-clause-draw

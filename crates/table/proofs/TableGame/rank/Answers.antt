@@ -1,5 +1,5 @@
 use Rattle.table.specs.Setting.{lists_of}
-use Rattle.table.specs.Laws.{sound}
+use Rattle.table.specs.laws.Game.{sound}
 use Rattle.table.proofs.TableGame.rank.Goals as goal
 
 pub rank-requires : goal.rank-requires

@@ -2,7 +2,7 @@ use Rattle.std.proofs.Common.{◌≡◌, ℕ, ◌+◌, ◌*◌, ◌/◌, ◌%◌
 use Rattle.std.proofs.Math.Nat.{mul-le-mul_right}
 use Rattle.std.proofs.lemmas.Bool.{cases_lt, eq-eqb, le-ltb, lt-ltb, ne_eqb}
 use Rattle.std.proofs.lemmas.Nat.{div-add-mod', mod-mul-add, mod_below, mul-add-lt}
-use Rattle.tron.specs.Laws.{few_cells}
+use Rattle.tron.specs.laws.Game.{few_cells}
 use Rattle.tron.proofs.Tron.goes_on.Goals as goal
 
 -- the next cell is in the western column exactly where the row ends

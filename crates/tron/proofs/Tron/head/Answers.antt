@@ -1,4 +1,4 @@
-use Rattle.tron.specs.Laws.{tron_sound}
+use Rattle.tron.specs.laws.Game.{tron_sound}
 use Rattle.tron.proofs.Tron.head.Goals as goal
 
 pub returns-in-One-clause-on_grid : goal.returns-in-One-clause-on_grid

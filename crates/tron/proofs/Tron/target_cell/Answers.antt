@@ -1,6 +1,6 @@
 use Rattle.std.proofs.Common.{ap, sym, ◌∙◌, ℕ}
 use Rattle.tron.specs.Rules.{arena_of, neighbour, head_of}
-use Rattle.tron.specs.Laws.{direction_free, direction_place, direction_at}
+use Rattle.tron.specs.laws.Game.{direction_free, direction_place, direction_at}
 use Rattle.tron.proofs.Tron.target_cell.Goals as goal
 
 pub neighbour-requires-clause-there : goal.neighbour-requires-clause-there

@@ -1,5 +1,5 @@
 use Rattle.std.proofs.Common.{arith, sym, ◌∙◌, ◌≡◌, ◌+◌, ◌*◌, ◌^◌}
-use Rattle.tron.specs.Laws.{tron_sound, cells_in_bits, tron_key_is}
+use Rattle.tron.specs.laws.Game.{tron_sound, cells_in_bits, tron_key_is}
 use Rattle.tron.proofs.TronGame.key.Goals as goal
 
 pub put-requires-clause-value_high : goal.put-requires-clause-value_high

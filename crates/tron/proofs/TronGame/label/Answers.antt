@@ -1,6 +1,6 @@
 use Rattle.std.proofs.Common.{ap, ◌∙◌, sym}
 use Rattle.tron.specs.Rules.{number_of}
-use Rattle.tron.specs.Laws.{direction_at}
+use Rattle.tron.specs.laws.Game.{direction_at}
 use Rattle.tron.proofs.TronGame.label.Goals as goal
 
 pub returns : goal.returns

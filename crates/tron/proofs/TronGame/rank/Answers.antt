@@ -1,7 +1,7 @@
 use Rattle.std.proofs.Common.{arith, ◌≡◌, ◌-◌, ℕ, ◌+◌, ◌/◌, Bool, false, cond, ap, sym, ◌∙◌}
 use Rattle.std.specs.Int.Count.{ones}
 use Rattle.tron.specs.Rules.{arena_of, free_cells, is_over}
-use Rattle.tron.specs.Laws.{tron_sound, free_is}
+use Rattle.tron.specs.laws.Game.{tron_sound, free_is}
 use Rattle.tron.proofs.TronGame.rank.Goals as goal
 
 pub overflow_sub-result : goal.overflow_sub-result

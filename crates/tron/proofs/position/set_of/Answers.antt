@@ -1,6 +1,6 @@
 use Rattle.std.proofs.Common.{get_or}
 use Rattle.std.proofs.lemmas.List.{take_more}
-use Rattle.tron.specs.CellLaws.{set_more}
+use Rattle.tron.specs.laws.Cells.{set_more}
 use Rattle.tron.proofs.position.set_of.Goals as goal
 
 pub loop-cell-preserved : goal.loop-cell-preserved

@@ -30,9 +30,7 @@ post-requires-clause-entry g c =
     let entry = end_entry m (g.met.G.Game.lawful c.game-g.result) v s r (omega arith) (omega arith) (omega arith) (omega arith) (omega (arith, ints)) (rw c.after-end.ensures.is at last)
     c.args.bound c.total.result (omega (arith, ints)) (omega (arith, ints, payoff)) (omega arith) in
     let weights = rw c.expect-weights.ensures at c.vec.ensures.items in
-    let reads = rw c.expect-reads.ensures at c.vec-2.ensures.items in
     let bound = to_z-of_z w64 c.args.bound c.ranges.bound in
-    let number = to_z-of_z w64 c.end_bound-payoff.result (record { sfits = c.end_bound-payoff.type_inv }) in
     rw (
       c.claim.ensures.later.game,
       ← c.game-g.ensures,
@@ -43,10 +41,6 @@ post-requires-clause-entry g c =
       bound,
       c.from_vec.ensures,
       weights,
-      c.from_vec-2.ensures,
-      reads,
-      number,
-      payoff,
     ) entry
 
 pub returns : goal.returns

@@ -10,7 +10,7 @@ step-requires-clause-children g c =
     (child_rows_later _ _ _ _ _ c.claim.ensures.later c.requires.children)
 
 pub returns-in-Ok-clause-later : goal.returns-in-Ok-clause-later
-returns-in-Ok-clause-later g c = later_trans _ _ _ c.claim.ensures.later c.step.ensures.later
+returns-in-Ok-clause-later g c = later_trans _ _ _ c.claim.ensures.later c.step.ensures.better.later
 
 pub returns-in-Err-clause-children : goal.returns-in-Err-clause-children
 returns-in-Err-clause-children g c = child_rows_later _ _ _ _ _ c.claim.ensures.later c.requires.children

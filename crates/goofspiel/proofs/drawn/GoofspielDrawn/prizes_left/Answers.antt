@@ -4,7 +4,7 @@ use Rattle.std.specs.List.{sum_by}
 use Rattle.std.proofs.lemmas.List.{get_or-take}
 use Rattle.std.proofs.lemmas.List.Sums.{sum_by-cons}
 use Rattle.goofspiel.specs.Cards.{cards, places}
-use Rattle.goofspiel.specs.DrawnLaws.{drawn_sound, place_small, drawn_prize_is, left_is, prize_at}
+use Rattle.goofspiel.specs.laws.Drawn.{drawn_sound, place_small, drawn_prize_is, left_is, prize_at}
 use Rattle.goofspiel.proofs.drawn.GoofspielDrawn.prizes_left.Goals as goal
 
 pub bounds-self-s : goal.bounds-self-s

@@ -1,5 +1,5 @@
 use Rattle.std.proofs.Common.{arith}
-use Rattle.goofspiel.specs.DrawnLaws.{drawn_sound, hands_small, place_small}
+use Rattle.goofspiel.specs.laws.Drawn.{drawn_sound, hands_small, place_small}
 use Rattle.goofspiel.proofs.drawn.GoofspielDrawnGame.add_transitions.Goals as goal
 
 pub deals_below-requires : goal.deals_below-requires

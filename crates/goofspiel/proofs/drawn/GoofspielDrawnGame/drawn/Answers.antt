@@ -4,8 +4,8 @@ use Rattle.goofspiel.specs.declared.Setting.{Setting}
 use Rattle.goofspiel.specs.declared.State.{State}
 use Rattle.goofspiel.specs.declared.drawn.DrawnState.{DrawnState}
 use Rattle.goofspiel.specs.Cards.{cards, places, packed_from}
-use Rattle.goofspiel.specs.DrawnLaws.{members_empty}
-use Rattle.goofspiel.specs.DrawnLaws.{IsDrawnSound, drawn_sound, hands_small, place_small, drawn_prize_is, prize_at, nothing_left, some_left, same_drawn_state}
+use Rattle.goofspiel.specs.laws.Drawn.{members_empty}
+use Rattle.goofspiel.specs.laws.Drawn.{IsDrawnSound, drawn_sound, hands_small, place_small, drawn_prize_is, prize_at, nothing_left, some_left, same_drawn_state}
 use Rattle.goofspiel.specs.Position.{IsPosition}
 use Rattle.goofspiel.specs.Rules.{after_bids, deal_of, state_of}
 use Rattle.goofspiel.proofs.drawn.GoofspielDrawnGame.drawn.Goals as goal

@@ -1,4 +1,4 @@
-use Rattle.goofspiel.specs.DrawnLaws.{drawn_sound}
+use Rattle.goofspiel.specs.laws.Drawn.{drawn_sound}
 use Rattle.goofspiel.proofs.drawn.GoofspielDrawnGame.draws.Goals as goal
 
 pub size-requires : goal.size-requires

@@ -1,5 +1,5 @@
 use Rattle.std.proofs.Common.{arith, ◌≡◌, ◌+◌, ◌*◌, ◌^◌, sym, ◌∙◌}
-use Rattle.goofspiel.specs.DrawnLaws.{drawn_sound, hands_small, place_small, drawn_key_is}
+use Rattle.goofspiel.specs.laws.Drawn.{drawn_sound, hands_small, place_small, drawn_key_is}
 use Rattle.goofspiel.specs.Rules.{deal_of, goofspiel_key}
 use Rattle.goofspiel.proofs.drawn.GoofspielDrawnGame.key.Goals as goal
 

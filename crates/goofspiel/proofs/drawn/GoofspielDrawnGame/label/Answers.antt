@@ -1,4 +1,4 @@
-use Rattle.goofspiel.specs.DrawnLaws.{drawn_sound}
+use Rattle.goofspiel.specs.laws.Drawn.{drawn_sound}
 use Rattle.goofspiel.proofs.drawn.GoofspielDrawnGame.label.Goals as goal
 
 pub number_at-requires-clause-small : goal.number_at-requires-clause-small

@@ -1,6 +1,6 @@
 use Rattle.std.proofs.Common.{arith}
 use Rattle.std.proofs.lemmas.Int.{ints}
-use Rattle.goofspiel.specs.DrawnLaws.{drawn_sound, hands_small}
+use Rattle.goofspiel.specs.laws.Drawn.{drawn_sound, hands_small}
 use Rattle.goofspiel.proofs.ScoreLemmas.{least_is}
 use Rattle.goofspiel.proofs.drawn.GoofspielDrawnGame.least.Goals as goal
 

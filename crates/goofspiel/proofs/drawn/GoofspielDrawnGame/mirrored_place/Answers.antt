@@ -1,7 +1,7 @@
 use Rattle.std.proofs.Common.{◌<◌, ◌^◌, sym, subst, arith}
 use Rattle.sim_game.proofs.ReachLemmas.{reachable_root}
 use Rattle.goofspiel.specs.declared.drawn.DrawnState.{DrawnState}
-use Rattle.goofspiel.specs.DrawnLaws.{drawn_sound, hands_small}
+use Rattle.goofspiel.specs.laws.Drawn.{drawn_sound, hands_small}
 use Rattle.goofspiel.specs.DrawnRules.{drawn_game}
 use Rattle.goofspiel.proofs.drawn.GoofspielDrawnGame.mirrored_place.Goals as goal
 

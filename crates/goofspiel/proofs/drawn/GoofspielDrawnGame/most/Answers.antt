@@ -1,6 +1,6 @@
 use Rattle.std.proofs.Common.{arith}
 use Rattle.std.proofs.lemmas.Int.{ints}
-use Rattle.goofspiel.specs.DrawnLaws.{drawn_sound, hands_small}
+use Rattle.goofspiel.specs.laws.Drawn.{drawn_sound, hands_small}
 use Rattle.goofspiel.proofs.ScoreLemmas.{most_is}
 use Rattle.goofspiel.proofs.drawn.GoofspielDrawnGame.most.Goals as goal
 

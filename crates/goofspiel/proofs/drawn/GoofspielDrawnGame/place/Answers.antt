@@ -3,10 +3,10 @@ use Rattle.sums.specs.Sums.{count_below}
 use Rattle.sim_game.proofs.ReachLemmas.{reachable_root}
 use Rattle.goofspiel.specs.declared.drawn.DrawnState.{DrawnState}
 use Rattle.goofspiel.specs.Cards.{cards}
-use Rattle.goofspiel.specs.DealLaws.{few_prizes}
-use Rattle.goofspiel.specs.DrawnLaws.{drawn_sound}
+use Rattle.goofspiel.specs.laws.Deals.{few_prizes}
+use Rattle.goofspiel.specs.laws.Drawn.{drawn_sound}
 use Rattle.goofspiel.specs.DrawnRules.{drawn_game}
-use Rattle.goofspiel.specs.PlaceLaws.{dealt, drawn_parts}
+use Rattle.goofspiel.specs.laws.Places.{dealt, drawn_parts}
 use Rattle.goofspiel.specs.Places.{drawn_deals_with}
 use Rattle.goofspiel.specs.Position.{prizes_of}
 use Rattle.goofspiel.proofs.PlaceLemmas.{drawn_few, drawn_number_from}

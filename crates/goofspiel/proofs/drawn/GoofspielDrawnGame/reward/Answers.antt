@@ -1,7 +1,7 @@
 use Rattle.std.proofs.Common.{arith, ℕ, w32, ap, sym, ◌∙◌}
 use Rattle.std.proofs.lemmas.Int.{to_z-of_z}
 use Rattle.goofspiel.specs.declared.Pay.{Pay}
-use Rattle.goofspiel.specs.DrawnLaws.{drawn_sound, hands_small, place_small, drawn_prize_is, prize_at}
+use Rattle.goofspiel.specs.laws.Drawn.{drawn_sound, hands_small, place_small, drawn_prize_is, prize_at}
 use Rattle.goofspiel.specs.Rules.{deal_of, paid, won_by}
 use Rattle.goofspiel.proofs.drawn.GoofspielDrawnGame.reward.Goals as goal
 

@@ -2,8 +2,8 @@ use Rattle.std.proofs.Common.{arith, ◌≡◌, ◌≤◌, ℕ, ℤ, ◌-◌, �
 use Rattle.std.proofs.lemmas.Int.{ints}
 use Rattle.std.proofs.lemmas.Nat.{one_shl}
 use Rattle.std.specs.Int.RustNames.{unsigned_abs}
-use Rattle.goofspiel.specs.DealLaws.{few_prizes, same_goofspiel_state}
-use Rattle.goofspiel.specs.DrawnLaws.{later_small, later_packed, same_drawn_state}
+use Rattle.goofspiel.specs.laws.Deals.{few_prizes, same_goofspiel_state}
+use Rattle.goofspiel.specs.laws.Drawn.{later_small, later_packed, same_drawn_state}
 use Rattle.goofspiel.proofs.drawn.GoofspielDrawnGame.root.Goals as goal
 
 -- the bit above the later places

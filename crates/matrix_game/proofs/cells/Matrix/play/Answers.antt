@@ -5,6 +5,7 @@ use Rattle.matrix_game.specs.Grid.{IsMatrix, first_greatest}
 use Rattle.matrix_game.specs.Rounds.{raised_regrets}
 use Rattle.matrix_game.proofs.Loop.{IsRound, round_is, before_first, regrets-room, mixture-light, mixture-sum, counts-room, round_takes, round_keeps, same_before, floor_before, best_mixture_is, reply_counts_are}
 use Rattle.matrix_game.proofs.Gap.{count_of}
+use Rattle.matrix_game.proofs.Mixtures.{length-mixture_of}
 use Rattle.matrix_game.proofs.Law.{length-regrets_before, mixture_before, reply_before}
 use Rattle.matrix_game.proofs.cells.Matrix.play.Goals as goal
 use Rattle.matrix_game.proofs.cells.Matrix.play.Goals.{then-round-eq0, then-round-eq0-via-then-round-eq0, then-round-eq0-via-else-round-eq0+then-low-reply, else-round-eq0+else-low-reply}
@@ -28,13 +29,16 @@ reply-reply-requires-clause-light g c =
     let each : length q ≡ m.rows = ap length c.loop-round.invariant.regrets_are ∙ length-regrets_before m c.args.weight c.loop-round.round in
     subst (λ p. All (λ x. x ≤ 1048576) p) (sym c.mix.ensures) (mixture-light m.rows c.args.weight q each (omega (arith, matrix.shaped.some_row)) c.requires.light)
 
-pub reply-reply-requires-clause-weight : goal.reply-reply-requires-clause-weight
-reply-reply-requires-clause-weight g c =
+pub reply-reply-requires-clause-weights : goal.reply-reply-requires-clause-weights
+reply-reply-requires-clause-weights g c =
     let matrix : IsMatrix c.args.self.now = subst IsMatrix c.self.view_is c.self.invariant in
     let m = c.args.self.now in
     let q : List ℕ = map g.R.Regret.number c.loop-round.regrets in
     let each : length q ≡ m.rows = ap length c.loop-round.invariant.regrets_are ∙ length-regrets_before m c.args.weight c.loop-round.round in
-    ap sum c.mix.ensures ∙ mixture-sum m.rows c.args.weight q each (omega (arith, matrix.shaped.some_row))
+    record {
+      each = ap length c.mix.ensures ∙ length-mixture_of c.args.weight q ∙ each;
+      all = ap sum c.mix.ensures ∙ mixture-sum m.rows c.args.weight q each (omega (arith, matrix.shaped.some_row));
+    }
 
 pub overflow_add-counts : goal.overflow_add-counts
 overflow_add-counts g c =

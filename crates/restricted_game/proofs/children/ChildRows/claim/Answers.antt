@@ -24,15 +24,23 @@ claim-requires g c =
     let goes_on : 1 ≤ (g.G.Game.model c.args.g).rank c.drawn-child.result = search rules in
     rw c.requires.game record { state = c.drawn-child.result; reachable = reach; goes_on = goes_on; is_key = sym c.key.ensures }
 
-pub returns-in-Ok-clause-children : goal.returns-in-Ok-clause-children
-returns-in-Ok-clause-children g c =
+pub returns-in-Ok-clause-board : goal.returns-in-Ok-clause-board
+returns-in-Ok-clause-board g c =
     let m = g.G.Game.model c.args.g in
     let are = subst (AreChildRows m (g.B.Bounds.view c.args.board.now) c.args.s) (sym c.self.view_is) c.requires.children in
     let goes_on : 1 ≤ (g.G.Game.model c.args.g).rank c.drawn-child.result = search rules in
     let is : IsRowOf m (g.B.Bounds.view c.claim.new.self) c.drawn-child.result c.in-Ok.row =
     record { goes_on = goes_on; holds = rw c.key.ensures at c.in-Ok.ensures.ok; opened = rw (c.requires.game, c.key.ensures) at c.in-Ok.ensures.opened } in
-    child_rows_more m c.args.s c.requires.reachable _ are.places c.args.one c.args.two c.args.draw c.requires.one c.requires.two c.requires.draw _ _ c.in-Ok.row are c.in-Ok.ensures.later
-    (subst (λ t. IsRowOf m (g.B.Bounds.view c.claim.new.self) t c.in-Ok.row) c.drawn-child.ensures is)
+    record {
+      later = c.claim.ensures.later;
+      entries = c.claim.ensures.entries;
+      children = child_rows_more m c.args.s c.requires.reachable _ are.places c.args.one c.args.two c.args.draw c.requires.one c.requires.two c.requires.draw _ _ c.in-Ok.row are
+          c.claim.ensures.later (subst (λ t. IsRowOf m (g.B.Bounds.view c.claim.new.self) t c.in-Ok.row) c.drawn-child.ensures is);
+    }
 
-pub returns-in-Err-clause-children : goal.returns-in-Err-clause-children
-returns-in-Err-clause-children g c = child_rows_later (g.G.Game.model c.args.g) _ _ c.args.s _ c.in-Err.ensures.later c.requires.children
+pub returns-in-Err-clause-board : goal.returns-in-Err-clause-board
+returns-in-Err-clause-board g c = record {
+  later = c.claim.ensures.later;
+  entries = c.claim.ensures.entries;
+  children = child_rows_later (g.G.Game.model c.args.g) _ _ c.args.s _ c.claim.ensures.later c.requires.children;
+}

@@ -1,6 +1,6 @@
 use Rattle.std.proofs.Common.{arith, sym}
 use Rattle.table.specs.Setting.{cell_number, lists_of}
-use Rattle.table.specs.Laws.{has_draw}
+use Rattle.table.specs.laws.Game.{has_draw}
 use Rattle.table.proofs.RuleLemmas.{told_weight, weight_is_more, weight_is_none}
 use Rattle.table.proofs.rules.Fitting.are_weights.Goals.{then-weight-eq0-via-then-weight-eq0, then-weight-eq0-via-else-weight-eq0+then-weight-left}
 use Rattle.table.proofs.rules.Fitting.are_weights.Goals as goal

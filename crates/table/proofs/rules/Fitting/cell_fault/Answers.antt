@@ -1,8 +1,8 @@
 use Rattle.std.proofs.Common.{arith, sym, ◌∙◌}
 use Rattle.table.specs.Setting.{lists_of}
-use Rattle.table.specs.BelowLemmas.{found_at, none_below}
+use Rattle.table.specs.laws.Below.{found_at, none_below}
 use Rattle.table.specs.Faults.{fault_in}
-use Rattle.table.specs.Laws.{place_within}
+use Rattle.table.specs.laws.Game.{place_within}
 use Rattle.table.specs.Lists.{cells_of}
 use Rattle.table.proofs.RuleLemmas.{fault_here, no_cells}
 use Rattle.table.proofs.rules.Fitting.cell_fault.Goals as goal

@@ -1,5 +1,5 @@
 use Rattle.std.proofs.Common.{arith}
-use Rattle.table.specs.Laws.{has_draw}
+use Rattle.table.specs.laws.Game.{has_draw}
 use Rattle.table.specs.Setting.{cell_number, lists_of}
 use Rattle.table.proofs.rules.Fitting.cell_rank.Goals as goal
 

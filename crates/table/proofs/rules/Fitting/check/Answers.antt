@@ -1,6 +1,6 @@
 use Rattle.std.proofs.Common.{arith, sym}
 use Rattle.table.specs.Setting.{lists_of}
-use Rattle.table.specs.BelowLemmas.{found_at, none_below}
+use Rattle.table.specs.laws.Below.{found_at, none_below}
 use Rattle.table.specs.Faults.{fault_at}
 use Rattle.table.specs.Lists.{state_count}
 use Rattle.table.proofs.rules.Fitting.check.Goals as goal

@@ -1,7 +1,7 @@
 use Rattle.std.proofs.Common.{arith, eqb, length, sym}
 use Rattle.std.proofs.lemmas.Bool.{ne_eqb}
 use Rattle.table.specs.Setting.{lists_of}
-use Rattle.table.specs.BelowLemmas.{not_all}
+use Rattle.table.specs.laws.Below.{not_all}
 use Rattle.table.specs.Lists.{draws_at}
 use Rattle.table.proofs.rules.Fitting.is_chance_free.Goals as goal
 

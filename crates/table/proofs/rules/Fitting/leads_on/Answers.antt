@@ -1,6 +1,6 @@
 use Rattle.std.proofs.Common.{arith, sym}
 use Rattle.table.specs.Setting.{cell_number, lists_of}
-use Rattle.table.specs.Laws.{has_draw}
+use Rattle.table.specs.laws.Game.{has_draw}
 use Rattle.table.proofs.RuleLemmas.{not_behind, not_there, told_state}
 use Rattle.table.proofs.rules.Fitting.leads_on.Goals.{then-next-s-via-then-next-s, then-next-s-via-else-next-s+then-next-self}
 use Rattle.table.proofs.rules.Fitting.leads_on.Goals as goal

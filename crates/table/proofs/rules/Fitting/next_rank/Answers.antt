@@ -1,7 +1,7 @@
 use Rattle.std.proofs.Common.{◌≡◌, ◌+◌, arith}
 use Rattle.table.specs.Setting.{lists_of}
 use Rattle.table.specs.declared.rules.CellRule.TheVariants.{Order}
-use Rattle.table.specs.Laws.{place_within}
+use Rattle.table.specs.laws.Game.{place_within}
 use Rattle.table.specs.Lists.{place_at}
 use Rattle.table.proofs.RuleLemmas.{keeps_all, leads_there}
 use Rattle.table.proofs.rules.Fitting.next_rank.Goals as goal

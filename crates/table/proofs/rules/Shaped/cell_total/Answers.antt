@@ -1,7 +1,7 @@
 use Rattle.std.proofs.Common.{◌≡◌, ◌<◌, ◌∙◌, sym, rules, w32, SFits, arith}
 use Rattle.std.proofs.lemmas.Int.{to_z-of_z}
 use Rattle.sim_game.specs.Sides.{other_side, better}
-use Rattle.table.specs.Laws.{has_draw}
+use Rattle.table.specs.laws.Game.{has_draw}
 use Rattle.table.specs.Lists.{draws_at}
 use Rattle.table.specs.Setting.{cell_number, lists_of}
 use Rattle.table.specs.Totals.{total_in, turn_total}

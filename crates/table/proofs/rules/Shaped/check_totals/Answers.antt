@@ -1,7 +1,7 @@
 use Rattle.std.proofs.Common.{arith, ◌<◌}
 use Rattle.std.proofs.lemmas.Int.{ints}
 use Rattle.sim_game.specs.declared.Side.TheVariants.{One, Two}
-use Rattle.table.specs.BelowLemmas.{found_at, none_below}
+use Rattle.table.specs.laws.Below.{found_at, none_below}
 use Rattle.table.specs.Faults.{total_fault_at}
 use Rattle.table.specs.Lists.{state_count}
 use Rattle.table.specs.Setting.{lists_of}

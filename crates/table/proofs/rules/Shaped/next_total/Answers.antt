@@ -1,11 +1,11 @@
 use Rattle.std.proofs.Common.{◌≡◌, ℕ, ◌+◌, ◌<◌, ◌∙◌, ap, sym, subst, rules, w32, SFits, arith}
 use Rattle.std.proofs.lemmas.Int.{to_z-of_z}
 use Rattle.sim_game.specs.Sides.{other_side, better}
-use Rattle.table.specs.Laws.{place_within}
+use Rattle.table.specs.laws.Game.{place_within}
 use Rattle.table.specs.Lists.{cells_of, place_at}
 use Rattle.table.specs.Position.{IsTableCell}
 use Rattle.table.specs.Setting.{lists_of}
-use Rattle.table.specs.TotalLaws.{cells_some}
+use Rattle.table.specs.laws.Totals.{cells_some}
 use Rattle.table.specs.Totals.{cell_total, total_in}
 use Rattle.table.proofs.TotalLemmas.{worst_more}
 use Rattle.table.proofs.rules.Shaped.next_total.Goals as goal

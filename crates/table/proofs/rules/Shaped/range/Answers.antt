@@ -2,7 +2,7 @@ use Rattle.std.proofs.Common.{◌≡◌, ◌-◌, ◌∙◌, true, not, ap, sym,
 use Rattle.std.proofs.lemmas.Bool.{cond-true}
 use Rattle.std.proofs.lemmas.Int.{to_z-of_z}
 use Rattle.table.specs.Below.{worst_upto}
-use Rattle.table.specs.BelowLemmas.{worst_same}
+use Rattle.table.specs.laws.Below.{worst_same}
 use Rattle.table.specs.Lists.{has_rewards, state_count}
 use Rattle.table.specs.Setting.{lists_of}
 use Rattle.table.specs.Totals.{state_total, total_in, worst_payoff}

@@ -1,0 +1,5 @@
+pub mod Cards
+pub mod Deals
+pub mod Drawn
+pub mod Game
+pub mod Places

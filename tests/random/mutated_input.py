@@ -4,9 +4,10 @@
 Positions and reports of tests/vectors, of all games or of the one that is named, and random tables are changed in bytes,
 numbers, fields, states, rows and lines, and given to `solve`, `bounds`, `check`, `exploit` and `play` for SECONDS (60). An answer
 is wrong if docs/FORMATS.md has no such status or text, if it takes more than 20 seconds, or if it is not that of
-OTHER, any program with the same commands. Reports of several workers are not compared, since they depend on the schedule, nor
-are versions of a report that the page does not have. Each wrong answer is shown and its input kept. One seed makes the same
-inputs again. The last line counts the inputs; no part of the gate.
+OTHER, any program with the same commands. Reports of several workers are not compared, since they depend on the schedule; nor
+those of linear stages or by induction, which no other program has to print alike; nor versions of a report that the page does
+not have. Each wrong answer is shown and its input kept. One seed makes the same inputs again. The last line counts the inputs;
+no part of the gate.
 """
 import json
 import os
@@ -316,8 +317,9 @@ def main():
         if time.monotonic() - started > LIMIT:
             fault = f"more than {LIMIT} seconds"
         several = command == "solve" and re.search(rb"\nspent [0-9]+ ", answer)
+        own = command == "solve" and answer.startswith(b"dosolve report ") and re.search(rb'"(linear|induction)"', text)
         newer = text.startswith(b"dosolve report ") and not formats.head.match(text)
-        if other and not fault and not several and not newer:
+        if other and not fault and not several and not own and not newer:
             theirs = run(other, words, text)
             fault = None if theirs == (status, answer) else f"{(status, answer[:300])} here, {theirs[0], theirs[1][:300]} there"
         tried += 1

@@ -16,7 +16,7 @@ heap=$(dirname "$(dirname "$(realpath "$(command -v rt)")")")/c/liblibc_c.a
 [ -e "$heap" ] || { echo "build_library.sh: no $heap" >&2; exit 2; }
 
 crate=$top/crates/dosolve_c
-echo "build_library.sh: proving and building, up to 15 minutes where nothing was proved before; $folder/rt_lib.log has the words"
+echo "build_library.sh: proving and building, up to 40 minutes where nothing was proved before; $folder/rt_lib.log has the words"
 (cd "$crate" && rt lib) > "$folder/rt_lib.log" 2>&1 || {
     status=$?
     cat "$folder/rt_lib.log" >&2

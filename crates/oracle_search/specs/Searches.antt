@@ -52,6 +52,11 @@ pub record HasKept {S G N : Type 0} (m : GameModel S) (v : WorkView G N) : Type 
   pub finished : AreFinished m true v.board v.settled.keys
   pub remembered : AreRemembered m v.board v.searches
 
+-- play can come to the state, and it is no end
+pub record IsInner {S : Type 0} (m : GameModel S) (s : S) : Type 0 where
+  pub reachable : Reachable m s
+  pub goes_on : 1 ≤ m.rank s
+
 -- a reachable state of the board's game, its row, unless it is an end, and what is kept
 pub record IsAtRow {S G N : Type 0} (m : GameModel S) (g : G) (s : S) (row : Option ℕ) (v : WorkView G N) : Type 0 where
   pub game : v.board.game ≡ g

@@ -6,8 +6,9 @@ ghost use Rattle.sim_game.specs.declared.Side.TheVariants.{One, Two};
 ghost use Rattle.sim_game.specs.Model.{Reachable};
 ghost use Rattle.sim_game.specs.Resolution.{IsStageGap};
 ghost use Rattle.bounds_board.specs.Views.{IsLater, IsEnclosure, known_bound};
+ghost use Rattle.restricted_game.specs.Nodes.{IsAtNode};
 ghost use Rattle.oracle_search.specs.Finished.{IsWithin, IsBeyond, IsLeftBelow, left_gap};
-ghost use Rattle.oracle_search.specs.Searches.{IsStoppedAs, IsEarlyEnd};
+ghost use Rattle.oracle_search.specs.Searches.{IsInner, IsStoppedAs, IsEarlyEnd};
 
 use crate::ends::{SearchEnd, Stop};
 use crate::gate::Gate;
@@ -17,9 +18,7 @@ use sim_game::{Game, SCALE, resolution};
 
 /// How far the bounds at the state are apart, read anew.
 pub(crate) fn gap_at<G: Game, B: Bounds<G>>(g: G, s: G::State, row: Row, board: &mut B) -> i64
-    requires game { (B.view board.old).game ≡ g }
-    requires reachable { Reachable (G.model g) s }
-    requires row { (B.view board.old).key_at row ≡ Some ((G.model g).key s) }
+    requires here { IsAtNode (G.model g) g (B.view board.old) s row }
     ensures later { IsLater (B.view board.old) (B.view board.new) }
     ensures entries { (B.view board.new).entries ≡ (B.view board.old).entries }
     ensures gap { result ≡
@@ -38,9 +37,7 @@ pub(crate) fn told_gap<G: Game, B: Bounds<G>, T: Gate>(
     row: Row,
     board: &mut B,
 ) -> i64
-    requires game { (B.view board.old).game ≡ setup.now.game }
-    requires reachable { Reachable (G.model setup.now.game) s }
-    requires row { (B.view board.old).key_at row ≡ Some ((G.model setup.now.game).key s) }
+    requires here { IsAtNode (G.model setup.now.game) setup.now.game (B.view board.old) s row }
     ensures later { IsLater (B.view board.old) (B.view board.new) }
     ensures entries { (B.view board.new).entries ≡ (B.view board.old).entries }
     ensures gap { result ≡ known_bound (G.model setup.now.game) (B.view board.new) Two s
@@ -72,9 +69,7 @@ pub(crate) fn is_within_told<G: Game, B: Bounds<G>, T: Gate>(
     target: i64,
     board: &mut B,
 ) -> bool
-    requires game { (B.view board.old).game ≡ setup.now.game }
-    requires reachable { Reachable (G.model setup.now.game) s }
-    requires row { (B.view board.old).key_at row ≡ Some ((G.model setup.now.game).key s) }
+    requires here { IsAtNode (G.model setup.now.game) setup.now.game (B.view board.old) s row }
     ensures later { IsLater (B.view board.old) (B.view board.new) }
     ensures entries { (B.view board.new).entries ≡ (B.view board.old).entries }
     ensures within { MatchBool result (IsWithin (G.model setup.now.game) (B.view board.new) s target)
@@ -91,9 +86,7 @@ pub(crate) fn is_within<G: Game, B: Bounds<G>>(
     target: i64,
     board: &mut B,
 ) -> bool
-    requires game { (B.view board.old).game ≡ g }
-    requires reachable { Reachable (G.model g) s }
-    requires row { (B.view board.old).key_at row ≡ Some ((G.model g).key s) }
+    requires here { IsAtNode (G.model g) g (B.view board.old) s row }
     ensures later { IsLater (B.view board.old) (B.view board.new) }
     ensures entries { (B.view board.new).entries ≡ (B.view board.old).entries }
     ensures within { MatchBool result (IsWithin (G.model g) (B.view board.new) s target)
@@ -105,8 +98,7 @@ pub(crate) fn is_within<G: Game, B: Bounds<G>>(
 /// The gap, in millionths of a payoff, at which a state is left to another worker that has searched it: a 32nd of what
 /// the stages of each rank reach, rounded up.
 fn left_gap<G: Game>(g: G, s: G::State, total: u32) -> i64
-    requires reachable { Reachable (G.model g) s }
-    requires goes_on { 1 ≤ (G.model g).rank s }
+    requires here { IsInner (G.model g) s }
     requires low { LEAST_WEIGHT ≤ total }
     requires high { total ≤ MOST_WEIGHT }
     ensures { (stage : ℕ) × IsStageGap (G.model g) total stage
@@ -140,10 +132,7 @@ pub(crate) fn ended_early<G: Game, B: Bounds<G>, T: Gate>(
     may_leave: bool,
     board: &mut B,
 ) -> Option<SearchEnd>
-    requires game { (B.view board.old).game ≡ setup.now.game }
-    requires reachable { Reachable (G.model setup.now.game) s }
-    requires goes_on { 1 ≤ (G.model setup.now.game).rank s }
-    requires row { (B.view board.old).key_at row ≡ Some ((G.model setup.now.game).key s) }
+    requires here { IsAtNode (G.model setup.now.game) setup.now.game (B.view board.old) s row }
     ensures later { IsLater (B.view board.old) (B.view board.new) }
     ensures entries { (B.view board.new).entries ≡ (B.view board.old).entries }
     ensures end { IsEarlyEnd (G.model setup.now.game) (B.view board.new) s target result }
@@ -173,9 +162,7 @@ pub(crate) fn stopped<G: Game, B: Bounds<G>>(
     stop: Stop,
     board: &mut B,
 ) -> SearchEnd
-    requires game { (B.view board.old).game ≡ g }
-    requires reachable { Reachable (G.model g) s }
-    requires row { (B.view board.old).key_at row ≡ Some ((G.model g).key s) }
+    requires here { IsAtNode (G.model g) g (B.view board.old) s row }
     requires target { pos 0 ≤ℤ target }
     ensures later { IsLater (B.view board.old) (B.view board.new) }
     ensures entries { (B.view board.new).entries ≡ (B.view board.old).entries }

@@ -1,7 +1,6 @@
 //! Restricted games that grow by best replies.
 
 ghost use Rattle.std.specs.Prelude.{◌≡◌, ◌≤ℤ◌, ◌+◌, ◌≤◌, pos, false, Some, Err, IfOk};
-ghost use Rattle.sim_game.specs.Model.{Reachable};
 ghost use Rattle.matrix_game.specs.Budget.{left_of};
 ghost use Rattle.restricted_game.specs.declared.held.StepFault.{StepFault};
 ghost use Rattle.restricted_game.specs.Children.{AreChildRows, HasNoRows};
@@ -11,7 +10,7 @@ ghost use Rattle.restricted_game.specs.Gaps.{HasStepGap};
 ghost use Rattle.restricted_game.specs.Stages.{HasStepGapOver, WereStageNumbers};
 ghost use Rattle.oracle_search.specs.Workers.{at_work};
 ghost use Rattle.oracle_search.specs.Searches.{IsAtRow, IsWorked, HasEnded, HasTurn, TakesAskedTurn};
-ghost use Rattle.oracle_search.specs.Searches.{IsBoardFull, IsFirstHeld};
+ghost use Rattle.oracle_search.specs.Searches.{IsInner, IsBoardFull, IsFirstHeld};
 ghost use Rattle.oracle_search.specs.Sweeps.{IsFullHeld};
 
 use crate::children::search_children;
@@ -35,8 +34,7 @@ pub(crate) struct Growth {
 impl Growth {
     /// One move of each side, which depends on the worker, and no row.
     fn new<G: Game, T: Gate>(setup: &Setup<'_, G, T>, s: G::State) -> Result<Growth, NoMemory>
-        requires reachable { Reachable (G.model setup.now.game) s }
-        requires goes_on { 1 ≤ (G.model setup.now.game).rank s }
+        requires here { IsInner (G.model setup.now.game) s }
         ensures held { IfOk result (λ growth. IsFirstHeld (G.model setup.now.game) s growth.held) }
         ensures children { IfOk result (λ growth. HasNoRows (G.model setup.now.game) s growth.children) }
     {
@@ -56,8 +54,7 @@ impl Growth {
         children: ChildRows,
         buffers: &mut StageBuffers,
     ) -> Result<Growth, NoMemory>
-        requires reachable { Reachable (G.model g) s }
-        requires goes_on { 1 ≤ (G.model g).rank s }
+        requires here { IsInner (G.model g) s }
         ensures held { IfOk result (λ growth. IsFullHeld (G.model g) s growth.held) }
         ensures children { IfOk result (λ growth. growth.children ≡ children) }
     {

@@ -2,10 +2,9 @@
 
 ghost use Rattle.std.specs.Prelude.{◌≡◌, ◌≤◌, ◌≤ℤ◌, pos, true, false, Some, IsTrue, IfOk};
 ghost use Rattle.sums.specs.declared.TheConstants.{LEAST_WEIGHT, MOST_WEIGHT};
-ghost use Rattle.sim_game.specs.Model.{Reachable};
 ghost use Rattle.oracle_search.specs.Sweeps.{EndsBySweeps, IsAfterSweep};
 ghost use Rattle.oracle_search.specs.Workers.{at_work};
-ghost use Rattle.oracle_search.specs.Searches.{IsAtRow, IsWorked};
+ghost use Rattle.oracle_search.specs.Searches.{IsInner, IsAtRow, IsWorked};
 
 use crate::ends::SearchEnd;
 use crate::gap::{is_within_told, stopped};
@@ -30,8 +29,7 @@ pub(crate) struct Sweep {
 impl Sweep {
     /// The first sweep of a search of a state: a sixteenth of the range of payoffs is wanted.
     fn first<G: Game>(g: G, s: G::State, total: u32) -> Sweep
-        requires reachable { Reachable (G.model g) s }
-        requires goes_on { 1 ≤ (G.model g).rank s }
+        requires here { IsInner (G.model g) s }
         requires low { LEAST_WEIGHT ≤ total }
         requires high { total ≤ MOST_WEIGHT }
     {

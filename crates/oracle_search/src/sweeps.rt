@@ -3,11 +3,10 @@
 ghost use Rattle.std.specs.Prelude.{◌≡◌, ◌⊎◌, ◌+◌, ◌<◌, ◌≤◌, ◌≤ℤ◌, pos, true, None, Some, Ok, Err, IsTrue, IsFalse, IfOk, Contains};
 ghost use Rattle.sums.specs.declared.TheConstants.{LEAST_WEIGHT, MOST_WEIGHT};
 ghost use Rattle.sim_game.specs.declared.Side.{Side};
-ghost use Rattle.sim_game.specs.Model.{Reachable};
 ghost use Rattle.restricted_game.specs.Children.{AreChildRows};
 ghost use Rattle.oracle_search.specs.Sweeps.{HasSwept, IsSweepEnd, IsSweepDone, IsFullHeld, AreAllDone};
 ghost use Rattle.oracle_search.specs.Workers.{at_work};
-ghost use Rattle.oracle_search.specs.Searches.{IsAtRow, IsAtChildren, IsWorked, IsBoardFull, IsDone, AreDone};
+ghost use Rattle.oracle_search.specs.Searches.{IsInner, IsAtRow, IsAtChildren, IsWorked, IsBoardFull, IsDone, AreDone};
 ghost use Rattle.oracle_search.specs.Finished.{AreFinished, IsLeftBelow, IsWithin};
 
 use crate::ends::Stop;
@@ -311,8 +310,7 @@ fn wanted_gap<G: Game, T: Gate>(
     s: G::State,
     total: u32,
 ) -> i64
-    requires reachable { Reachable (G.model setup.now.game) s }
-    requires goes_on { 1 ≤ (G.model setup.now.game).rank s }
+    requires here { IsInner (G.model setup.now.game) s }
     requires low { LEAST_WEIGHT ≤ total }
     requires high { total ≤ MOST_WEIGHT }
     ensures least { pos 0 ≤ℤ result }

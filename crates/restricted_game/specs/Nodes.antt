@@ -1,11 +1,11 @@
 -- A state of the game on a board, and what is kept of the board from one moment to another.
-use Rattle.std.specs.Prelude.{◌≡◌, ℕ, ◌≤◌, Some}
+use Rattle.std.specs.Prelude.{◌≡◌, ℕ, ◌≤◌, Option, Some}
 use Rattle.sim_game.specs.declared.Side.TheVariants.{One, Two}
 use Rattle.sim_game.specs.Model.{GameModel, Reachable}
 use Rattle.plan_book.specs.Books.{Grows}
 use Rattle.plan_book.specs.Entries.{IsLawfulEntry}
 use Rattle.bounds_board.specs.Views.{BoardView, IsLater}
-use Rattle.restricted_game.specs.Children.{KeptRows, AreChildRows}
+use Rattle.restricted_game.specs.Children.{KeptRows, HasRow, AreChildRows}
 use Rattle.restricted_game.specs.Held.{HeldMoves}
 
 -- a reachable state of the board's game that is no end, and its row
@@ -14,6 +14,19 @@ pub record IsAtNode {S G N : Type 0} (m : GameModel S) (g : G) (v : BoardView G 
   pub reachable : Reachable m s
   pub goes_on : 1 ≤ m.rank s
   pub holds : v.key_at row ≡ Some (m.key s)
+
+-- one whose children are read, and the rows of these that are known
+pub record IsAtChildRows {S G N : Type 0} (m : GameModel S) (g : G) (v : BoardView G N) (s : S) (known : KeptRows) : Type 0 where
+  pub game : v.game ≡ g
+  pub reachable : Reachable m s
+  pub goes_on : 1 ≤ m.rank s
+  pub children : AreChildRows m v s known
+
+-- a reachable state of the board's game with its row, or an end with none
+pub record IsAtStateRow {S G N : Type 0} (m : GameModel S) (g : G) (v : BoardView G N) (t : S) (row : Option ℕ) : Type 0 where
+  pub game : v.game ≡ g
+  pub reachable : Reachable m t
+  pub has_row : HasRow m v t row
 
 -- the state has as many moves of each side as the restricted game
 pub record FitsState {S : Type 0} (m : GameModel S) (s : S) (h : HeldMoves) : Type 0 where

@@ -5,7 +5,7 @@ use Rattle.std.specs.List.{Contains, range_with_len}
 use Rattle.sums.specs.Sums.{sum_below}
 use Rattle.sim_game.specs.declared.Side.{Side}
 use Rattle.sim_game.specs.declared.Side.TheVariants.{One, Two}
-use Rattle.sim_game.specs.Model.{GameModel}
+use Rattle.sim_game.specs.Model.{GameModel, Reachable}
 use Rattle.sim_game.specs.Sides.{IsNoTighter, move_of_one, move_of_two, quotient}
 use Rattle.plan_book.specs.declared.Entry.{Entry}
 use Rattle.plan_book.specs.Steps.{rounded}
@@ -53,6 +53,12 @@ pub record HasShape {S : Type 0} (m : GameModel S) (s : S) (table : StageTable) 
   pub height : table.height ≡ m.moves One s
   pub width : table.width ≡ m.moves Two s
   pub stride : IsStride m s table.stride
+
+-- and play can come to the state, which is no end
+pub record IsAtTable {S : Type 0} (m : GameModel S) (s : S) (table : StageTable) : Type 0 where
+  pub reachable : Reachable m s
+  pub goes_on : 1 ≤ m.rank s
+  pub shape : HasShape m s table
 
 -- each wanted draw was read between two views
 pub record IsFilled {S G N : Type 0} (m : GameModel S) (u v : BoardView G N) (s : S) (rows cols : List ℕ) (table : StageTable) : Type 0 where

@@ -1,10 +1,9 @@
 //! The cells of pairs of moves.
 ghost use Rattle.std.specs.Prelude.{◌≡◌, ◌*◌, ◌≤◌, ◌<◌, All, length, IfOk};
-ghost use Rattle.sim_game.specs.Model.{Reachable};
 ghost use Rattle.matrix_game.specs.Grid.{IsSmallCell};
 ghost use Rattle.restricted_game.specs.Held.{AreMoves};
 ghost use Rattle.restricted_game.specs.Stages.{HasCells};
-ghost use Rattle.restricted_game.specs.Tables.{AreCells, HasShape, pair_cell, held_cells};
+ghost use Rattle.restricted_game.specs.Tables.{AreCells, IsAtTable, pair_cell, held_cells};
 
 use crate::buffers::{StageBuffers, emptied};
 use crate::table::{StageCells, StageNumbers, StageTable};
@@ -15,8 +14,7 @@ use sums::weighted;
 /// The cell of a side at a pair of moves, in millionths: the mean of its numbers at the draws, rounded so that it says
 /// no more for the side.
 fn pair_cell<G: Game>(g: G, s: G::State, side: Side, one: u32, two: u32, table: &StageTable) -> i64
-    requires reachable { Reachable (G.model g) s }
-    requires shape { HasShape (G.model g) s table.now }
+    requires here { IsAtTable (G.model g) s table.now }
     requires one { one < (G.model g).moves Side.One s }
     requires two { two < (G.model g).moves Side.Two s }
     ensures value { result ≡ pair_cell (G.model g) side s table.now one two }
@@ -38,9 +36,7 @@ fn cells_of<G: Game>(
     table: &StageTable,
     list: &mut Vec<i64>,
 ) -> Result<StageCells, NoMemory>
-    requires reachable { Reachable (G.model g) s }
-    requires goes_on { 1 ≤ (G.model g).rank s }
-    requires shape { HasShape (G.model g) s table.now }
+    requires here { IsAtTable (G.model g) s table.now }
     ensures { IfOk result (AreCells (G.model g) side s table.now) }
 {
     let pairs = table.height * table.width;
@@ -89,9 +85,7 @@ pub(crate) fn numbers_of<G: Game>(
     table: StageTable,
     buffers: &mut StageBuffers,
 ) -> Result<StageNumbers, NoMemory>
-    requires reachable { Reachable (G.model g) s }
-    requires goes_on { 1 ≤ (G.model g).rank s }
-    requires shape { HasShape (G.model g) s table }
+    requires here { IsAtTable (G.model g) s table }
     ensures table { IfOk result (λ numbers. numbers.table ≡ table) }
     ensures cells { IfOk result (HasCells (G.model g) s) }
 {

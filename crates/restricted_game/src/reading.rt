@@ -4,9 +4,7 @@ ghost use Rattle.std.specs.List.{Contains};
 ghost use Rattle.sums.specs.declared.TheConstants.{MOST_REWARD};
 ghost use Rattle.bounds_board.specs.Views.{IsLater, WasFull, bound_in};
 ghost use Rattle.sim_game.specs.declared.Side.{Side};
-ghost use Rattle.sim_game.specs.Model.{Reachable};
-ghost use Rattle.restricted_game.specs.Children.{AreChildRows, HasRow};
-ghost use Rattle.restricted_game.specs.Nodes.{HasOnlyRead};
+ghost use Rattle.restricted_game.specs.Nodes.{IsAtChildRows, IsAtStateRow, HasOnlyRead};
 ghost use Rattle.restricted_game.specs.Numbers.{AreRead, AreTurnRead, IsWanted, IsReadChild};
 ghost use Rattle.restricted_game.specs.Sizes.{IsSmallEnclosure};
 ghost use Rattle.restricted_game.specs.Tables.{HasShape, IsFilled};
@@ -49,9 +47,7 @@ fn read_state<G: Game, B: Bounds<G>>(
     row: Option<Row>,
     board: &mut B,
 ) -> Enclosure
-    requires game { (B.view board.old).game ≡ g }
-    requires reachable { Reachable (G.model g) t }
-    requires row { HasRow (G.model g) (B.view board.old) t row }
+    requires here { IsAtStateRow (G.model g) g (B.view board.old) t row }
     ensures later { IsLater (B.view board.old) (B.view board.new) }
     ensures entries { (B.view board.new).entries ≡ (B.view board.old).entries }
     ensures read { AreRead (G.model g) (B.view board.old) (B.view board.new) t result }
@@ -92,11 +88,9 @@ fn read_child<G: Game, B: Bounds<G>>(
     children: &mut ChildRows,
     board: &mut B,
 ) -> Result<Enclosure, Full>
-    requires game { (B.view board.old).game ≡ g }
-    requires reachable { Reachable (G.model g) s }
+    requires here { IsAtChildRows (G.model g) g (B.view board.old) s children.old }
     requires one { at.one < (G.model g).moves Side.One s }
     requires two { at.two < (G.model g).moves Side.Two s }
-    requires children { AreChildRows (G.model g) (B.view board.old) s children.old }
     ensures board { HasOnlyRead (G.model g) (B.view board.old) (B.view board.new) s children.new }
     ensures read { IfOk result (λ e. IsWanted rows.now cols.now at.one at.two
         → at.draw < (G.model g).draws s at.one at.two
@@ -132,10 +126,7 @@ pub(crate) fn read_table<G: Game, B: Bounds<G>>(
     board: &mut B,
     buffers: &mut StageBuffers,
 ) -> Result<StageTable, BoardFault>
-    requires game { (B.view board.old).game ≡ g }
-    requires reachable { Reachable (G.model g) s }
-    requires goes_on { 1 ≤ (G.model g).rank s }
-    requires children { AreChildRows (G.model g) (B.view board.old) s children.old }
+    requires here { IsAtChildRows (G.model g) g (B.view board.old) s children.old }
     ensures board { HasOnlyRead (G.model g) (B.view board.old) (B.view board.new) s children.new }
     ensures shape { IfOk result (HasShape (G.model g) s) }
     ensures filled { IfOk result (IsFilled (G.model g) (B.view board.old) (B.view board.new) s rows.now cols.now) }

@@ -1,12 +1,12 @@
 //! Steps by one move.
 ghost use Rattle.std.specs.Prelude.{◌≡◌, ◌<◌, ◌≤◌, Some, OnOk, OnErr, IfOk};
-ghost use Rattle.sim_game.specs.Model.{Reachable};
 ghost use Rattle.sim_game.specs.Sides.{IsNoTighter};
 ghost use Rattle.plan_book.specs.Plans.{one_move};
 ghost use Rattle.plan_book.specs.Books.{Grows};
 ghost use Rattle.plan_book.specs.Entries.{IsPureEntry};
 ghost use Rattle.bounds_board.specs.Views.{IsLater, known_bound};
 ghost use Rattle.serial_ab.specs.Searches.{IsMoveStep};
+ghost use Rattle.serial_ab.specs.Parts.{IsInnerState};
 
 use crate::interrupt::Interrupt;
 use crate::stop::SerialStop;
@@ -46,9 +46,7 @@ pub(crate) fn post_move<G: Game, I: Interrupt, B: Bounds<G>>(
     bound: i64,
     board: &mut B,
 ) -> Result<(), SerialStop>
-    requires game { (B.view board.old).game ≡ task.now.game }
-    requires reachable { Reachable (G.model task.now.game) s }
-    requires goes_on { 1 ≤ (G.model task.now.game).rank s }
+    requires here { IsInnerState (G.model task.now.game) task.now.game (B.view board.old) s }
     requires row { (B.view board.old).key_at row ≡ Some ((G.model task.now.game).key s) }
     requires step { IsMoveStep (G.model task.now.game) task.now.side s own (B.view board.old) bound }
     ensures later { IsLater (B.view board.old) (B.view board.new) }

@@ -8,6 +8,7 @@ ghost use Rattle.sim_game.specs.Resolution.{IsFineWeight};
 ghost use Rattle.plan_book.specs.Serial.{tree_size};
 ghost use Rattle.bounds_board.specs.Views.{WasFull};
 ghost use Rattle.serial_ab.specs.Counts.{left_on, IsCut, HasCounted};
+ghost use Rattle.serial_ab.specs.Parts.{IsSearchedAt};
 ghost use Rattle.serial_ab.specs.Searches.{EndsWith, IsSerialKept};
 ghost use Rattle.serial_ab.specs.Transpositions.{AreRemembered};
 ghost use Rattle.serial_ab.specs.Roots.{IsSearchable, IsRootValue, IsRootEnd};
@@ -98,8 +99,7 @@ fn search_sides<G: Game, B: Bounds<G>>(
     worker: &mut SerialWorker,
     board: &mut B,
 ) -> Result<RootEnd, NoMemory>
-    requires game { (B.view board.old).game ≡ g }
-    requires remembered { AreRemembered (G.model g) (B.view board.old) worker.old.table }
+    requires here { IsSearchedAt (G.model g) g (B.view board.old) worker.old.table (G.model g).root }
     requires searched { IsSearchable (G.model g) }
     ensures ends { IfOk result (IsRootEnd (G.model g) (B.view board.old).rows worker.old.visits worker.new.visits) }
     ensures counted { HasCounted worker.old.visits worker.new.visits }
@@ -124,8 +124,7 @@ fn search_root<G: Game, B: Bounds<G>>(
     worker: &mut SerialWorker,
     board: &mut B,
 ) -> Result<i64, SerialStop>
-    requires game { (B.view board.old).game ≡ g }
-    requires remembered { AreRemembered (G.model g) (B.view board.old) worker.old.table }
+    requires here { IsSearchedAt (G.model g) g (B.view board.old) worker.old.table (G.model g).root }
     requires searched { IsSearchable (G.model g) }
     ensures kept { IsSerialKept (G.model g) side (tree_size (G.model g) (G.model g).root)
         (B.view board.old) (B.view board.new) worker.old.visits worker.new.visits }

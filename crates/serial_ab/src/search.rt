@@ -2,14 +2,13 @@
 ghost use Rattle.std.specs.Prelude.{◌≡◌, ◌+◌, ◌*◌, ◌<◌, ◌≤◌, ℤ, ◌+ℤ◌, ◌-ℤ◌, unsigned_abs, Some, Err, true, IsTrue, IfSome, IfOk, OnOk, OnErr};
 ghost use Rattle.sums.specs.declared.TheConstants.{MOST_BOUND, MOST_REWARD};
 ghost use Rattle.sim_game.specs.declared.TheConstants.{MOST_TURNS};
-ghost use Rattle.sim_game.specs.Model.{Reachable, LeadsTo};
+ghost use Rattle.sim_game.specs.Model.{LeadsTo};
 ghost use Rattle.sim_game.specs.Sides.{other_side, opening_bound, move_of_one, move_of_two, draws_of, IsTighter};
 ghost use Rattle.plan_book.specs.Serial.{tree_size};
 ghost use Rattle.serial_ab.specs.Counts.{spent_on, left_on, Counts, IsCut};
 ghost use Rattle.serial_ab.specs.Values.{pair_nodes, move_nodes, inner_nodes};
 ghost use Rattle.bounds_board.specs.Views.{IsLater, WasFull};
-ghost use Rattle.serial_ab.specs.Transpositions.{AreRemembered};
-ghost use Rattle.serial_ab.specs.Parts.{IsPart};
+ghost use Rattle.serial_ab.specs.Parts.{IsSearchedAt, IsSearchedBelow, IsInnerState, IsPart};
 ghost use Rattle.serial_ab.specs.Searches.{IsWindow, IsFound, IsOpened, IsMoveFound, IsPairFound};
 
 use crate::interrupt::Interrupt;
@@ -37,9 +36,7 @@ pub(crate) fn search_state<G: Game, I: Interrupt, B: Bounds<G>>(
     worker: &mut SerialWorker,
     board: &mut B,
 ) -> Result<i64, SerialStop>
-    requires game { (B.view board.old).game ≡ task.now.game }
-    requires remembered { AreRemembered (G.model task.now.game) (B.view board.old) worker.old.table }
-    requires reachable { Reachable (G.model task.now.game) s }
+    requires here { IsSearchedAt (G.model task.now.game) task.now.game (B.view board.old) worker.old.table s }
     requires known { IfSome known (IsOpened (G.model task.now.game) task.now.side s (B.view board.old)) }
     requires window { IsWindow (G.model task.now.game) task.now.side s window.worse window.better }
     ensures ends { IsPart (G.model task.now.game) task.now.may_stop task.now.side s
@@ -92,10 +89,7 @@ fn search_inner<G: Game, I: Interrupt, B: Bounds<G>>(
     worker: &mut SerialWorker,
     board: &mut B,
 ) -> Result<i64, SerialStop>
-    requires game { (B.view board.old).game ≡ task.now.game }
-    requires remembered { AreRemembered (G.model task.now.game) (B.view board.old) worker.old.table }
-    requires reachable { Reachable (G.model task.now.game) s }
-    requires goes_on { 1 ≤ (G.model task.now.game).rank s }
+    requires here { IsSearchedBelow (G.model task.now.game) task.now.game (B.view board.old) worker.old.table s }
     requires row { IsOpened (G.model task.now.game) task.now.side s (B.view board.old) row }
     requires window { IsWindow (G.model task.now.game) task.now.side s window.worse window.better }
     ensures { IsPart (G.model task.now.game) task.now.may_stop task.now.side s
@@ -152,9 +146,7 @@ fn row_of<G: Game, I: Interrupt, B: Bounds<G>>(
     known: Option<Row>,
     board: &mut B,
 ) -> Result<Row, SerialStop>
-    requires game { (B.view board.old).game ≡ task.now.game }
-    requires reachable { Reachable (G.model task.now.game) s }
-    requires goes_on { 1 ≤ (G.model task.now.game).rank s }
+    requires here { IsInnerState (G.model task.now.game) task.now.game (B.view board.old) s }
     requires known { IfSome known (IsOpened (G.model task.now.game) task.now.side s (B.view board.old)) }
     ensures later { IsLater (B.view board.old) (B.view board.new) }
     ensures entries { (B.view board.new).entries ≡ (B.view board.old).entries }
@@ -182,10 +174,7 @@ fn search_moves<G: Game, I: Interrupt, B: Bounds<G>>(
     worker: &mut SerialWorker,
     board: &mut B,
 ) -> Result<i64, SerialStop>
-    requires game { (B.view board.old).game ≡ task.now.game }
-    requires remembered { AreRemembered (G.model task.now.game) (B.view board.old) worker.old.table }
-    requires reachable { Reachable (G.model task.now.game) s }
-    requires goes_on { 1 ≤ (G.model task.now.game).rank s }
+    requires here { IsSearchedBelow (G.model task.now.game) task.now.game (B.view board.old) worker.old.table s }
     requires row { IsOpened (G.model task.now.game) task.now.side s (B.view board.old) row }
     requires window { IsWindow (G.model task.now.game) task.now.side s window.worse window.better }
     ensures { IsPart (G.model task.now.game) task.now.may_stop task.now.side s
@@ -222,10 +211,7 @@ fn search_move<G: Game, I: Interrupt, B: Bounds<G>>(
     worker: &mut SerialWorker,
     board: &mut B,
 ) -> Result<i64, SerialStop>
-    requires game { (B.view board.old).game ≡ task.now.game }
-    requires remembered { AreRemembered (G.model task.now.game) (B.view board.old) worker.old.table }
-    requires reachable { Reachable (G.model task.now.game) s }
-    requires goes_on { 1 ≤ (G.model task.now.game).rank s }
+    requires here { IsSearchedBelow (G.model task.now.game) task.now.game (B.view board.old) worker.old.table s }
     requires own_move { own < (G.model task.now.game).moves task.now.side s }
     requires row { (B.view board.old).key_at row ≡ Some ((G.model task.now.game).key s) }
     requires window { IsWindow (G.model task.now.game) task.now.side s window.worse window.better }
@@ -287,10 +273,7 @@ fn search_pair<G: Game, I: Interrupt, B: Bounds<G>>(
     worker: &mut SerialWorker,
     board: &mut B,
 ) -> Result<i64, SerialStop>
-    requires game { (B.view board.old).game ≡ task.now.game }
-    requires remembered { AreRemembered (G.model task.now.game) (B.view board.old) worker.old.table }
-    requires reachable { Reachable (G.model task.now.game) s }
-    requires goes_on { 1 ≤ (G.model task.now.game).rank s }
+    requires here { IsSearchedBelow (G.model task.now.game) task.now.game (B.view board.old) worker.old.table s }
     requires own_move { own < (G.model task.now.game).moves task.now.side s }
     requires reply { reply < (G.model task.now.game).moves (other_side task.now.side) s }
     requires window { IsWindow (G.model task.now.game) task.now.side s window.worse window.better }
@@ -323,10 +306,7 @@ fn search_draws<G: Game, I: Interrupt, B: Bounds<G>>(
     worker: &mut SerialWorker,
     board: &mut B,
 ) -> Result<i64, SerialStop>
-    requires game { (B.view board.old).game ≡ task.now.game }
-    requires remembered { AreRemembered (G.model task.now.game) (B.view board.old) worker.old.table }
-    requires reachable { Reachable (G.model task.now.game) s }
-    requires goes_on { 1 ≤ (G.model task.now.game).rank s }
+    requires here { IsSearchedBelow (G.model task.now.game) task.now.game (B.view board.old) worker.old.table s }
     requires own_move { own < (G.model task.now.game).moves task.now.side s }
     requires reply { reply < (G.model task.now.game).moves (other_side task.now.side) s }
     requires draws { draws ≡ draws_of (G.model task.now.game) task.now.side s own reply }

@@ -4,6 +4,7 @@ ghost use Rattle.sim_game.specs.Model.{Reachable};
 ghost use Rattle.sim_game.specs.Sides.{IsNoTighter, opening_bound};
 ghost use Rattle.serial_ab.specs.Ends.{IsPlaced, IsPayoffWindow, worse_end, better_end};
 ghost use Rattle.serial_ab.specs.Serials.{IsSerialEnd};
+ghost use Rattle.serial_ab.specs.Parts.{IsSearchedAt};
 ghost use Rattle.serial_ab.specs.Searches.{IsOpened};
 ghost use Rattle.serial_ab.specs.Transpositions.{AreRemembered};
 
@@ -96,9 +97,7 @@ fn search_window<G: Game, I: Interrupt, B: Bounds<G>>(
     worker: &mut SerialWorker,
     board: &mut B,
 ) -> Result<SerialEnd, BoardFault>
-    requires game { (B.view board.old).game ≡ task.now.game }
-    requires remembered { AreRemembered (G.model task.now.game) (B.view board.old) worker.old.table }
-    requires reachable { Reachable (G.model task.now.game) s }
+    requires here { IsSearchedAt (G.model task.now.game) task.now.game (B.view board.old) worker.old.table s }
     requires known { IfSome known (IsOpened (G.model task.now.game) task.now.side s (B.view board.old)) }
     requires window { IsPayoffWindow (G.model task.now.game) window.0 window.1 }
     ensures remembered { AreRemembered (G.model task.now.game) (B.view board.new) worker.new.table }

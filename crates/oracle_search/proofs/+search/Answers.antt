@@ -17,7 +17,7 @@ use Rattle.oracle_search.proofs.RingLemmas.{pair_inside, ring_contained}
 use Rattle.oracle_search.proofs.SweepLemmas.{bounded_early, bounded_grown, bounded_swept}
 use Rattle.oracle_search.proofs.TurnLemmas.{taken_by, taken_full, taken_added}
 use Rattle.oracle_search.proofs.WorkLemmas.{IsAfter, worked_none, worked_read, worked_after, worked_full, worked_wider, worked_added, worked_child, full_kept, full_child, stop_under, drawn_after}
-use Rattle.oracle_search.proofs.WorkLemmas.{at_row_after, at_children_after, at_child, pure_later, ahead_later, pure_within, pure_beyond}
+use Rattle.oracle_search.proofs.WorkLemmas.{node_of, at_row_after, at_children_after, at_child, pure_later, ahead_later, pure_within, pure_beyond}
 use Rattle.oracle_search.proofs.+search.Goals.{children::search_child-After-search_row, children::search_child-In-None-stop, children::search_draws-After-drawn-child, children::search_draws-In-Err}
 use Rattle.oracle_search.proofs.+search.Goals.{growth::grow-In-Ok-None, growth::grow-After-take_turn, state::search_row-After-bound_state, state::search_row-After-ended_early}
 
@@ -235,17 +235,17 @@ growth::grow-growth-init g t c =
 pub growth::grow-take_turn-requires-clause-here : goal.growth::grow-take_turn-requires-clause-here
 growth::grow-take_turn-requires-clause-here g t c = at_row_after c.requires.here (worked_after c.growth.invariant.worked c.search_children.ensures.worked)
 
-pub growth::grow-is_within_told-requires-clause-row : goal.growth::grow-is_within_told-requires-clause-row
-growth::grow-is_within_told-requires-clause-row g t c =
-    (at_row_after c.requires.here (turned g t (goal.at.growth::grow-is_within_told-requires-clause-row g t c).After-take_turn)).has_row.holds
+pub growth::grow-is_within_told-requires : goal.growth::grow-is_within_told-requires
+growth::grow-is_within_told-requires g t c =
+    record { here = node_of (at_row_after c.requires.here (turned g t (goal.at.growth::grow-is_within_told-requires g t c).After-take_turn)) }
 
-pub growth::grow-stopped-requires-in-Err-Spent-clause-row : goal.growth::grow-stopped-requires-in-Err-Spent-clause-row
-growth::grow-stopped-requires-in-Err-Spent-clause-row g t c =
-    (at_row_after c.requires.here (turned g t (goal.at.growth::grow-stopped-requires-in-Err-Spent-clause-row g t c).After-take_turn)).has_row.holds
+pub growth::grow-stopped-requires-in-Err-Spent-clause-here : goal.growth::grow-stopped-requires-in-Err-Spent-clause-here
+growth::grow-stopped-requires-in-Err-Spent-clause-here g t c =
+    node_of (at_row_after c.requires.here (turned g t (goal.at.growth::grow-stopped-requires-in-Err-Spent-clause-here g t c).After-take_turn))
 
-pub growth::grow-stopped-requires-in-Err-Full-clause-row : goal.growth::grow-stopped-requires-in-Err-Full-clause-row
-growth::grow-stopped-requires-in-Err-Full-clause-row g t c =
-    (at_row_after c.requires.here (turned g t (goal.at.growth::grow-stopped-requires-in-Err-Full-clause-row g t c).After-take_turn)).has_row.holds
+pub growth::grow-stopped-requires-in-Err-Full-clause-here : goal.growth::grow-stopped-requires-in-Err-Full-clause-here
+growth::grow-stopped-requires-in-Err-Full-clause-here g t c =
+    node_of (at_row_after c.requires.here (turned g t (goal.at.growth::grow-stopped-requires-in-Err-Full-clause-here g t c).After-take_turn))
 
 pub growth::grow-returns-in-Ok-Some-clause-worked : goal.growth::grow-returns-in-Ok-Some-clause-worked
 growth::grow-returns-in-Ok-Some-clause-worked g t c =
@@ -372,13 +372,13 @@ pub state::search_row-bound_state-requires-clause-here : goal.state::search_row-
 state::search_row-bound_state-requires-clause-here g t c =
     at_row_after c.requires.here (worked_read {limit = 0} (worked_none c.requires.here.kept) c.gap_at.ensures.later c.gap_at.ensures.entries)
 
-pub state::search_row-ended_early-requires-clause-row : goal.state::search_row-ended_early-requires-clause-row
-state::search_row-ended_early-requires-clause-row g t c =
-    (at_row_after c.requires.here (bounded g t (goal.at.state::search_row-ended_early-requires-clause-row g t c).After-bound_state)).has_row.holds
+pub state::search_row-ended_early-requires : goal.state::search_row-ended_early-requires
+state::search_row-ended_early-requires g t c =
+    record { here = node_of (at_row_after c.requires.here (bounded g t (goal.at.state::search_row-ended_early-requires g t c).After-bound_state)) }
 
-pub state::search_row-stopped-requires-clause-row : goal.state::search_row-stopped-requires-clause-row
-state::search_row-stopped-requires-clause-row g t c =
-    (at_row_after c.requires.here (bounded g t (goal.at.state::search_row-stopped-requires-clause-row g t c).After-bound_state)).has_row.holds
+pub state::search_row-stopped-requires-clause-here : goal.state::search_row-stopped-requires-clause-here
+state::search_row-stopped-requires-clause-here g t c =
+    node_of (at_row_after c.requires.here (bounded g t (goal.at.state::search_row-stopped-requires-clause-here g t c).After-bound_state))
 
 pub state::search_row-returns-in-Some-clause-worked : goal.state::search_row-returns-in-Some-clause-worked
 state::search_row-returns-in-Some-clause-worked g t c = told g t (goal.at.state::search_row-returns-in-Some-clause-worked g t c).After-ended_early

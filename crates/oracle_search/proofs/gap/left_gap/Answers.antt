@@ -14,8 +14,8 @@ pub nonzero_div-each : goal.nonzero_div-each
 nonzero_div-each g c =
     let m = g.G.Game.model c.args.g in
     let root : c.rank.result ≡ m.rank m.root = c.rank.ensures ∙ ap m.rank c.root.ensures in
-    let below = rank_below_root m (g.met.G.Game.lawful c.args.g) c.args.s c.requires.reachable in
-    let some = c.requires.goes_on in omega arith
+    let below = rank_below_root m (g.met.G.Game.lawful c.args.g) c.args.s c.requires.here.reachable in
+    let some = c.requires.here.goes_on in omega arith
 
 part : (g : Over) (c : goal.After-div_ceil g) → c.div_ceil.result ≡ div_ceil (c.resolution.ensures.is.0 / c.rank.result) 32
 part g c =
@@ -31,7 +31,7 @@ fits g c =
     let rounded = (div_ceil_times (c.resolution.ensures.is.0 / c.rank.result) 32 (omega arith)).1 in
     let part_is = part g c in
     let small : c.div_ceil.result ≤ 100000000000 = omega arith in
-    let high = (g.met.G.Game.lawful c.args.g).rank_high c.args.s c.requires.reachable in let rank = c.rank-2.ensures in
+    let high = (g.met.G.Game.lawful c.args.g).rank_high c.args.s c.requires.here.reachable in let rank = c.rank-2.ensures in
     let product = mul-le c.rank-2.result c.div_ceil.result MOST_TURNS 100000000000 (omega arith) small in
     omega arith
 
@@ -43,8 +43,8 @@ returns g c =
     let m = g.G.Game.model c.args.g in
     let res = c.resolution.ensures.is.2 in
     let root : c.rank.result ≡ m.rank m.root = c.rank.ensures ∙ ap m.rank c.root.ensures in
-    let below = rank_below_root m (g.met.G.Game.lawful c.args.g) c.args.s c.requires.reachable in
-    let some = c.requires.goes_on in
+    let below = rank_below_root m (g.met.G.Game.lawful c.args.g) c.args.s c.requires.here.reachable in
+    let some = c.requires.here.goes_on in
     let each : c.resolution.ensures.is.0 / c.rank.result ≡ res.gap + 1 + cond m.chance_free 0 1 =
     ap (λ (k : ℕ). c.resolution.ensures.is.0 / k) root ∙ rank_part m c.args.total c.resolution.ensures.is.0 (omega arith) res in
     let product : c.rank-2.result * c.div_ceil.result ≡ left_gap m res.gap (m.rank c.args.s) =

@@ -4,7 +4,7 @@ use Rattle.oracle_search.specs.Workers.{at_work}
 use Rattle.oracle_search.specs.Searches.{IsWorked}
 use Rattle.oracle_search.proofs.BetterLemmas.{gap_within}
 use Rattle.oracle_search.proofs.KeyLemmas.{done_later, key_done}
-use Rattle.oracle_search.proofs.WorkLemmas.{worked_none, worked_after, worked_read, at_row_after, close_below}
+use Rattle.oracle_search.proofs.WorkLemmas.{worked_none, worked_after, worked_read, node_of, at_row_after, close_below}
 use Rattle.oracle_search.proofs.sweeps.is_enough.Given.{Over}
 use Rattle.oracle_search.proofs.sweeps.is_enough.Goals as goal
 use Rattle.oracle_search.proofs.sweeps.is_enough.Goals.{After-is_within, After-bound_state}
@@ -45,8 +45,8 @@ bound_state-requires-clause-here g c = at_row_after c.requires.here (looked g (g
 pub returns-in-Err-clause-worked : goal.returns-in-Err-clause-worked
 returns-in-Err-clause-worked g c = bounded g (goal.at.returns-in-Err-clause-worked g c).After-bound_state
 
-pub gap_at-gap-requires-clause-row : goal.gap_at-gap-requires-clause-row
-gap_at-gap-requires-clause-row g c = (at_row_after c.requires.here (bounded g (goal.at.gap_at-gap-requires-clause-row g c).After-bound_state)).has_row.holds
+pub gap_at-gap-requires : goal.gap_at-gap-requires
+gap_at-gap-requires g c = record { here = node_of (at_row_after c.requires.here (bounded g (goal.at.gap_at-gap-requires g c).After-bound_state)) }
 
 pub returns-in-Ok-note_bounds-clause-worked : goal.returns-in-Ok-note_bounds-clause-worked
 returns-in-Ok-note_bounds-clause-worked g c = rw c.note_bounds.ensures

@@ -1,7 +1,6 @@
-use Rattle.std.proofs.Common.{rules, ◌≡◌, ◌*◌, ◌≤◌, ◌/◌, ◌%◌, ◌++◌, ◌∷◌, [], ℤ, List, length, w64, SFits, ap, ◌∙◌, arith}
+use Rattle.std.proofs.Common.{rules, ◌≡◌, ◌*◌, ◌/◌, ◌%◌, ◌++◌, ◌∷◌, [], ℤ, List, length, w64, SFits, ap, ◌∙◌, arith}
 use Rattle.std.proofs.lemmas.Int.{ints, to_z-of_z}
 use Rattle.std.proofs.lemmas.List.FromFn.{length-map-range_with_len}
-use Rattle.sums.specs.declared.TheConstants.{MOST_MOVES}
 use Rattle.sim_game.specs.declared.Side.TheVariants.{One, Two}
 use Rattle.restricted_game.specs.Tables.{pair_cell}
 use Rattle.restricted_game.proofs.CellLemmas.{cells_more}
@@ -20,16 +19,13 @@ loop-pair-preserved g c =
 pub invariant_of-result : goal.invariant_of-result
 invariant_of-result g c =
     let game = g.met.G.Game.lawful c.args.g in
-    let some_row : 1 ≤ c.args.table.now.height = omega (arith, game.other_moves One c.args.s c.requires.reachable c.requires.goes_on, c.requires.shape.height) in
-    let few_rows : c.args.table.now.height ≤ MOST_MOVES = omega (arith, game.moves_high One c.args.s c.requires.reachable, game.width_high, c.requires.shape.height) in
-    let some_col : 1 ≤ c.args.table.now.width = omega (arith, game.other_moves Two c.args.s c.requires.reachable c.requires.goes_on, c.requires.shape.width) in
-    let few_cols : c.args.table.now.width ≤ MOST_MOVES = omega (arith, game.moves_high Two c.args.s c.requires.reachable, game.width_high, c.requires.shape.width) in
+    let h = c.requires.here in
     let all_pairs : c.loop-pair.pair ≡ c.args.table.now.height * c.args.table.now.width = search rules in
     record {
-      some_row = some_row;
-      few_rows = few_rows;
-      some_col = some_col;
-      few_cols = few_cols;
+      some_row = omega (arith, game.other_moves One c.args.s h.reachable h.goes_on, h.shape.height);
+      few_rows = omega (arith, game.moves_high One c.args.s h.reachable, game.width_high, h.shape.height);
+      some_col = omega (arith, game.other_moves Two c.args.s h.reachable h.goes_on, h.shape.width);
+      few_cols = omega (arith, game.moves_high Two c.args.s h.reachable, game.width_high, h.shape.width);
       all = ap (λ (l : List ℤ). length l) c.loop-pair.invariant.cells_so_far ∙ length-map-range_with_len _ 0 c.loop-pair.pair ∙ all_pairs;
       small = c.loop-pair.invariant.small;
     }

@@ -11,20 +11,14 @@ pub weighted-sum-requires-clause-light : goal.weighted-sum-requires-clause-light
 weighted-sum-requires-clause-light g c =
     let below : c.loop-draw.draw < (g.G.Game.model c.args.g).draws c.args.s c.args.one c.args.two = search rules in
     rw c.chance-chance.ensures
-    (chance_light (g.G.Game.model c.args.g) c.args.s c.args.one c.args.two c.loop-draw.draw (g.met.G.Game.lawful c.args.g) c.requires.reachable c.requires.one c.requires.two below)
+    (chance_light (g.G.Game.model c.args.g) c.args.s c.args.one c.args.two c.loop-draw.draw (g.met.G.Game.lawful c.args.g) c.requires.here.reachable c.requires.one c.requires.two below)
 
 pub loop-draw-preserved : goal.loop-draw-preserved
 loop-draw-preserved g c =
     let m = g.G.Game.model c.args.g in
     let few : c.loop-draw.draw < 13 =
-    omega (
-      arith,
-      c.requires.shape.stride.draws c.args.one c.args.two c.requires.one
-          c.requires.two,
-      c.requires.shape.stride.few,
-      c.draws-draw-end.ensures,
-      c.loop-draw-test.true,
-    ) in
+    let stride = c.requires.here.shape.stride in
+    omega (arith, stride.draws c.args.one c.args.two c.requires.one c.requires.two, stride.few, c.draws-draw-end.ensures, c.loop-draw-test.true) in
     let number : to_z w64 (of_z w64 c.number.result) ≡ bound_in c.args.side (enclosure_in c.args.table.now c.args.one c.args.two c.loop-draw.draw) = search rules in
     let step = sum_step c.loop-draw.draw
     (λ draw. pos (m.chance c.args.s c.args.one c.args.two draw) *ℤ bound_in c.args.side (enclosure_in c.args.table.now c.args.one c.args.two draw))
@@ -46,4 +40,4 @@ pub returns-clause-small : goal.returns-clause-small
 returns-clause-small g c =
     let m = g.G.Game.model c.args.g in
     subst (λ (z : ℤ). unsigned_abs z ≤ 4000000000) (sym (returns-clause-value g c))
-    (cell_small m c.args.s c.args.side c.args.table.now c.args.one c.args.two (g.met.G.Game.lawful c.args.g) c.requires.reachable c.requires.shape c.requires.one c.requires.two)
+    (cell_small m c.args.s c.args.side c.args.table.now c.args.one c.args.two (g.met.G.Game.lawful c.args.g) c.requires.here.reachable c.requires.here.shape c.requires.one c.requires.two)

@@ -14,12 +14,12 @@ returns-in-Err-clause-board g c = only_read_after (g.G.Game.model c.args.g) c.ar
 pub loop-place-preserved : goal.loop-place-preserved
 loop-place-preserved g c =
     let found = c.in-Ok-read_child.ensures in
-    let some : 0 < c.moves-width.result = omega (arith, (g.met.G.Game.lawful c.args.g).other_moves Two c.args.s c.requires.reachable c.requires.goes_on, c.moves-width.ensures) in
+    let some : 0 < c.moves-width.result = omega (arith, (g.met.G.Game.lawful c.args.g).other_moves Two c.args.s c.requires.here.reachable c.requires.here.goes_on, c.moves-width.ensures) in
     let inside : c.loop-place.place < length c.loop-place.enclosures.items = search rules in
-    let stride = subst (IsStride (g.G.Game.model c.args.g) c.args.s) (sym c.stride-stride.ensures) c.requires.children.places.stride in
+    let stride = subst (IsStride (g.G.Game.model c.args.g) c.args.s) (sym c.stride-stride.ensures) c.requires.here.children.places.stride in
     record {
       board = only_read_after (g.G.Game.model c.args.g) c.args.s _ _ _ _ _ c.loop-place.invariant.board c.read_child.ensures.board;
-      filled = filled_more (g.G.Game.model c.args.g) c.args.s c.requires.reachable _ _ _ c.loop-place.invariant.board.later c.read_child.ensures.board.later c.args.rows.now
+      filled = filled_more (g.G.Game.model c.args.g) c.args.s c.requires.here.reachable _ _ _ c.loop-place.invariant.board.later c.read_child.ensures.board.later c.args.rows.now
           c.args.cols.now c.moves-width.result c.stride-stride.result c.moves-width.ensures some
           stride c.loop-place.place c.in-Ok-read_child.found found.read c.loop-place.enclosures.items inside c.loop-place.invariant.filled;
       small = All-set IsSmallEnclosure c.loop-place.enclosures.items _ _ found.small c.loop-place.invariant.small;
@@ -27,7 +27,7 @@ loop-place-preserved g c =
 
 pub returns-clause-filled : goal.returns-clause-filled
 returns-clause-filled g c =
-    let stride = subst (IsStride (g.G.Game.model c.args.g) c.args.s) (sym c.stride-stride.ensures) c.requires.children.places.stride in
+    let stride = subst (IsStride (g.G.Game.model c.args.g) c.args.s) (sym c.stride-stride.ensures) c.requires.here.children.places.stride in
     let all : c.loop-place.place ≡ c.moves-height.result * c.moves-width.result * c.stride-stride.result = search rules in
     record {
       read = λ one two draw p q w r.

@@ -45,14 +45,14 @@ below : (g : given.Over) (t : ℕ) (c : search_draws-After-turn_reward g t) → 
     × Reachable m child
 below g t c =
     let m = g.G.Game.model c.args.task.now.game in
-    let at : c.loop-d.d < draws_of m c.args.task.now.side c.args.s c.args.own c.args.reply = rw (← c.requires.draws) c.loop-d-test.true in
-    let child = rw (c.move_of_one-one.ensures, c.move_of_two-two.ensures) at c.drawn-child.ensures in
+    let d = drawn g t (goal.at.search_draws-After-turn_reward g t c).After-drawn-child in
     let fo : SFits w64 c.opening_bound.result = search rules in
     let fp : SFits w64 c.opening_bound-2.result = search rules in (
-      rw (to_z-of_z w64 c.opening_bound.result fo, to_z-of_z w64 c.opening_bound-2.result fp, c.opening_bound.ensures, c.opening_bound-2.ensures, c.other.ensures, child)
+      rw (to_z-of_z w64 c.opening_bound.result fo, to_z-of_z w64 c.opening_bound-2.result fp, c.opening_bound.ensures, c.opening_bound-2.ensures, c.other.ensures, d.1)
           at c.in_ok-found.ensures.ends.ends,
       rw (c.move_of_one-one.ensures, c.move_of_two-two.ensures) at c.turn_reward.ensures,
-      child_is m (g.met.G.Game.lawful c.args.task.now.game) c.args.task.now.side c.args.s c.args.own c.args.reply c.loop-d.d c.requires.reachable c.requires.own_move c.requires.reply at,
+      child_is m (g.met.G.Game.lawful c.args.task.now.game) c.args.task.now.side c.args.s c.args.own c.args.reply c.loop-d.d c.requires.here.reachable
+          c.requires.own_move c.requires.reply d.0,
     )
 
 -- the chance of the draw and the number of its turn
@@ -66,18 +66,12 @@ number g t c =
     let at : c.loop-d.d < draws_of m c.args.task.now.side c.args.s c.args.own c.args.reply = rw (← c.requires.draws) c.loop-d-test.true in
     let child = child_of m c.args.task.now.side c.args.s c.args.own c.args.reply c.loop-d.d in
     let v = g.B.Bounds.view c.search_state.new.board in
-    let fo : SFits w64 c.opening_bound.result = search rules in
-    let fp : SFits w64 c.opening_bound-2.result = search rules in
+    let b = below g t (goal.at.search_draws-After-chance g t c).After-turn_reward in
     let fr : SFits w64 c.turn_reward.result = search rules in
     let fx : SFits w64 c.in_ok-found.found = search rules in
     let pay : ℤ = turn_reward m c.args.task.now.side c.args.s c.args.own c.args.reply c.loop-d.d in
-    let there = rw (c.move_of_one-one.ensures, c.move_of_two-two.ensures) at c.drawn-child.ensures in
-    let found = rw (to_z-of_z w64 c.opening_bound.result fo, to_z-of_z w64 c.opening_bound-2.result fp, c.opening_bound.ensures, c.opening_bound-2.ensures, c.other.ensures, there)
-    at c.in_ok-found.ensures.ends.ends in
-    let paid : c.turn_reward.result ≡ pay = rw (c.move_of_one-one.ensures, c.move_of_two-two.ensures) at c.turn_reward.ensures in
-    let reach = child_is m (g.met.G.Game.lawful c.args.task.now.game) c.args.task.now.side c.args.s c.args.own c.args.reply c.loop-d.d c.requires.reachable c.requires.own_move c.requires.reply at in
-    let sum : c.with_reward-number.result ≡ pay +ℤ c.in_ok-found.found = rw (to_z-of_z w64 c.turn_reward.result fr, to_z-of_z w64 c.in_ok-found.found fx, paid) at c.with_reward-number.ensures in
-    let is = whole_range m (g.met.G.Game.lawful c.args.task.now.game) c.args.task.now.side child v c.in_ok-found.found reach found c.requires.wide in (
+    let sum : c.with_reward-number.result ≡ pay +ℤ c.in_ok-found.found = rw (to_z-of_z w64 c.turn_reward.result fr, to_z-of_z w64 c.in_ok-found.found fx, b.1) at c.with_reward-number.ensures in
+    let is = whole_range m (g.met.G.Game.lawful c.args.task.now.game) c.args.task.now.side child v c.in_ok-found.found b.2 b.0 c.requires.wide in (
       at,
       rw (c.move_of_one-one.ensures, c.move_of_two-two.ensures) at c.chance.ensures,
       sum ∙ ap (λ (x : ℤ). pay +ℤ x) is.0,
@@ -93,7 +87,7 @@ search_draws-with_reward-number-requires g t c =
     let fr : SFits w64 c.turn_reward.result = search rules in
     let fx : SFits w64 c.in_ok-found.found = search rules in
     rw (to_z-of_z w64 c.turn_reward.result fr, to_z-of_z w64 c.in_ok-found.found fx, b.1) (record {
-      reward = reward_small m game c.args.task.now.side c.args.s c.args.own c.args.reply c.loop-d.d c.requires.reachable (turn_by g t here.After-drawn-child);
+      reward = reward_small m game c.args.task.now.side c.args.s c.args.own c.args.reply c.loop-d.d c.requires.here.reachable (turn_by g t here.After-drawn-child);
       found = range_small m game c.args.task.now.side _ c.in_ok-found.found b.2 b.0.range;
     })
 
@@ -101,7 +95,7 @@ pub search_draws-loop-d-init : goal.search_draws-loop-d-init
 search_draws-loop-d-init g t c = record {
   kept = kept_none;
   same_limit = refl;
-  remembered = c.requires.remembered;
+  remembered = c.requires.here.remembered;
   below = λ some. absurd (omega arith);
   summed = refl;
   good = λ d h. absurd (omega arith);
@@ -114,10 +108,10 @@ search_draws-search_state-requires g t c =
     let d = drawn g t (goal.at.search_draws-search_state-requires g t c).After-drawn-child in
     let fo : SFits w64 c.opening_bound.result = search rules in
     let fp : SFits w64 c.opening_bound-2.result = search rules in
-    let reach : Reachable m c.drawn-child.result = rw d.1 (child_is m game c.args.task.now.side c.args.s c.args.own c.args.reply c.loop-d.d c.requires.reachable c.requires.own_move
+    let reach : Reachable m c.drawn-child.result = rw d.1 (child_is m game c.args.task.now.side c.args.s c.args.own c.args.reply c.loop-d.d c.requires.here.reachable c.requires.own_move
     c.requires.reply d.0) in
     let lower : m.rank c.drawn-child.result < m.rank c.args.s =
-    rw d.1 (child_lower m game c.args.task.now.side c.args.s c.args.own c.args.reply c.loop-d.d c.requires.reachable c.requires.own_move c.requires.reply d.0) in
+    rw d.1 (child_lower m game c.args.task.now.side c.args.s c.args.own c.args.reply c.loop-d.d c.requires.here.reachable c.requires.own_move c.requires.reply d.0) in
     let window : IsWindow m c.args.task.now.side c.drawn-child.result (to_z w64 (of_z w64 c.opening_bound.result)) (to_z w64 (of_z w64 c.opening_bound-2.result)) =
     rw (to_z-of_z w64 c.opening_bound.result fo, to_z-of_z w64 c.opening_bound-2.result fp, c.opening_bound.ensures, c.opening_bound-2.ensures, c.other.ensures)
     (whole_window m game c.args.task.now.side c.drawn-child.result reach c.requires.wide) in
@@ -136,13 +130,13 @@ search_draws-chance-requires-clause-two g t c =
 pub search_draws-overflow_mul-sum : goal.search_draws-overflow_mul-sum
 search_draws-overflow_mul-sum g t c =
     let n = number g t (goal.at.search_draws-overflow_mul-sum g t c).After-chance in
-    product_fits (g.G.Game.model c.args.task.now.game) (g.met.G.Game.lawful c.args.task.now.game) c.args.task.now.side c.args.s c.args.own c.args.reply c.requires.reachable
+    product_fits (g.G.Game.model c.args.task.now.game) (g.met.G.Game.lawful c.args.task.now.game) c.args.task.now.side c.args.s c.args.own c.args.reply c.requires.here.reachable
     c.requires.own_move c.requires.reply c.loop-d.d n.0 c.chance.result n.1 c.with_reward-number.result n.2
 
 pub search_draws-overflow_add-sum : goal.search_draws-overflow_add-sum
 search_draws-overflow_add-sum g t c =
     let n = number g t (goal.at.search_draws-overflow_add-sum g t c).After-chance in
-    added_fits (g.G.Game.model c.args.task.now.game) (g.met.G.Game.lawful c.args.task.now.game) c.args.task.now.side c.args.s c.args.own c.args.reply c.requires.reachable
+    added_fits (g.G.Game.model c.args.task.now.game) (g.met.G.Game.lawful c.args.task.now.game) c.args.task.now.side c.args.s c.args.own c.args.reply c.requires.here.reachable
     c.requires.own_move c.requires.reply c.loop-d.d n.0 c.chance.result n.1 c.with_reward-number.result n.2 (to_z w64 c.loop-d.sum-bits) c.loop-d.invariant.summed
 
 pub search_draws-returns-in_err-found : goal.search_draws-returns-in_err-found
@@ -178,9 +172,9 @@ search_draws-loop-d-preserved g t c =
           (draws_of m c.args.task.now.side c.args.s c.args.own c.args.reply) c.loop-d.invariant.kept (rw d.1 at c.search_state.ensures.ends.kept);
       same_limit = c.search_state.ensures.ends.same_limit ∙ c.loop-d.invariant.same_limit;
       remembered = c.search_state.ensures.ends.remembered;
-      summed = added_is m game c.args.task.now.side c.args.s c.args.own c.args.reply c.requires.reachable c.requires.own_move c.requires.reply c.loop-d.d n.0 c.chance.result n.1
+      summed = added_is m game c.args.task.now.side c.args.s c.args.own c.args.reply c.requires.here.reachable c.requires.own_move c.requires.reply c.loop-d.d n.0 c.chance.result n.1
           c.with_reward-number.result n.2 (to_z w64 c.loop-d.sum-bits) c.loop-d.invariant.summed;
-      good = good_more m game c.args.task.now.side c.args.s c.args.own c.args.reply c.requires.reachable c.requires.own_move c.requires.reply c.loop-d.d n.0 c.chance.result n.1
+      good = good_more m game c.args.task.now.side c.args.s c.args.own c.args.reply c.requires.here.reachable c.requires.own_move c.requires.reply c.loop-d.d n.0 c.chance.result n.1
           c.with_reward-number.result n.2 (g.B.Bounds.view c.loop-d.board) (g.B.Bounds.view c.search_state.new.board) c.search_state.ensures.ends.kept.later c.loop-d.invariant.good n.3;
     }
 
@@ -188,7 +182,7 @@ pub search_draws-quotient-requires-clause-negatable : goal.search_draws-quotient
 search_draws-quotient-requires-clause-negatable g t c =
     let m = g.G.Game.model c.args.task.now.game in
     let all : c.loop-d.d ≡ draws_of m c.args.task.now.side c.args.s c.args.own c.args.reply = omega (arith, c.requires.draws, c.loop-d-test.false, c.loop-d.auto.d-end) in
-    let low = sum_low m (g.met.G.Game.lawful c.args.task.now.game) c.args.task.now.side c.args.s c.args.own c.args.reply c.requires.reachable c.requires.own_move c.requires.reply
+    let low = sum_low m (g.met.G.Game.lawful c.args.task.now.game) c.args.task.now.side c.args.s c.args.own c.args.reply c.requires.here.reachable c.requires.own_move c.requires.reply
     c.loop-d.d (omega arith) in
     rw c.loop-d.invariant.summed (omega (arith, ints))
 
@@ -203,13 +197,13 @@ search_draws-returns g t c =
     c.quotient.ensures ∙ ap (rounded c.args.task.now.side) (summed
     ∙ ap (λ (n : ℕ). sum_below n (λ d. pos (chance_of m c.args.task.now.side c.args.s c.args.own c.args.reply d) *ℤ turn_value m c.args.task.now.side
     c.args.s c.args.own c.args.reply d)) all) in
-    let some = some_draws m game c.args.task.now.side c.args.s c.args.own c.args.reply c.requires.reachable c.requires.own_move c.requires.reply in
+    let some = some_draws m game c.args.task.now.side c.args.s c.args.own c.args.reply c.requires.here.reachable c.requires.own_move c.requires.reply in
     λ floor ceiling. record {
       kept = subst (λ (n : ℕ). IsSerialKept m c.args.task.now.side (count_below n (λ d. tree_size m (child_of m c.args.task.now.side c.args.s c.args.own c.args.reply d)))
           (g.B.Bounds.view c.args.board.now) (g.B.Bounds.view c.loop-d.board) c.args.worker.now.visits c.loop-d.worker.visits) all c.loop-d.invariant.kept;
       same_limit = c.loop-d.invariant.same_limit;
       remembered = c.loop-d.invariant.remembered;
-      ends = rw (to_z-of_z w64 c.quotient.result fm, is) (pair_several m game c.args.task.now.side c.args.s c.requires.reachable c.requires.goes_on c.args.own c.requires.own_move
+      ends = rw (to_z-of_z w64 c.quotient.result fm, is) (pair_several m game c.args.task.now.side c.args.s c.requires.here.reachable c.requires.here.goes_on c.args.own c.requires.own_move
           c.args.reply c.requires.reply floor ceiling (g.B.Bounds.view c.loop-d.board) (λ d h. c.loop-d.invariant.good d (omega arith)));
       below = c.loop-d.invariant.below (omega (arith, some, all));
     }
@@ -244,9 +238,9 @@ search_move-loop-reply-init g t c =
     rw (to_z-of_z w64 c.better-highest.result fo, highest, c.state_bound-all.ensures, c.other.ensures) (record {
       kept = kept_none;
       same_limit = refl;
-      remembered = c.requires.remembered;
+      remembered = c.requires.here.remembered;
       below = λ some. absurd (omega arith);
-      so_far = replies_start (g.G.Game.model c.args.task.now.game) (g.met.G.Game.lawful c.args.task.now.game) c.args.task.now.side c.args.s c.requires.reachable c.requires.goes_on
+      so_far = replies_start (g.G.Game.model c.args.task.now.game) (g.met.G.Game.lawful c.args.task.now.game) c.args.task.now.side c.args.s c.requires.here.reachable c.requires.here.goes_on
           c.args.own c.requires.own_move c.args.window.worse c.args.window.better (g.B.Bounds.view c.args.board.now) c.requires.window;
     })
 
@@ -275,7 +269,7 @@ search_move-returns-then-not-is_tighter g t c =
           at c.search_pair.ensures.kept;
       same_limit = c.search_pair.ensures.same_limit ∙ c.loop-reply.invariant.same_limit;
       remembered = c.search_pair.ensures.remembered;
-      ends = rw r.2 (replies_stop m (g.met.G.Game.lawful c.args.task.now.game) c.args.task.now.side c.args.s c.requires.reachable c.requires.goes_on c.args.own
+      ends = rw r.2 (replies_stop m (g.met.G.Game.lawful c.args.task.now.game) c.args.task.now.side c.args.s c.requires.here.reachable c.requires.here.goes_on c.args.own
           c.requires.own_move c.args.window.worse c.args.window.better c.loop-reply.reply at (to_z w64 c.loop-reply.least-bits) c.in_ok-found.found
           (g.B.Bounds.view c.loop-reply.board) (g.B.Bounds.view c.search_pair.new.board) c.search_pair.ensures.kept.later r.0 r.1 test);
       below = let so_far = c.loop-reply.invariant.kept.visits.rises in let now = c.in_ok-found.ensures.below in omega (arith, so_far, now);
@@ -311,7 +305,7 @@ search_move-loop-reply-preserved g t c =
           c.search_pair.ensures.kept;
       same_limit = c.search_pair.ensures.same_limit ∙ c.loop-reply.invariant.same_limit;
       remembered = c.search_pair.ensures.remembered;
-      so_far = replies_more m (g.met.G.Game.lawful c.args.task.now.game) c.args.task.now.side c.args.s c.requires.reachable c.requires.goes_on c.args.own c.requires.own_move
+      so_far = replies_more m (g.met.G.Game.lawful c.args.task.now.game) c.args.task.now.side c.args.s c.requires.here.reachable c.requires.here.goes_on c.args.own c.requires.own_move
           c.args.window.worse c.args.window.better c.loop-reply.reply at (to_z w64 c.loop-reply.least-bits) c.in_ok-found.found (g.B.Bounds.view c.loop-reply.board)
           (g.B.Bounds.view c.search_pair.new.board) c.search_pair.ensures.kept.later r.0 r.1 test;
     })
@@ -358,10 +352,10 @@ search_move-returns g t c =
           (omega (arith, ap (λ (n : ℕ). count_below n (pair_nodes m c.args.task.now.side c.args.s c.args.own)) all));
       same_limit = c.loop-reply.invariant.same_limit;
       remembered = remembered_later c.post_move.ensures.later c.loop-reply.invariant.remembered;
-      ends = replies_end m (g.met.G.Game.lawful c.args.task.now.game) c.args.task.now.side c.args.s c.requires.reachable c.requires.goes_on c.args.own c.requires.own_move
+      ends = replies_end m (g.met.G.Game.lawful c.args.task.now.game) c.args.task.now.side c.args.s c.requires.here.reachable c.requires.here.goes_on c.args.own c.requires.own_move
           c.args.window.worse c.args.window.better (to_z w64 c.loop-reply.least-bits) (g.B.Bounds.view c.loop-reply.board) (g.B.Bounds.view c.post_move.new.board)
           so_far c.in_ok-post_move.ensures.seen;
-      below = let some = (g.met.G.Game.lawful c.args.task.now.game).other_moves (other_side c.args.task.now.side) c.args.s c.requires.reachable c.requires.goes_on in
+      below = let some = (g.met.G.Game.lawful c.args.task.now.game).other_moves (other_side c.args.task.now.side) c.args.s c.requires.here.reachable c.requires.here.goes_on in
           c.loop-reply.invariant.below (omega (arith, all, some));
     }
 
@@ -394,9 +388,9 @@ search_moves-loop-own-init g t c =
     rw (to_z-of_z w64 c.better-lowest.result fo, lowest, c.state_bound-all.ensures, c.other.ensures) (record {
       kept = kept_none;
       same_limit = refl;
-      remembered = c.requires.remembered;
+      remembered = c.requires.here.remembered;
       below = λ some. absurd (omega arith);
-      so_far = moves_start (g.G.Game.model c.args.task.now.game) (g.met.G.Game.lawful c.args.task.now.game) c.args.task.now.side c.args.s c.requires.reachable c.requires.goes_on
+      so_far = moves_start (g.G.Game.model c.args.task.now.game) (g.met.G.Game.lawful c.args.task.now.game) c.args.task.now.side c.args.s c.requires.here.reachable c.requires.here.goes_on
           c.args.window.worse c.args.window.better (g.B.Bounds.view c.args.board.now) c.requires.window c.requires.row.opened;
     })
 
@@ -412,9 +406,7 @@ search_moves-search_move-requires g t c =
     rw (to_z-of_z w64 c.better.result ff, to_z-of_z w64 c.args.window.better fb, floor)
     (move_window m c.args.task.now.side c.args.s c.args.window.worse c.args.window.better (to_z w64 c.loop-own.value-bits) c.requires.window so_far.wide so_far.near) in
     let here : c.loop-own.own < m.moves c.args.task.now.side c.args.s = rw (← c.moves-own-end.ensures) c.loop-own-test.true in
-    let same : (g.B.Bounds.view c.loop-own.board).game ≡ c.args.task.now.game = c.loop-own.invariant.kept.later.game ∙ c.requires.game in
     let row : (g.B.Bounds.view c.loop-own.board).key_at c.args.row ≡ Some (m.key c.args.s) = c.loop-own.invariant.kept.later.keys c.args.row _ c.requires.row.has_key in
-    let remembered : AreRemembered m (g.B.Bounds.view c.loop-own.board) c.loop-own.worker.table = c.loop-own.invariant.remembered in
     search rules
 
 pub search_moves-returns-then-not-is_tighter : goal.search_moves-returns-then-not-is_tighter
@@ -429,7 +421,7 @@ search_moves-returns-then-not-is_tighter g t c =
           c.search_move.ensures.kept;
       same_limit = c.search_move.ensures.same_limit ∙ c.loop-own.invariant.same_limit;
       remembered = c.search_move.ensures.remembered;
-      ends = rw r.2 (moves_stop m (g.met.G.Game.lawful c.args.task.now.game) c.args.task.now.side c.args.s c.requires.reachable c.requires.goes_on c.args.window.worse
+      ends = rw r.2 (moves_stop m (g.met.G.Game.lawful c.args.task.now.game) c.args.task.now.side c.args.s c.requires.here.reachable c.requires.here.goes_on c.args.window.worse
           c.args.window.better c.loop-own.own at (to_z w64 c.loop-own.value-bits) c.in_ok-found.found (g.B.Bounds.view c.loop-own.board) (g.B.Bounds.view c.search_move.new.board)
           c.search_move.ensures.kept.later r.0 r.1 test);
       below = let so_far = c.loop-own.invariant.kept.visits.rises in let now = c.in_ok-found.ensures.below in omega (arith, so_far, now);
@@ -465,7 +457,7 @@ search_moves-loop-own-preserved g t c =
           c.search_move.ensures.kept;
       same_limit = c.search_move.ensures.same_limit ∙ c.loop-own.invariant.same_limit;
       remembered = c.search_move.ensures.remembered;
-      so_far = moves_more m (g.met.G.Game.lawful c.args.task.now.game) c.args.task.now.side c.args.s c.requires.reachable c.requires.goes_on c.args.window.worse
+      so_far = moves_more m (g.met.G.Game.lawful c.args.task.now.game) c.args.task.now.side c.args.s c.requires.here.reachable c.requires.here.goes_on c.args.window.worse
           c.args.window.better c.loop-own.own at (to_z w64 c.loop-own.value-bits) c.in_ok-found.found (g.B.Bounds.view c.loop-own.board) (g.B.Bounds.view c.search_move.new.board)
           c.search_move.ensures.kept.later r.0 r.1 test;
     })
@@ -477,13 +469,13 @@ search_moves-returns g t c =
     let fb : SFits w64 c.args.window.better = search rules in
     let so_far = c.loop-own.invariant.so_far in
     let all : c.loop-own.own ≡ m.moves c.args.task.now.side c.args.s = omega (arith, c.moves-own-end.ensures, c.loop-own-test.false, c.loop-own.auto.own-end) in
-    let some = (g.met.G.Game.lawful c.args.task.now.game).other_moves c.args.task.now.side c.args.s c.requires.reachable c.requires.goes_on in
+    let some = (g.met.G.Game.lawful c.args.task.now.game).other_moves c.args.task.now.side c.args.s c.requires.here.reachable c.requires.here.goes_on in
     record {
       kept = subst (λ (n : ℕ). IsSerialKept m c.args.task.now.side (count_below n (move_nodes m c.args.task.now.side c.args.s)) (g.B.Bounds.view c.args.board.now)
           (g.B.Bounds.view c.loop-own.board) c.args.worker.now.visits c.loop-own.worker.visits) all c.loop-own.invariant.kept;
       same_limit = c.loop-own.invariant.same_limit;
       remembered = c.loop-own.invariant.remembered;
-      ends = moves_end m (g.met.G.Game.lawful c.args.task.now.game) c.args.task.now.side c.args.s c.requires.reachable c.requires.goes_on c.args.window.worse c.args.window.better
+      ends = moves_end m (g.met.G.Game.lawful c.args.task.now.game) c.args.task.now.side c.args.s c.requires.here.reachable c.requires.here.goes_on c.args.window.worse c.args.window.better
           (to_z w64 c.loop-own.value-bits) (g.B.Bounds.view c.loop-own.board)
           (subst (λ (n : ℕ). MovesSoFar m c.args.task.now.side c.args.s c.args.window.worse c.args.window.better n (to_z w64 c.loop-own.value-bits) (g.B.Bounds.view c.loop-own.board))
           all so_far);
@@ -506,8 +498,7 @@ paid : (g : given.Over) (t : ℕ) (c : search_pair-After-turn_reward-reward g t)
     × (to_z w64 (of_z w64 c.turn_reward-reward.result) ≡ turn_reward m c.args.task.now.side c.args.s c.args.own c.args.reply 0)
 paid g t c =
     let m = g.G.Game.model c.args.task.now.game in
-    let one : draws_of m c.args.task.now.side c.args.s c.args.own c.args.reply ≡ 1 =
-    (rw (c.move_of_one-one.ensures, c.move_of_two-two.ensures) at (sym c.draws-draws.ensures)) ∙ c.if-draws-ne1.false in
+    let one = (alone g t (goal.at.search_pair-After-turn_reward-reward g t c).After-drawn-child).0 in
     let some : 0 < draws_of m c.args.task.now.side c.args.s c.args.own c.args.reply = omega (arith, one) in
     let fr : SFits w64 c.turn_reward-reward.result = search rules in (
       some,
@@ -521,7 +512,8 @@ search_pair-window_after-after-requires g t c =
     record {
       worse = omega (arith, c.requires.window.from);
       better = omega (arith, c.requires.window.to);
-      reward = rw p.2 (reward_small (g.G.Game.model c.args.task.now.game) (g.met.G.Game.lawful c.args.task.now.game) c.args.task.now.side c.args.s c.args.own c.args.reply 0 c.requires.reachable p.1);
+      reward = rw p.2 (reward_small (g.G.Game.model c.args.task.now.game) (g.met.G.Game.lawful c.args.task.now.game) c.args.task.now.side c.args.s c.args.own c.args.reply 0
+          c.requires.here.reachable p.1);
     }
 
 pub search_pair-with_reward-requires : goal.search_pair-with_reward-requires
@@ -534,9 +526,9 @@ search_pair-with_reward-requires g t c =
     let found = rw one.1 at c.in_ok-found.ensures.ends.ends in
     let fx : SFits w64 c.in_ok-found.found = search rules in
     rw (p.2, to_z-of_z w64 c.in_ok-found.found fx) (record {
-      reward = reward_small m game c.args.task.now.side c.args.s c.args.own c.args.reply 0 c.requires.reachable p.1;
+      reward = reward_small m game c.args.task.now.side c.args.s c.args.own c.args.reply 0 c.requires.here.reachable p.1;
       found = range_small m game c.args.task.now.side _ c.in_ok-found.found
-          (child_is m game c.args.task.now.side c.args.s c.args.own c.args.reply 0 c.requires.reachable c.requires.own_move c.requires.reply p.0) found.range;
+          (child_is m game c.args.task.now.side c.args.s c.args.own c.args.reply 0 c.requires.here.reachable c.requires.own_move c.requires.reply p.0) found.range;
     })
 
 pub search_pair-returns-then-draws-ne1 :
@@ -549,15 +541,15 @@ search_pair-search_state-requires g t c =
     let game = g.met.G.Game.lawful c.args.task.now.game in
     let one = alone g t (goal.at.search_pair-search_state-requires g t c).After-drawn-child in
     let some : 0 < draws_of m c.args.task.now.side c.args.s c.args.own c.args.reply = omega (arith, one.0) in
-    let reach : Reachable m c.drawn-child.result = rw one.1 (child_is m game c.args.task.now.side c.args.s c.args.own c.args.reply 0 c.requires.reachable c.requires.own_move
+    let reach : Reachable m c.drawn-child.result = rw one.1 (child_is m game c.args.task.now.side c.args.s c.args.own c.args.reply 0 c.requires.here.reachable c.requires.own_move
     c.requires.reply some) in
     let lower : m.rank c.drawn-child.result < m.rank c.args.s =
-    rw one.1 (child_lower m game c.args.task.now.side c.args.s c.args.own c.args.reply 0 c.requires.reachable c.requires.own_move c.requires.reply some) in
+    rw one.1 (child_lower m game c.args.task.now.side c.args.s c.args.own c.args.reply 0 c.requires.here.reachable c.requires.own_move c.requires.reply some) in
     let p = paid g t (goal.at.search_pair-search_state-requires g t c).After-turn_reward-reward in
     let worse = rw p.2 at c.window_after-after.ensures.worse in
     let better = rw p.2 at c.window_after-after.ensures.better in
     let window : IsWindow m c.args.task.now.side c.drawn-child.result c.window_after-after.result.worse c.window_after-after.result.better =
-    rw (one.1, worse, better) (turn_window m game c.args.task.now.side c.args.s c.args.own c.args.reply 0 c.args.window.worse c.args.window.better c.requires.reachable p.1 c.requires.window) in
+    rw (one.1, worse, better) (turn_window m game c.args.task.now.side c.args.s c.args.own c.args.reply 0 c.args.window.worse c.args.window.better c.requires.here.reachable p.1 c.requires.window) in
     search rules
 
 pub search_pair-returns : goal.search_pair-returns
@@ -575,7 +567,7 @@ search_pair-returns g t c =
       kept = kept_after {a = 0} kept_none (rw one.1 at c.search_state.ensures.ends.kept) (rw one.0 (omega arith));
       same_limit = c.search_state.ensures.ends.same_limit;
       remembered = c.search_state.ensures.ends.remembered;
-      ends = rw (to_z-of_z w64 c.with_reward.result fn, number) (pair_one m (g.met.G.Game.lawful c.args.task.now.game) c.args.task.now.side c.args.s c.requires.reachable c.requires.goes_on
+      ends = rw (to_z-of_z w64 c.with_reward.result fn, number) (pair_one m (g.met.G.Game.lawful c.args.task.now.game) c.args.task.now.side c.args.s c.requires.here.reachable c.requires.here.goes_on
           c.args.own c.requires.own_move c.args.reply c.requires.reply c.args.window.worse c.args.window.better (g.B.Bounds.view c.search_state.new.board)
           c.in_ok-found.found one.0 found);
       below = c.in_ok-found.ensures.ends.below;
@@ -607,7 +599,7 @@ pub search_state-returns-then-left-eq0-clause-ends :
 search_state-returns-then-left-eq0-clause-ends g t c = record {
   kept = kept_none;
   same_limit = refl;
-  remembered = c.requires.remembered;
+  remembered = c.requires.here.remembered;
   ends = search rules;
   below = search rules;
 }
@@ -615,12 +607,12 @@ search_state-returns-then-left-eq0-clause-ends g t c = record {
 pub search_state-returns-then-is_stopped-clause-ends :
     goal.search_state-returns-then-is_stopped-clause-ends
 search_state-returns-then-is_stopped-clause-ends g t c =
-    let tree = tree_moves (g.G.Game.model c.args.task.now.game) (g.met.G.Game.lawful c.args.task.now.game) c.args.task.now.side c.args.s c.requires.reachable in
+    let tree = tree_moves (g.G.Game.model c.args.task.now.game) (g.met.G.Game.lawful c.args.task.now.game) c.args.task.now.side c.args.s c.requires.here.reachable in
     let allowed : c.args.task.now.may_stop ≡ true = c.if-is_stopped.ensures refl in
     record {
       kept = kept_after {a = 1} {b = 0} (kept_counted c.spend.ensures.counts) kept_none (omega arith);
       same_limit = refl;
-      remembered = c.requires.remembered;
+      remembered = c.requires.here.remembered;
       ends = λ whole. absurd (cc);
       below = search rules;
     }
@@ -630,28 +622,28 @@ pub search_state-returns-then-rank-eq0-clause-ends :
 search_state-returns-then-rank-eq0-clause-ends g t c =
     let m = g.G.Game.model c.args.task.now.game in
     let game = g.met.G.Game.lawful c.args.task.now.game in
-    let tree = tree_moves m game c.args.task.now.side c.args.s c.requires.reachable in
+    let tree = tree_moves m game c.args.task.now.side c.args.s c.requires.here.reachable in
     let fx : SFits w64 c.end_bound.result = search rules in
     let stop : m.rank c.args.s ≡ 0 = omega arith in
     record {
       kept = kept_after {a = 1} {b = 0} (kept_counted c.spend.ensures.counts) kept_none (omega arith);
       same_limit = refl;
-      remembered = c.requires.remembered;
+      remembered = c.requires.here.remembered;
       ends = rw (to_z-of_z w64 c.end_bound.result fx, c.end_bound.ensures) (found_end m game c.args.task.now.side c.args.s c.args.window.worse c.args.window.better (g.B.Bounds.view c.args.board.now)
-          c.requires.reachable stop);
+          c.requires.here.reachable stop);
       below = search rules;
     }
 
 pub search_state-search_inner-requires : goal.search_state-search_inner-requires
 search_state-search_inner-requires g t c =
     let m = g.G.Game.model c.args.task.now.game in
-    let remembered : AreRemembered m (g.B.Bounds.view c.row_of.new.board) c.args.worker.now.table = remembered_later c.row_of.ensures.later c.requires.remembered in
+    let remembered : AreRemembered m (g.B.Bounds.view c.row_of.new.board) c.args.worker.now.table = remembered_later c.row_of.ensures.later c.requires.here.remembered in
     search rules
 
 pub search_state-returns-in-Ok : goal.search_state-returns-in-Ok
 search_state-returns-in-Ok g t c =
     let m = g.G.Game.model c.args.task.now.game in
-    let tree = tree_moves m (g.met.G.Game.lawful c.args.task.now.game) c.args.task.now.side c.args.s c.requires.reachable in
+    let tree = tree_moves m (g.met.G.Game.lawful c.args.task.now.game) c.args.task.now.side c.args.s c.requires.here.reachable in
     let ends = c.search_inner.ensures.ends in
     record {
       ends = record {
@@ -671,11 +663,11 @@ search_state-returns-in-Ok g t c =
 
 pub search_state-returns-in-Err-clause-ends : goal.search_state-returns-in-Err-clause-ends
 search_state-returns-in-Err-clause-ends g t c =
-    let tree = tree_moves (g.G.Game.model c.args.task.now.game) (g.met.G.Game.lawful c.args.task.now.game) c.args.task.now.side c.args.s c.requires.reachable in
+    let tree = tree_moves (g.G.Game.model c.args.task.now.game) (g.met.G.Game.lawful c.args.task.now.game) c.args.task.now.side c.args.s c.requires.here.reachable in
     record {
       kept = kept_after {a = 1} {b = 0} (kept_counted c.spend.ensures.counts) (kept_quiet c.row_of.ensures.later c.row_of.ensures.entries) (omega arith);
       same_limit = refl;
-      remembered = remembered_later c.row_of.ensures.later c.requires.remembered;
+      remembered = remembered_later c.row_of.ensures.later c.requires.here.remembered;
       ends = search rules;
       below = search rules;
     }
@@ -688,10 +680,10 @@ told_before : (g : given.Over) (t : ℕ) (c : search_inner-After-recall g t) →
 told_before g t c =
     let fit_worse : SFits w64 c.args.window.worse = search rules in
     let fit_better : SFits w64 c.args.window.better = search rules in
-    let here = c.requires.remembered.each _ _ (sym c.probe.ensures ∙ c.in-Some.is) in (
-      rw (to_z-of_z w64 c.args.window.worse fit_worse, to_z-of_z w64 c.args.window.better fit_better) at (here.found c.args.s c.requires.reachable (sym c.key.ensures)),
+    let here = c.requires.here.remembered.each _ _ (sym c.probe.ensures ∙ c.in-Some.is) in (
+      rw (to_z-of_z w64 c.args.window.worse fit_worse, to_z-of_z w64 c.args.window.better fit_better) at (here.found c.args.s c.requires.here.reachable (sym c.key.ensures)),
       here.some,
-      here.few c.args.s c.requires.reachable (sym c.key.ensures),
+      here.few c.args.s c.requires.here.reachable (sym c.key.ensures),
     )
 
 pub search_inner-returns-in-Some : goal.search_inner-returns-in-Some
@@ -701,7 +693,7 @@ search_inner-returns-in-Some g t c =
     record {
       kept = kept_counted (counts_after {b = 0} c.recall.ensures.counts counts_none (omega (arith, told.2)));
       same_limit = refl;
-      remembered = c.requires.remembered;
+      remembered = c.requires.here.remembered;
       ends = recall_ends (IsFound m c.args.task.now.side c.args.s c.args.window.worse c.args.window.better (g.B.Bounds.view c.args.board.now))
           (WasFull m (g.B.Bounds.view c.args.board.now) (LeadsTo m c.args.s)) c.in-Some.memo.number c.recall.result told.0 (cut_more told.2)
           c.recall.ensures.ok c.recall.ensures.cut c.recall.ensures.err;
@@ -725,7 +717,7 @@ search_inner-returns-in_ok-number-in-None g t c =
     record {
       kept = c.search_moves-in-None.ensures.kept;
       same_limit = c.store.ensures.limit ∙ c.search_moves-in-None.ensures.same_limit;
-      remembered = remembered_more (g.met.G.Game.lawful c.args.task.now.game) c.args.s c.requires.reachable (sym c.key.ensures) found some few
+      remembered = remembered_more (g.met.G.Game.lawful c.args.task.now.game) c.args.s c.requires.here.reachable (sym c.key.ensures) found some few
           c.search_moves-in-None.ensures.remembered stored;
       ends = search rules;
       below = search rules;

@@ -14,7 +14,8 @@ search_state-requires-clause-window g c =
     let worse = simp to_z-of_z at c.worse.ensures in
     let better = simp to_z-of_z at c.better.ensures in
     rw (to_z-of_z w64 c.worse.result fw, to_z-of_z w64 c.better.result fb, worse, better)
-    (range_window (g.G.Game.model c.args.task.now.game) (g.met.G.Game.lawful c.args.task.now.game) c.args.task.now.side c.args.s c.args.window.0 c.args.window.1 c.requires.reachable c.requires.window)
+    (range_window (g.G.Game.model c.args.task.now.game) (g.met.G.Game.lawful c.args.task.now.game) c.args.task.now.side c.args.s c.args.window.0 c.args.window.1
+    c.requires.here.reachable c.requires.window)
 
 pub returns-in-Ok : goal.returns-in-Ok
 returns-in-Ok g c =
@@ -43,7 +44,7 @@ returns-in-Ok g c =
         entered = c.search_state.ensures.entered;
         below = λ goes _. let ok = c.search_state.ensures.below goes in let is = c.in-Ok.is in search rules;
         seen = λ goes. shown m c.args.task.now.side c.args.s c.args.window.0 c.args.window.1 v c.in-Ok.value c.placed.result goes c.requires.window.wide found placed;
-        whole = λ p q goes _. whole_known m game c.args.task.now.side c.args.s v c.in-Ok.value c.requires.reachable goes (rw (p, q) at c.requires.window.wide) (rw (p, q) at found);
+        whole = λ p q goes _. whole_known m game c.args.task.now.side c.args.s v c.in-Ok.value c.requires.here.reachable goes (rw (p, q) at c.requires.window.wide) (rw (p, q) at found);
         full = λ e. cc;
       };
     }

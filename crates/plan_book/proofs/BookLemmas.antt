@@ -1,10 +1,11 @@
 -- The best bounds of a list of entries.
-use Rattle.std.proofs.Common.{◌≡◌, ◌≢◌, ⊎_elim, ℕ, ℤ, Bool, true, false, ◌&&◌, cond, eqb, Option, None, Some, List, [], ◌∷◌, ◌++◌, All, fold, refl, sym, ap, ◌∙◌, subst, arith}
+use Rattle.std.proofs.Common.{◌≡◌, ◌≢◌, ⊎_elim, ℕ, ℤ, Bool, true, false, ◌&&◌, cond, eqb, Option, None, Some, List, [], ◌∷◌, ◌++◌, All, fold, length, ◌≤◌, refl, sym, ap, ◌∙◌, subst, arith}
 use Rattle.std.proofs.lemmas.Int.{ints, clamps}
 use Rattle.std.proofs.lemmas.Bool.{eqb-true}
 use Rattle.std.proofs.lemmas.Bool.Decides.{nat_tests}
 use Rattle.std.specs.List.{AllByRecursion}
 use Rattle.std.proofs.lemmas.List.Elements.{All-head, All-tail, All-weaker}
+use Rattle.sums.specs.declared.TheConstants.{MOST_MOVES}
 use Rattle.sim_game.specs.declared.Side.{Side}
 use Rattle.sim_game.specs.declared.Side.TheVariants.{One, Two}
 use Rattle.sim_game.specs.Model.{GameModel, IsGame, Reachable}
@@ -123,6 +124,10 @@ best_range m total Known es side of key game each =
 
       entry_in : (of : Side) (e : Entry) → IsEntry m total Known e → IsNoTighter of (opening_bound m of) e.bound
       entry_in of e lawful = entry_range m game total Known of e lawful
+
+-- an entry has no more weights than a side may have moves
+pub few_weights : {S : Type 0} (m : GameModel S) → IsGame m → (total : ℕ) (Known : Side → S → ℤ → Type 0) (e : Entry) → IsEntry m total Known e → length e.weights ≤ MOST_MOVES
+few_weights m game total Known e entry = omega (arith, entry.step.one_each, game.moves_high e.side entry.state entry.reachable, game.width_high)
 
 pub eqb_other : (k l : ℕ) → k ≢ l → eqb k l ≡ false
 eqb_other k l n = grind (arith, nat_tests)

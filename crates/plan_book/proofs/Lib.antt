@@ -11,6 +11,7 @@ pub mod PlainBoundLemmas
 pub mod PlainPlanLemmas
 pub mod PlainStateLemmas
 pub mod PlayedLemmas
+pub mod RecordLemmas
 pub mod WalkLemmas
 pub mod SerialLemmas
 pub mod SheetLemmas

@@ -9,6 +9,7 @@ pub mod PlainBounds
 pub mod PlainGames
 pub mod PlainPlans
 pub mod Plans
+pub mod Records
 pub mod Serial
 pub mod Sheets
 pub mod Steps

@@ -3,11 +3,14 @@
 ghost use Rattle.std.specs.Prelude.{◌≡◌, ◌<◌, ◌&&◌, [], length, nat_eq, IfOk, OnOk, IfSome, option_and_then, slice_get};
 ghost use Rattle.std.specs.HashMap.{get};
 ghost use Rattle.plan_book.specs.Books.{ArePlaces, is_tighter, same_side, beats, best_row, row_of, IsBestSheet};
+ghost use Rattle.plan_book.specs.Records.{entry_of};
 ghost use Rattle.plan_book.specs.Gathered.{AreTaken, IsGathered};
 ghost use Rattle.plan_book.specs.Sheets.{row_at, IsReached};
 
+use crate::book::Book;
 use crate::follow::children;
-use crate::{Entry, Sheet, SheetRow};
+use crate::records::EntryRef;
+use crate::{Sheet, SheetRow};
 use seq::Seq;
 use sim_game::{Game, NoMemory, Side};
 use std::alloc::Global;
@@ -24,14 +27,14 @@ fn is_tighter(side: Side, bound: i64, other: i64) -> bool
 }
 
 /// Whether an entry is of the side and tighter than the one at the place of its key, if that has one.
-fn is_better(side: Side, entries: &[Entry], best: &HashMap<u64, usize>, e: &Entry) -> bool
-    requires { IfSome (get nat_eq best.now e.now.key) (λ i. i < length entries.now) }
+fn is_better(side: Side, book: &Book, best: &HashMap<u64, usize>, e: &EntryRef<'_>) -> bool
+    requires { IfSome (get nat_eq best.now e.now.key) (λ i. i < length book.now.entries) }
     ensures { result ≡ (same_side e.now.side side
-        && beats side e.now (option_and_then (slice_get entries.now) (get nat_eq best.now e.now.key))) }
+        && beats side (entry_of e.now) (option_and_then (slice_get book.now.entries) (get nat_eq best.now e.now.key))) }
 {
     match (e.side, side) {
         (Side::One, Side::One) | (Side::Two, Side::Two) => match best.get(&e.key) {
-            Some(&i) => is_tighter(side, e.bound, entries[i].bound),
+            Some(&i) => is_tighter(side, e.bound, book.entry_at(i).bound),
             None => true,
         },
         _ => false,
@@ -39,16 +42,13 @@ fn is_better(side: Side, entries: &[Entry], best: &HashMap<u64, usize>, e: &Entr
 }
 
 /// The places of the best entries of a side, by key.
-pub fn best_places(
-    alloc: Global,
-    entries: &[Entry],
-    side: Side,
-) -> Result<HashMap<u64, usize>, NoMemory>
-    ensures { IfOk result (λ places. ArePlaces side entries.now (get nat_eq places)) }
+pub fn best_places(alloc: Global, book: &Book, side: Side) -> Result<HashMap<u64, usize>, NoMemory>
+    ensures { IfOk result (λ places. ArePlaces side book.now.entries (get nat_eq places)) }
 {
     let mut best: HashMap<u64, usize> = HashMap::new(alloc);
-    for (i, e) in entries.iter().enumerate() {
-        if is_better(side, entries, &best, e) {
+    for i in 0..book.len() {
+        let e = book.entry_at(i);
+        if is_better(side, book, &best, &e) {
             best.insert(e.key, i)?;
         }
     }
@@ -60,34 +60,34 @@ pub fn gather<G: Game>(
     alloc: Global,
     g: G,
     side: Side,
-    entries: &[Entry],
+    book: &Book,
     left: &mut HashMap<u64, usize>,
     s: G::State,
     rows: &mut Vec<SheetRow>,
 ) -> Result<(), NoMemory>
-    requires reached { IsReached (G.model g) side (best_row side entries.now) s }
-    requires taken { AreTaken (G.model g) side entries.now (get nat_eq left.old) rows.old.items }
-    ensures taken { OnOk result (AreTaken (G.model g) side entries.now (get nat_eq left.new) rows.new.items) }
-    ensures gathered { OnOk result
-        (IsGathered (G.model g) side (best_row side entries.now) s (row_at rows.old.items) (row_at rows.new.items)) }
+    requires reached { IsReached (G.model g) side (best_row side book.now.entries) s }
+    requires taken { AreTaken (G.model g) side book.now.entries (get nat_eq left.old) rows.old.items }
+    ensures taken { OnOk result (AreTaken (G.model g) side book.now.entries (get nat_eq left.new) rows.new.items) }
+    ensures gathered { OnOk result (IsGathered (G.model g) side (best_row side book.now.entries) s
+        (row_at rows.old.items) (row_at rows.new.items)) }
 {
     let Some(place) = left.remove(&g.key(s)) else {
         return Ok(());
     };
-    let e = &entries[place];
-    rows.push(row_of(alloc, e)?)?;
-    let below = children(alloc, g, side, e.weights.as_slice(), s)?;
+    let e = book.entry_at(place);
+    rows.push(row_of(alloc, &e)?)?;
+    let below = children(alloc, g, side, e.weights, s)?;
     for child in &below {
-        gather(alloc, g, side, entries, left, *child, rows)?;
+        gather(alloc, g, side, book, left, *child, rows)?;
     }
     Ok(())
 }
 
 /// An entry as a row.
-fn row_of(alloc: Global, e: &Entry) -> Result<SheetRow, NoMemory>
-    ensures { IfOk result (λ row. row ≡ row_of e.now) }
+fn row_of(alloc: Global, e: &EntryRef<'_>) -> Result<SheetRow, NoMemory>
+    ensures { IfOk result (λ row. row ≡ row_of (entry_of e.now)) }
 {
-    let weights = Seq::from_vec(Vec::from_slice(alloc, e.weights.as_slice())?);
+    let weights = Seq::from_vec(Vec::from_slice(alloc, e.weights)?);
     Ok(SheetRow {
         key: e.key,
         bound: e.bound,
@@ -96,24 +96,18 @@ fn row_of(alloc: Global, e: &Entry) -> Result<SheetRow, NoMemory>
 }
 
 /// The sheet of the best entries.
-pub fn best_sheet<G: Game>(
-    alloc: Global,
-    g: G,
-    side: Side,
-    total: u32,
-    entries: &[Entry],
-) -> Result<Sheet, NoMemory>
+pub fn best_sheet<G: Game>(alloc: Global, g: G, side: Side, book: &Book) -> Result<Sheet, NoMemory>
     ensures side { IfOk result (λ sheet. sheet.side ≡ side) }
-    ensures total { IfOk result (λ sheet. sheet.total ≡ total) }
-    ensures best { IfOk result (λ sheet. IsBestSheet (G.model g) side entries.now sheet.rows) }
+    ensures total { IfOk result (λ sheet. sheet.total ≡ book.now.total) }
+    ensures best { IfOk result (λ sheet. IsBestSheet (G.model g) side book.now.entries sheet.rows) }
 {
-    let mut left = best_places(alloc, entries, side)?;
+    let mut left = best_places(alloc, book, side)?;
     let mut rows = Vec::new(alloc);
-    gather(alloc, g, side, entries, &mut left, g.root(), &mut rows)?;
+    gather(alloc, g, side, book, &mut left, g.root(), &mut rows)?;
     rows.sort_unstable_by_key(|row| row.key);
     Ok(Sheet {
         side,
-        total,
+        total: book.total(),
         rows: Seq::from_vec(rows),
     })
 }

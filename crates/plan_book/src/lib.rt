@@ -15,6 +15,7 @@ mod chance_free;
 mod crossing;
 mod follow;
 mod gather;
+mod records;
 mod weights;
 
 pub use book::Book;

@@ -8,5 +8,5 @@ use Rattle.plan_book.proofs.gather.best_places.Given as goal
 abbrev pub invariant-loop-i : goal.invariant-loop-i
 invariant-loop-i l = record {
   within : (key : ℕ) → IfSome (get nat_eq l.best key) (λ j. j < l.i);
-  best : (key : ℕ) → option_and_then (slice_get l.entries) (get nat_eq l.best key) ≡ best_entry l.side (take l.i l.entries) key;
+  best : (key : ℕ) → option_and_then (slice_get l.book.entries) (get nat_eq l.best key) ≡ best_entry l.side (take l.i l.book.entries) key;
 }

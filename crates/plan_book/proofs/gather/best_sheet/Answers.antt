@@ -12,15 +12,15 @@ use Rattle.plan_book.proofs.gather.best_sheet.Goals as goal
 
 pub gather-requires : goal.gather-requires
 gather-requires g c = record {
-  reached = rw c.root.ensures (reached_root _ c.args.side (best_row c.args.side c.args.entries.now));
-  taken = rw c.new-rows.ensures.items (all_left _ c.args.side c.args.entries.now (get nat_eq c.in_ok-left.left) c.in_ok-left.ensures);
+  reached = rw c.root.ensures (reached_root _ c.args.side (best_row c.args.side c.args.book.now.entries));
+  taken = rw c.new-rows.ensures.items (all_left _ c.args.side c.args.book.now.entries (get nat_eq c.in_ok-left.left) c.in_ok-left.ensures);
 }
 
 pub returns-clause-best : goal.returns-clause-best
 returns-clause-best g c =
     let m = g.G.Game.model c.args.g in
     let side = c.args.side in
-    let entries = c.args.entries.now in
+    let entries = c.args.book.now.entries in
     let found = c.gather.new.rows.items in
     let from_root : IsGathered m side (best_row side entries) m.root (row_at c.new-rows.result.items) (row_at found) =
     subst (λ (s : g.row.G-State.Denot). IsGathered m side (best_row side entries) s (row_at c.new-rows.result.items) (row_at found)) c.root.ensures c.in_ok-gather.ensures.gathered in

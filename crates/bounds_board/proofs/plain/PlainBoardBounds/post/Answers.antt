@@ -3,7 +3,7 @@ use Rattle.sim_game.specs.Model.{IsGame}
 use Rattle.bounds_board.specs.Plain.{PlainValue, plain_view}
 use Rattle.bounds_board.specs.Slots.{keys_of}
 use Rattle.bounds_board.specs.Views.{IsPostable}
-use Rattle.plan_book.proofs.BookLemmas.{best_last}
+use Rattle.plan_book.proofs.BookLemmas.{best_last, few_weights}
 use Rattle.bounds_board.proofs.TableLemmas.{row_inside}
 use Rattle.bounds_board.proofs.PlainLemmas.{post_keeps, post_keys, post_later, bound_returned}
 use Rattle.bounds_board.proofs.plain.PlainBoardBounds.post.Goals as goal
@@ -18,6 +18,11 @@ invariant_of-self-2 g c =
     let met = bound_returned _ game c.self.inside.book.total _ c.args.e c.index.result.now c.tighten-slot.result entry c.tighten-slot.ensures in
     let kept = post_keeps _ game _ _ _ _ c.self.invariant.0 row c.args.e at_row c.index.result.now c.tighten-slot.result c.index.ensures met _ (λ side key. refl) entry in
     (rw (c.push.ensures.total, c.push.ensures.entries, c.reserve.ensures.total, c.reserve.ensures.entries) kept, c.self.invariant.1)
+
+pub push-requires-clause-few : goal.push-requires-clause-few
+push-requires-clause-few g c =
+    let entry = subst (λ (v : PlainValue _). IsPostable (g.G.Game.model v.game) (plain_view g.G.Game.model v) c.args.e) (sym c.self.view_is) c.requires.entry in
+    few_weights _ (g.met.G.Game.lawful c.self.inside.game) _ _ c.args.e entry
 
 pub returns-clause-later : goal.returns-clause-later
 returns-clause-later g c =

@@ -1,5 +1,6 @@
 use Rattle.std.proofs.Common.{rules, ◌≡◌, ℕ, [], ◌∷◌, ◌++◌, refl, sym, ap, ◌∙◌, subst, arith, Some, length}
 use Rattle.plan_book.specs.Entries.{IsEntry}
+use Rattle.plan_book.proofs.BookLemmas.{few_weights}
 use Rattle.shared_board.specs.Rule.{Has, seen, seen_at}
 use Rattle.shared_board.specs.Words.{word_of, IsLooser}
 use Rattle.shared_board.specs.Plays.{MayPost, posting, AllNamed}
@@ -34,6 +35,9 @@ post_word-requires-clause-post g c = let seat = c.pass.inside.bare.seat in let e
       in_range = entry_in_range m laws e _ _ c.requires.lawful;
       proved = entry_proved m laws e _ _ c.requires.lawful;
     })
+
+pub push-requires-clause-few : goal.push-requires-clause-few
+push-requires-clause-few g c = few_weights _ (g.met.G.Game.lawful c.args.self.now.board.game) _ _ c.args.e c.requires.lawful
 
 pub invariant_of-pass-2 : goal.invariant_of-pass-2
 invariant_of-pass-2 g c = let seat = c.pass.inside.bare.seat in let book = c.pass.inside.bare.book in let e = c.args.e in let desk = c.args.self.now in let game =

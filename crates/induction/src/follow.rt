@@ -1,6 +1,6 @@
 //! Plans from the root down.
 
-ghost use Rattle.std.specs.Prelude.{◌≡◌, ◌+◌, ◌<◌, ◌≤◌, length, All, IfOk, IfErr, OnOk};
+ghost use Rattle.std.specs.Prelude.{◌≡◌, ◌+◌, ◌<◌, ◌≤◌, length, IfOk, IfErr, OnOk};
 ghost use Rattle.sim_game.specs.Model.{Reachable};
 ghost use Rattle.plan_book.specs.Plans.{AreWeights};
 ghost use Rattle.matrix_game.specs.Budget.{left_of};
@@ -34,11 +34,11 @@ struct Walk<S> {
 }
 
 /// The plan of a side by what is proposed: each undecided state that it comes to from the root, by own moves of positive
-/// weight, against each reply and each draw. Weights are proposed for many states at once, one list for each, or for the
-/// first ones alone, where the turns that are left are to be given up. Nothing is promised of them: where they are no
-/// weights, all is on the first move. Each state takes one turn. `Spent` comes only without a turn left, and `TooManyStates`
-/// never. Only the use of memory depends on `rows`, how many undecided states there are at most.
-pub fn plan_from<G: Game, F: Fn(Side, &[G::State]) -> Result<Vec<Vec<u32>>, NoMemory>>(
+/// weight, against each reply and each draw. Weights are proposed for one state after another; none where the turns that are
+/// left are to be given up. Nothing is promised of them: where they are no weights, all is on the first move. Each state
+/// takes one turn. `Spent` comes only without a turn left, and `TooManyStates` never. Only the use of memory depends on
+/// `rows`, how many undecided states there are at most.
+pub fn plan_from<G: Game, F: Fn(Side, G::State) -> Result<Option<Vec<u32>>, NoMemory>>(
     alloc: Global,
     g: G,
     side: Side,
@@ -47,7 +47,7 @@ pub fn plan_from<G: Game, F: Fn(Side, &[G::State]) -> Result<Vec<Vec<u32>>, NoMe
     turns: &mut Turns,
     propose: &F,
 ) -> Result<Vec<PlannedState<G::State>>, GaveUp>
-    requires may_call { (own : _) (some : _) → All (GoesOn (G.model g)) some.now → F.pre propose.now own some }
+    requires may_call { (own : _) (s : _) → GoesOn (G.model g) s → F.pre propose.now own s }
     ensures whole { IfOk result (λ states. IsWholePlan (G.model g) side total states.items) }
     ensures as_many { IfOk result (λ states. HasUndecided (G.model g) (length states.items)) }
     ensures spent { IfOk result (λ states. HasSpent 0 (length states.items) turns.old turns.new) }
@@ -58,8 +58,8 @@ pub fn plan_from<G: Game, F: Fn(Side, &[G::State]) -> Result<Vec<Vec<u32>>, NoMe
     let states = Vec::new(alloc);
     let mut walk = Walk { seen, met, states };
     meet(alloc, g, g.root(), &mut walk.seen, &mut walk.met)?;
-    'layers: while walk.states.len() < walk.met.len() {
-        plan_layer(alloc, g, side, total, turns, propose, &mut walk)?;
+    'each: while walk.states.len() < walk.met.len() {
+        plan_by(alloc, g, side, total, turns, propose, &mut walk)?;
     }
     let Walk { states, .. } = walk;
     Ok(states)
@@ -77,11 +77,11 @@ fn meet<G: Game>(
     ensures { OnOk result (HasCome (G.model g) (G.numbering g).place s (is_put seen.old) (is_put seen.new)
         met.old.items met.new.items) }
 {
-    if is_decided(g, s) {
-        return Ok(());
-    }
     let place = g.place(s);
     if seen.word(place) != 0 {
+        return Ok(());
+    }
+    if is_decided(g, s) {
         return Ok(());
     }
     seen.put(alloc, place, SEEN)?;
@@ -89,8 +89,8 @@ fn meet<G: Game>(
     Ok(())
 }
 
-/// Plans the states that were met and have no weights yet, as far as there are turns.
-fn plan_layer<G: Game, F: Fn(Side, &[G::State]) -> Result<Vec<Vec<u32>>, NoMemory>>(
+/// Plans the next state that was met, by what is proposed, for a turn.
+fn plan_by<G: Game, F: Fn(Side, G::State) -> Result<Option<Vec<u32>>, NoMemory>>(
     alloc: Global,
     g: G,
     side: Side,
@@ -99,7 +99,7 @@ fn plan_layer<G: Game, F: Fn(Side, &[G::State]) -> Result<Vec<Vec<u32>>, NoMemor
     propose: &F,
     walk: &mut Walk<G::State>,
 ) -> Result<(), GaveUp>
-    requires may_call { (own : _) (some : _) → All (GoesOn (G.model g)) some.now → F.pre propose.now own some }
+    requires may_call { (own : _) (s : _) → GoesOn (G.model g) s → F.pre propose.now own s }
     requires followed { AreFollowed (G.model g) (G.numbering g).place side total
         (is_put walk.old.seen) walk.old.met.items walk.old.states.items }
     requires left { length walk.old.states.items < length walk.old.met.items }
@@ -111,66 +111,30 @@ fn plan_layer<G: Game, F: Fn(Side, &[G::State]) -> Result<Vec<Vec<u32>>, NoMemor
     ensures fewer { OnOk result (left_of turns.new < left_of turns.old) }
     ensures err { IfErr result (IsStopped (G.model g) ⊥ (length walk.old.states.items) turns.old turns.new) }
 {
-    let first = walk.states.len();
-    let missing = walk.met.len() - first;
-    let left = turns.left();
-    let count = if left < missing as u64 {
-        left as usize
-    } else {
-        missing
-    };
-    if count == 0 {
-        return Err(GaveUp::Spent);
-    }
-    let some = &walk.met[first..first + count];
-    let proposed = propose(side, some)?;
-    take_turns(turns, proposed.len().min(count), count)?;
-    plan_each(alloc, g, side, total, count, proposed, walk)?;
-    Ok(())
-}
-
-/// Takes a turn for each of so many states. Where fewer were made, the turns that are left are given up, if they may be.
-fn take_turns(turns: &mut Turns, made: usize, count: usize) -> Result<(), GaveUp>
-    requires few { made ≤ count }
-    requires enough { count ≤ left_of turns.old }
-    ensures spent { HasSpent 0 count turns.old turns.new }
-    ensures left { OnOk result (left_of turns.new + count ≤ left_of turns.old) }
-    ensures err { IfErr result (IsReason ⊥ turns.new) }
-{
-    turns.split(made as u64);
-    if made == count {
-        return Ok(());
-    }
-    turns.stop();
     if turns.left() == 0 {
         return Err(GaveUp::Spent);
     }
-    turns.split((count - made) as u64);
+    let s = walk.met[walk.states.len()];
+    let proposed = propose(side, s)?;
+    take_turn(turns, proposed.is_some())?;
+    plan_next(alloc, g, side, total, proposed, walk)?;
     Ok(())
 }
 
-/// Plans the next states that were met, so many of them, by what was proposed for the first of them.
-fn plan_each<G: Game>(
-    alloc: Global,
-    g: G,
-    side: Side,
-    total: u32,
-    count: usize,
-    proposed: Vec<Vec<u32>>,
-    walk: &mut Walk<G::State>,
-) -> Result<(), NoMemory>
-    requires followed { AreFollowed (G.model g) (G.numbering g).place side total
-        (is_put walk.old.seen) walk.old.met.items walk.old.states.items }
-    requires enough { length walk.old.states.items + count ≤ length walk.old.met.items }
-    ensures followed { OnOk result (AreFollowed (G.model g) (G.numbering g).place side total
-        (is_put walk.new.seen) walk.new.met.items walk.new.states.items) }
-    ensures kept { OnOk result (IsKept (is_put walk.old.seen) (is_put walk.new.seen)) }
-    ensures planned { OnOk result (length walk.new.states.items ≡ length walk.old.states.items + count) }
+/// Takes a turn. Where it is not to go on, the turns that are left are given up, if they may be.
+fn take_turn(turns: &mut Turns, goes_on: bool) -> Result<(), GaveUp>
+    requires { 0 < left_of turns.old }
+    ensures spent { HasSpent 0 1 turns.old turns.new }
+    ensures left { OnOk result (left_of turns.new < left_of turns.old) }
+    ensures err { IfErr result (IsReason ⊥ turns.new) }
 {
-    let mut proposed = proposed.into_iter();
-    for number in 0..count {
-        plan_next(alloc, g, side, total, proposed.next(), walk)?;
+    if !goes_on {
+        turns.stop();
+        if turns.left() == 0 {
+            return Err(GaveUp::Spent);
+        }
     }
+    turns.split(1);
     Ok(())
 }
 

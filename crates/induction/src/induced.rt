@@ -10,7 +10,8 @@ ghost use Rattle.induction.specs.Induced.{of_side, own_turns, AreBothSheets, IsO
 ghost use Rattle.induction.specs.Listed.{GoesOn};
 
 use crate::places::PlaceTable;
-use crate::values::{Guide, Values, value_states, values_of};
+use crate::proposals::Proposals;
+use crate::values::{FoundValues, Guide, Values, value_states, values_of};
 use crate::watch::{FEW_STATES, Terms, Watch};
 use crate::{GaveUp, certify, certify_by, plan_from};
 use matrix_game::Turns;
@@ -30,7 +31,7 @@ pub struct Induced {
 }
 
 /// The sheet of a side, by what is proposed.
-fn sheet_of<G: Game, F: Fn(Side, &[G::State]) -> Result<Vec<Vec<u32>>, NoMemory>>(
+fn sheet_of<G: Game, F: Fn(Side, G::State) -> Result<Option<Vec<u32>>, NoMemory>>(
     alloc: Global,
     g: G,
     side: Side,
@@ -40,7 +41,7 @@ fn sheet_of<G: Game, F: Fn(Side, &[G::State]) -> Result<Vec<Vec<u32>>, NoMemory>
 ) -> Result<Sheet, GaveUp>
     requires some { 1 ≤ terms.total }
     requires light { terms.total ≤ MOST_WEIGHT }
-    requires may_call { (own : _) (some : _) → All (GoesOn (G.model g)) some.now → F.pre propose.now own some }
+    requires may_call { (own : _) (s : _) → GoesOn (G.model g) s → F.pre propose.now own s }
     ensures { IsOwnSheet (G.model g) side terms.total turns.old turns.new result }
 {
     let states = plan_from(alloc, g, side, terms.total, terms.rows, turns, propose)?;
@@ -51,7 +52,7 @@ fn sheet_of<G: Game, F: Fn(Side, &[G::State]) -> Result<Vec<Vec<u32>>, NoMemory>
 fn sheet_by<
     R: Threads + Sync,
     G: Game + Send + Sync,
-    F: Fn(Side, &[G::State]) -> Result<Vec<Vec<u32>>, NoMemory>,
+    F: Fn(Side, G::State) -> Result<Option<Vec<u32>>, NoMemory>,
 >(
     rt: &R,
     alloc: Global,
@@ -65,7 +66,7 @@ where
     G::State: Send + Sync,
     requires some { 1 ≤ terms.total }
     requires light { terms.total ≤ MOST_WEIGHT }
-    requires may_call { (own : _) (some : _) → All (GoesOn (G.model g)) some.now → F.pre propose.now own some }
+    requires may_call { (own : _) (s : _) → GoesOn (G.model g) s → F.pre propose.now own s }
     ensures { IsOwnSheet (G.model g) side terms.total turns.old turns.new result }
 {
     let states = plan_from(alloc, g, side, terms.total, terms.rows, turns, propose)?;
@@ -73,7 +74,7 @@ where
 }
 
 /// The sheets of both sides, one after the other.
-fn both_sheets<G: Game, F: Fn(Side, &[G::State]) -> Result<Vec<Vec<u32>>, NoMemory>>(
+fn both_sheets<G: Game, F: Fn(Side, G::State) -> Result<Option<Vec<u32>>, NoMemory>>(
     alloc: Global,
     g: G,
     terms: Terms,
@@ -82,7 +83,7 @@ fn both_sheets<G: Game, F: Fn(Side, &[G::State]) -> Result<Vec<Vec<u32>>, NoMemo
 ) -> (Result<(Sheet, Sheet), GaveUp>, Turns)
     requires some { 1 ≤ terms.total }
     requires light { terms.total ≤ MOST_WEIGHT }
-    requires may_call { (own : _) (some : _) → All (GoesOn (G.model g)) some.now → F.pre propose.now own some }
+    requires may_call { (own : _) (s : _) → GoesOn (G.model g) s → F.pre propose.now own s }
     ensures { AreBothSheets (G.model g) terms.total terms.rows turns result.1 result.0 }
 {
     let mut turns = turns;
@@ -95,45 +96,6 @@ fn both_sheets<G: Game, F: Fn(Side, &[G::State]) -> Result<Vec<Vec<u32>>, NoMemo
         Err(e) => return (Err(e), turns),
     };
     (Ok((one, two)), turns)
-}
-
-/// The weights of a side's moves at states, which the workers divide; those of the first ones alone, where the watch ends it.
-fn weights_by<R: Threads + Sync, G: Game + Send + Sync, W: Watch + Sync>(
-    rt: &R,
-    alloc: Global,
-    g: G,
-    side: Side,
-    terms: Terms,
-    guide: &Guide<'_, W>,
-    states: &[G::State],
-) -> Result<Vec<Vec<u32>>, NoMemory>
-where
-    G::State: Send + Sync,
-    requires states { All (GoesOn (G.model g)) states.now }
-    requires light { terms.total ≤ MOST_WEIGHT }
-{
-    let total = terms.total;
-    if terms.workers < 2 || states.len() < FEW_STATES {
-        return guide.weights_of(alloc, g, side, total, states);
-    }
-    let size = (states.len() / terms.workers.max(1) as usize).saturating_add(1);
-    let parts = thread::map_chunks(
-        rt,
-        alloc,
-        states,
-        size,
-        &|_first: usize, part: &[G::State]| -> Result<Vec<Vec<u32>>, NoMemory>
-            requires states { All (GoesOn (G.model g)) part.now }
-            requires light { total ≤ MOST_WEIGHT }
-        { guide.weights_of(alloc, g, side, total, part) },
-    )?;
-    let mut proposed = Vec::with_capacity(alloc, states.len())?;
-    for part in parts {
-        for weights in part? {
-            proposed.push(weights)?;
-        }
-    }
-    Ok(proposed)
 }
 
 /// The sheet of a side with turns of its own.
@@ -153,10 +115,9 @@ where
     ensures { IsOwnSheet (G.model g) side terms.total turns result.1 result.0 }
 {
     let mut turns = turns;
-    let propose = |own: Side, states: &[G::State]| -> Result<Vec<Vec<u32>>, NoMemory>
-        requires states { All (GoesOn (G.model g)) states.now }
-        requires light { terms.total ≤ MOST_WEIGHT }
-    { weights_by(rt, alloc, g, own, terms, guide, states) };
+    let propose = |own: Side, s: G::State| -> Result<Option<Vec<u32>>, NoMemory>
+        requires { GoesOn (G.model g) s }
+    { guide.weights(alloc, g, own, s) };
     let sheet = sheet_by(rt, alloc, g, side, terms, &mut turns, &propose);
     (sheet, turns)
 }
@@ -220,7 +181,7 @@ fn both_at_once<R: Threads + Sync, G: Game + Send + Sync, W: Watch + Sync>(
     alloc: Global,
     g: G,
     terms: Terms,
-    known: &PlaceTable,
+    proposals: &Proposals,
     watch: &W,
     turns: Turns,
 ) -> (Result<(Sheet, Sheet), GaveUp>, Turns)
@@ -231,11 +192,10 @@ where
     ensures { AreBothSheets (G.model g) terms.total terms.rows turns result.1 result.0 }
 {
     if turns.left() / 2 <= terms.rows {
-        let guide = Guide::new(known, watch);
-        let propose = |side: Side, states: &[G::State]| -> Result<Vec<Vec<u32>>, NoMemory>
-            requires states { All (GoesOn (G.model g)) states.now }
-            requires light { terms.total ≤ MOST_WEIGHT }
-        { weights_by(rt, alloc, g, side, terms, &guide, states) };
+        let guide = Guide::new(proposals, watch);
+        let propose = |side: Side, s: G::State| -> Result<Option<Vec<u32>>, NoMemory>
+            requires { GoesOn (G.model g) s }
+        { guide.weights(alloc, g, side, s) };
         return both_sheets(alloc, g, terms, turns, &propose);
     }
     let each = terms.rows + 1;
@@ -251,7 +211,7 @@ where
         {
             let own = Turns::with_stop(each, may_stop);
             let half = Terms { workers, ..terms };
-            let guide = Guide::new(known, watch);
+            let guide = Guide::new(proposals, watch);
             side_sheet(rt, alloc, g, Side::One, half, &guide, own)
         },
         || -> (Result<Sheet, GaveUp>, Turns)
@@ -262,7 +222,7 @@ where
         {
             let own = Turns::with_stop(each, may_stop);
             let half = Terms { workers, ..terms };
-            let guide = Guide::new(known, watch);
+            let guide = Guide::new(proposals, watch);
             side_sheet(rt, alloc, g, Side::Two, half, &guide, own)
         },
     );
@@ -273,8 +233,8 @@ where
 fn solve_by<
     G: Game,
     W: Watch,
-    F: Fn(&PlaceTable, &[G::State]) -> Result<Vec<f64>, NoMemory>,
-    B: Fn(&PlaceTable, Turns) -> (Result<(Sheet, Sheet), GaveUp>, Turns),
+    F: Fn(&PlaceTable, &[G::State]) -> Result<FoundValues, NoMemory>,
+    B: Fn(&Proposals, Turns) -> (Result<(Sheet, Sheet), GaveUp>, Turns),
 >(
     alloc: Global,
     g: G,
@@ -292,14 +252,16 @@ fn solve_by<
 {
     let rows = terms.rows;
     let known = PlaceTable::new(alloc, g.most_states(), rows)?;
-    let mut values = Values::new(known, rows, mem::replace(turns, Turns::new(0)));
+    let proposals = Proposals::new(alloc, g.most_states(), rows)?;
+    let own = mem::replace(turns, Turns::new(0));
+    let mut values = Values::new(known, proposals, rows, own);
     let valued = value_states(alloc, g, watch, &mut values, values_of);
-    let (known, rest) = values.into_parts();
+    let (proposals, rest) = values.into_parts();
     if let Err(e) = valued {
         *turns = rest;
         return nothing(e);
     }
-    let (found, rest) = both_sheets(&known, rest);
+    let (found, rest) = both_sheets(&proposals, rest);
     *turns = rest;
     match found {
         Ok((one, two)) => Ok(Some(with_bounds(g, one, two))),
@@ -343,42 +305,43 @@ fn values_by<R: Threads + Sync, G: Game + Send + Sync, W: Watch + Sync>(
     rt: &R,
     alloc: Global,
     g: G,
-    workers: u32,
+    terms: Terms,
     known: &PlaceTable,
     states: &[G::State],
     watch: &W,
-) -> Result<Vec<f64>, NoMemory>
+) -> Result<FoundValues, NoMemory>
 where
     G::State: Send + Sync,
-    requires { All (GoesOn (G.model g)) states.now }
+    requires states { All (GoesOn (G.model g)) states.now }
+    requires light { terms.total ≤ MOST_WEIGHT }
 {
+    let total = terms.total;
     if states.len() < FEW_STATES {
-        return values_of(alloc, g, known, states, watch);
+        return values_of(alloc, g, total, known, states, watch);
     }
-    let size = (states.len() / workers.max(1) as usize).saturating_add(1);
+    let size = (states.len() / terms.workers.max(1) as usize).saturating_add(1);
     let parts = thread::map_chunks(
         rt,
         alloc,
         states,
         size,
-        &|_first: usize, part: &[G::State]| -> Result<Vec<f64>, NoMemory>
-            requires { All (GoesOn (G.model g)) part.now }
-        { values_of(alloc, g, known, part, watch) },
+        &|_first: usize, part: &[G::State]| -> Result<FoundValues, NoMemory>
+            requires states { All (GoesOn (G.model g)) part.now }
+            requires light { total ≤ MOST_WEIGHT }
+        { values_of(alloc, g, total, known, part, watch) },
     )?;
-    let mut values = Vec::with_capacity(alloc, states.len())?;
+    let mut found = FoundValues::new(alloc, states.len())?;
     for part in parts {
-        for value in &part? {
-            values.push(*value)?;
-        }
+        found.add(&part?)?;
     }
-    Ok(values)
+    Ok(found)
 }
 
 /// Lawful sheets of both sides with weights of this total, and a row for each undecided state that they come to. None comes
 /// only where more than `rows` states are undecided, or where no turn is left: each undecided state takes one turn, and
 /// each row of a sheet another, so no more than three for each undecided state in all. Where the watch ends it, the turns
-/// that are left are given up. Several workers divide the states of a rank and those of a layer of a plan, and the sheets
-/// are made at once; they are the same for each number of workers.
+/// that are left are given up. Several workers divide the states of a rank, and the sheets are made at once; they are the
+/// same for each number of workers.
 pub fn solve<R: Threads + Sync, G: Game + Send + Sync, W: Watch + Sync>(
     rt: &R,
     alloc: Global,
@@ -393,18 +356,18 @@ where
     requires light { terms.total ≤ MOST_WEIGHT }
     ensures { IsInductionResult (G.model g) terms.total terms.rows turns.old turns.new result }
 {
-    let workers = terms.workers;
-    if workers < 2 {
+    if terms.workers < 2 {
         return solve_alone(alloc, g, terms, watch, turns);
     }
-    let divided = |known: &PlaceTable, states: &[G::State]| -> Result<Vec<f64>, NoMemory>
-        requires { All (GoesOn (G.model g)) states.now }
-    { values_by(rt, alloc, g, workers, known, states, watch) };
-    let at_once = |known: &PlaceTable, turns: Turns| -> (Result<(Sheet, Sheet), GaveUp>, Turns)
+    let divided = |known: &PlaceTable, states: &[G::State]| -> Result<FoundValues, NoMemory>
+        requires states { All (GoesOn (G.model g)) states.now }
+        requires light { terms.total ≤ MOST_WEIGHT }
+    { values_by(rt, alloc, g, terms, known, states, watch) };
+    let at_once = |proposals: &Proposals, turns: Turns| -> (Result<(Sheet, Sheet), GaveUp>, Turns)
         requires some { 1 ≤ terms.total }
         requires light { terms.total ≤ MOST_WEIGHT }
         ensures { AreBothSheets (G.model g) terms.total terms.rows turns result.1 result.0 }
-    { both_at_once(rt, alloc, g, terms, known, watch, turns) };
+    { both_at_once(rt, alloc, g, terms, proposals, watch, turns) };
     solve_by(alloc, g, terms, watch, turns, &divided, &at_once)
 }
 
@@ -420,19 +383,19 @@ pub fn solve_alone<G: Game, W: Watch>(
     requires light { terms.total ≤ MOST_WEIGHT }
     ensures { IsInductionResult (G.model g) terms.total terms.rows turns.old turns.new result }
 {
-    let alone = |known: &PlaceTable, states: &[G::State]| -> Result<Vec<f64>, NoMemory>
-        requires { All (GoesOn (G.model g)) states.now }
-    { values_of(alloc, g, known, states, watch) };
-    let in_turn = |known: &PlaceTable, turns: Turns| -> (Result<(Sheet, Sheet), GaveUp>, Turns)
+    let alone = |known: &PlaceTable, states: &[G::State]| -> Result<FoundValues, NoMemory>
+        requires states { All (GoesOn (G.model g)) states.now }
+        requires light { terms.total ≤ MOST_WEIGHT }
+    { values_of(alloc, g, terms.total, known, states, watch) };
+    let in_turn = |proposals: &Proposals, turns: Turns| -> (Result<(Sheet, Sheet), GaveUp>, Turns)
         requires some { 1 ≤ terms.total }
         requires light { terms.total ≤ MOST_WEIGHT }
         ensures { AreBothSheets (G.model g) terms.total terms.rows turns result.1 result.0 }
     {
-        let guide = Guide::new(known, watch);
-        let propose = |side: Side, states: &[G::State]| -> Result<Vec<Vec<u32>>, NoMemory>
-            requires states { All (GoesOn (G.model g)) states.now }
-            requires light { terms.total ≤ MOST_WEIGHT }
-        { guide.weights_of(alloc, g, side, terms.total, states) };
+        let guide = Guide::new(proposals, watch);
+        let propose = |side: Side, s: G::State| -> Result<Option<Vec<u32>>, NoMemory>
+            requires { GoesOn (G.model g) s }
+        { guide.weights(alloc, g, side, s) };
         both_sheets(alloc, g, terms, turns, &propose)
     };
     solve_by(alloc, g, terms, watch, turns, &alone, &in_turn)

@@ -1,5 +1,6 @@
-//! Search by induction over the ranks: values of states that linear programs propose, children first, plans by these values
-//! from the root down, and the best bounds that the plans prove, children first again. The bounds do not rest on the values.
+//! Search by induction over the ranks: values of states that linear programs propose, children first, plans by the weights of
+//! these programs from the root down, and the best bounds that the plans prove, children first again. The bounds rest on
+//! neither values nor programs.
 #![tactic(auto)]
 
 mod bounds;
@@ -10,6 +11,7 @@ mod induced;
 mod keys;
 mod listed;
 mod places;
+mod proposals;
 mod sheets;
 mod values;
 mod watch;

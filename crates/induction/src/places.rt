@@ -118,6 +118,17 @@ impl PlaceTable {
         }
     }
 
+    /// Puts a word at a place, whether or not it has one.
+    pub(crate) fn set(&mut self, alloc: Global, place: u64, word: u64) -> Result<(), NoMemory>
+        requires { 1 ≤ word }
+    {
+        if self.word(place) == 0 {
+            return self.put(alloc, place, word);
+        }
+        self.replace(place, word);
+        Ok(())
+    }
+
     /// Puts another word at a place that has one.
     pub(crate) fn replace(&mut self, place: u64, word: u64)
         requires { 1 ≤ word }

@@ -1,5 +1,5 @@
 //! Values of states, those of lower rank first, by linear programs or by those of their mirror images, and the weights that
-//! they propose. Nothing is promised of how near the values are.
+//! the programs find. Nothing is promised of how near the values are.
 
 ghost use Rattle.std.specs.Prelude.{◌≡◌, ◌⊎◌, ℕ, ◌+◌, ◌<◌, ◌≤◌, ◌*◌, length, All, IfErr, IfOk, OnOk};
 ghost use Rattle.sums.specs.declared.TheConstants.{MOST_WEIGHT};
@@ -12,8 +12,9 @@ ghost use Rattle.induction.specs.Undecided.{HasUndecided};
 use crate::GaveUp;
 use crate::listed::list_states;
 use crate::places::PlaceTable;
+use crate::proposals::{Proposals, add_words};
 use crate::watch::{InductionStep, Watch};
-use matrix_game::{FloatSolver, Turns};
+use matrix_game::{FloatPlans, FloatSolver, Turns};
 use sim_game::{CHANCE, Game, NoMemory, Side, Transition};
 use std::alloc::{AllocError, Global};
 use std::num::{f64_from_bits_with_nan, f64_to_bits_with_nan};
@@ -23,16 +24,27 @@ use std::num::{f64_from_bits_with_nan, f64_to_bits_with_nan};
 pub(crate) struct Values {
     // The bits of each value, by the place of its state.
     known: PlaceTable,
+    // The weights that were found with them.
+    proposals: Proposals,
     // How many states may be given values.
     rows: u64,
     turns: Turns,
 }
 
-/// Values that are made, and what may end the plans by them.
+/// Weights that are proposed, and what may end the plans by them.
 #[derive(Drop)]
 pub(crate) struct Guide<'a, W> {
-    known: &'a PlaceTable,
+    proposals: &'a Proposals,
     watch: &'a W,
+}
+
+/// Values of states, and the words of the weights that were found with them.
+#[derive(Drop)]
+pub(crate) struct FoundValues {
+    values: Vec<f64>,
+    // Where the words of each state begin; empty where none has any.
+    starts: Vec<usize>,
+    words: Vec<u32>,
 }
 
 /// What states are solved in, kept from one to the next.
@@ -41,9 +53,8 @@ pub(crate) struct Stage {
     transitions: Vec<Transition>,
     // The mean payoff of each pair of moves to One, those of One's first move first.
     cells: Vec<f64>,
-    // The same to Two, those of Two's first move first.
-    turned: Vec<f64>,
     solver: FloatSolver,
+    plans: FloatPlans,
 }
 
 /// The payoff of an end, else the least that One can still get, which is the value of a decided state.
@@ -97,8 +108,8 @@ impl Stage {
         Ok(Stage {
             transitions: Vec::new(alloc),
             cells: Vec::new(alloc),
-            turned: Vec::new(alloc),
             solver: FloatSolver::new(alloc)?,
+            plans: FloatPlans::new(alloc),
         })
     }
 
@@ -121,83 +132,79 @@ impl Stage {
         Ok(())
     }
 
-    /// Takes on the cells as Two sees them.
-    fn turn(&mut self, rows: u32, cols: u32) -> Result<(), AllocError>
-        ensures { OnOk result (length self.new.turned.items ≡ cols * rows) }
-    {
-        self.turned.clear();
-        for b in 0..cols {
-            for a in 0..rows {
-                let place = a as usize * cols as usize + b as usize;
-                let number = self.cells.get(place).copied().unwrap_or(0.0);
-                self.turned.push(-number)?;
-            }
-        }
-        Ok(())
-    }
-
-    /// The value of a state, by those that are known. The turn that it takes is the caller's to spend.
-    fn value<G: Game>(&mut self, known: &PlaceTable, g: G, s: G::State) -> Result<f64, AllocError>
-        requires { GoesOn (G.model g) s }
+    /// The value of a state, by those that are known, and the weights of both sides' plans, which sum to the total. The turn
+    /// that it takes is the caller's to spend.
+    fn value<G: Game>(
+        &mut self,
+        known: &PlaceTable,
+        g: G,
+        total: u32,
+        s: G::State,
+    ) -> Result<f64, AllocError>
+        requires state { GoesOn (G.model g) s }
+        requires light { total ≤ MOST_WEIGHT }
     {
         self.read(known, g, s)?;
         let rows = g.moves(Side::One, s) as usize;
         let cols = g.moves(Side::Two, s) as usize;
         let turns = &mut Turns::new(1);
-        Ok(self.solver.value(rows, cols, &self.cells, turns))
-    }
-
-    /// Weights of a side's moves at a state, which sum to the total. The turn that they take is the caller's to spend.
-    fn weights<G: Game>(
-        &mut self,
-        alloc: Global,
-        known: &PlaceTable,
-        g: G,
-        side: Side,
-        total: u32,
-        s: G::State,
-    ) -> Result<Vec<u32>, AllocError>
-        requires state { GoesOn (G.model g) s }
-        requires light { total ≤ MOST_WEIGHT }
-    {
-        self.read(known, g, s)?;
-        let rows = g.moves(Side::One, s);
-        let cols = g.moves(Side::Two, s);
-        let turns = &mut Turns::new(1);
-        let (own, other) = (rows as usize, cols as usize);
-        match side {
-            Side::One => {
-                let cells = &self.cells;
-                self.solver.weights(alloc, own, other, cells, total, turns)
-            }
-            Side::Two => {
-                self.turn(rows, cols)?;
-                let cells = &self.turned;
-                self.solver.weights(alloc, other, own, cells, total, turns)
-            }
-        }
+        self.solver
+            .solve(rows, cols, &self.cells, total, turns, &mut self.plans)
     }
 }
 
-/// The values of states, one for each, by those that are known; those of the first ones alone, where the watch ends it.
+impl FoundValues {
+    /// None yet, with room for the values of so many states.
+    pub(crate) fn new(alloc: Global, states: usize) -> Result<FoundValues, AllocError> {
+        Ok(FoundValues {
+            values: Vec::with_capacity(alloc, states)?,
+            starts: Vec::with_capacity(alloc, states)?,
+            words: Vec::new(alloc),
+        })
+    }
+
+    /// Adds the value of a state, and the weights that were found with it.
+    fn push(&mut self, value: f64, plans: &FloatPlans) -> Result<(), AllocError> {
+        self.values.push(value)?;
+        self.starts.push(self.words.len())?;
+        add_words(&mut self.words, &plans.rows)?;
+        add_words(&mut self.words, &plans.cols)
+    }
+
+    /// Adds what was found of further states.
+    pub(crate) fn add(&mut self, more: &FoundValues) -> Result<(), AllocError> {
+        let first = self.words.len();
+        self.values.extend_from_slice(&more.values)?;
+        for start in &more.starts {
+            self.starts.push(first.saturating_add(*start))?;
+        }
+        self.words.extend_from_slice(&more.words)
+    }
+}
+
+/// The values of states, one for each, by those that are known, and weights that sum to the total; those of the first ones
+/// alone, where the watch ends it.
 pub(crate) fn values_of<G: Game, W: Watch>(
     alloc: Global,
     g: G,
+    total: u32,
     known: &PlaceTable,
     states: &[G::State],
     watch: &W,
-) -> Result<Vec<f64>, NoMemory>
-    requires { All (GoesOn (G.model g)) states.now }
+) -> Result<FoundValues, NoMemory>
+    requires states { All (GoesOn (G.model g)) states.now }
+    requires light { total ≤ MOST_WEIGHT }
 {
     let mut stage = Stage::new(alloc)?;
-    let mut values = Vec::with_capacity(alloc, states.len())?;
+    let mut found = FoundValues::new(alloc, states.len())?;
     for s in states {
         if !watch.goes_on(InductionStep::Value) {
             break;
         }
-        values.push(stage.value(known, g, *s)?)?;
+        let value = stage.value(known, g, total, *s)?;
+        found.push(value, &stage.plans)?;
     }
-    Ok(values)
+    Ok(found)
 }
 
 /// Whether the mirror image of a state has a smaller place, so that its value is made before that of the state.
@@ -232,17 +239,17 @@ fn mirrored_values<G: Game, W: Watch>(
     known: &PlaceTable,
     states: &[G::State],
     watch: &W,
-) -> Result<Vec<f64>, NoMemory>
+) -> Result<FoundValues, NoMemory>
     requires { All (GoesOn (G.model g)) states.now }
 {
-    let mut values = Vec::with_capacity(alloc, states.len())?;
+    let mut found = FoundValues::new(alloc, states.len())?;
     for s in states {
         if !watch.goes_on(InductionStep::Value) {
             break;
         }
-        values.push(mirrored_value(known, g, *s))?;
+        found.values.push(mirrored_value(known, g, *s))?;
     }
-    Ok(values)
+    Ok(found)
 }
 
 /// The states by when they get values: at twice their rank those that are solved, and behind them those that get the value
@@ -280,24 +287,33 @@ fn first_of<G: Game>(_g: G, states: &[G::State], most: usize) -> &[G::State]
 
 impl Values {
     /// No values yet, for no more states than `rows`. Each takes a turn.
-    pub(crate) fn new(known: PlaceTable, rows: u64, turns: Turns) -> Values
+    pub(crate) fn new(known: PlaceTable, proposals: Proposals, rows: u64, turns: Turns) -> Values
         ensures rows { result.rows ≡ rows }
         ensures turns { result.turns ≡ turns }
     {
-        Values { known, rows, turns }
+        Values {
+            known,
+            proposals,
+            rows,
+            turns,
+        }
     }
 
-    /// The values, and the turns with those that are spent.
-    pub(crate) fn into_parts(self) -> (PlaceTable, Turns)
+    /// The weights that were found, and the turns with those that are spent.
+    pub(crate) fn into_parts(self) -> (Proposals, Turns)
         ensures { result.1 ≡ self.turns }
     {
-        let Values { known, turns, .. } = self;
-        (known, turns)
+        let Values {
+            proposals,
+            turns,
+            ..
+        } = self;
+        (proposals, turns)
     }
 
     /// Gives values to states, for a turn each, as far as there are turns: by the function, or those of their mirror images.
     /// Where fewer values are made, since the watch has ended it, the turns that are left are given up.
-    fn give<G: Game, W: Watch, F: Fn(&PlaceTable, &[G::State]) -> Result<Vec<f64>, NoMemory>>(
+    fn give<G: Game, W: Watch, F: Fn(&PlaceTable, &[G::State]) -> Result<FoundValues, NoMemory>>(
         &mut self,
         alloc: Global,
         g: G,
@@ -325,12 +341,14 @@ impl Values {
         } else {
             values_of(&self.known, some)?
         };
-        let made = found.len().min(count);
+        let made = found.values.len().min(count);
         self.turns.split(made as u64);
         for place in 0..made {
-            let bits = f64_to_bits_with_nan(found[place]).max(1);
+            let bits = f64_to_bits_with_nan(found.values[place]).max(1);
             self.known.replace(g.place(states[place]), bits);
         }
+        self.proposals
+            .take(alloc, g, some, &found.starts, &found.words)?;
         if made == states.len() {
             return Ok(());
         }
@@ -347,7 +365,7 @@ impl Values {
 pub(crate) fn value_states<
     G: Game,
     W: Watch,
-    F: Fn(&PlaceTable, &[G::State]) -> Result<Vec<f64>, NoMemory>,
+    F: Fn(&PlaceTable, &[G::State]) -> Result<FoundValues, NoMemory>,
 >(alloc: Global, g: G, watch: &W, values: &mut Values, values_of: &F) -> Result<(), GaveUp>
     requires may_call { (known : _) (some : _) → All (GoesOn (G.model g)) some.now
         → F.pre values_of.now known some }
@@ -370,33 +388,26 @@ pub(crate) fn value_states<
 }
 
 impl<'a, W> Guide<'a, W> {
-    /// Proposals by these values.
-    pub(crate) fn new(known: &'a PlaceTable, watch: &'a W) -> Guide<'a, W> {
-        Guide { known, watch }
+    /// These proposals, as far as the watch goes on.
+    pub(crate) fn new(proposals: &'a Proposals, watch: &'a W) -> Guide<'a, W> {
+        Guide { proposals, watch }
     }
 }
 
 impl<W: Watch> Guide<'_, W> {
-    /// Weights of a side's moves at states, one list for each; those of the first ones alone, where the watch ends it.
-    pub(crate) fn weights_of<G: Game>(
+    /// Weights of a side's moves at a state; none where the watch ends it.
+    pub(crate) fn weights<G: Game>(
         &self,
         alloc: Global,
         g: G,
         side: Side,
-        total: u32,
-        states: &[G::State],
-    ) -> Result<Vec<Vec<u32>>, NoMemory>
-        requires states { All (GoesOn (G.model g)) states.now }
-        requires light { total ≤ MOST_WEIGHT }
+        s: G::State,
+    ) -> Result<Option<Vec<u32>>, NoMemory>
+        requires { GoesOn (G.model g) s }
     {
-        let mut stage = Stage::new(alloc)?;
-        let mut proposed = Vec::with_capacity(alloc, states.len())?;
-        for s in states {
-            if !self.watch.goes_on(InductionStep::Plan) {
-                break;
-            }
-            proposed.push(stage.weights(alloc, self.known, g, side, total, *s)?)?;
+        if !self.watch.goes_on(InductionStep::Plan) {
+            return Ok(None);
         }
-        Ok(proposed)
+        Ok(Some(self.proposals.weights(alloc, g, side, s)?))
     }
 }

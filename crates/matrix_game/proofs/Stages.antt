@@ -72,6 +72,9 @@ all_on-weighted n i w h =
     let l = length-map-range_with_len (λ k. cond (nat_eq k i) w 0) 0 n in
     record { each = l; all = sum-count (all_on n i w) ∙ ap (λ k. count_below k (λ a. get_or (all_on n i w) a 0)) l ∙ weight-all_on n i w h }
 
+pub written-weighted : (n i w : ℕ) (xs : List ℕ) → i < n → xs ≡ replicate n 0 → IsWeighted n w (set xs i w)
+written-weighted n i w xs h e = rw (all_on_written n i w xs h e) (all_on-weighted n i w h)
+
 stage-rows : (m : Grid) (w : ℕ) (p v : List ℕ) → IsShaped m → 0 < w → IsStage m w p v → IsWeighted m.rows w p
 stage-rows m w p v s h (pure a b f ep ev) = rw ep (all_on-weighted m.rows a w f.saddle.row_in)
 stage-rows m w p v s h (mixed n ep ev) =

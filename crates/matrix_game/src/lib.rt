@@ -22,7 +22,7 @@ mod tableau;
 
 pub use budget::Turns;
 pub use cells::{Matrix, ShapeError};
-pub use floats::FloatSolver;
+pub use floats::{FloatPlans, FloatSolver};
 pub use linear::LinearBuffers;
 pub use memory::StageMemory;
 pub use solver::{SolverKind, StageSolver};

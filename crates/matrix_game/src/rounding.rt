@@ -1,6 +1,6 @@
 //! Whole weights out of shares.
 
-ghost use Rattle.std.specs.Prelude.{◌≡◌, IfOk, IfSome, ◌+◌, ◌<◌, ◌≤◌, length, slice_index, sum};
+ghost use Rattle.std.specs.Prelude.{◌≡◌, IfOk, OnOk, IfSome, ◌+◌, ◌<◌, ◌≤◌, length, slice_index, sum};
 ghost use Rattle.sums.specs.declared.TheConstants.{MOST_MOVES, MOST_WEIGHT};
 ghost use Rattle.matrix_game.specs.Rounds.{IsWeighted};
 
@@ -28,12 +28,27 @@ impl Payoffs {
         requires light { total ≤ MOST_WEIGHT }
         ensures { IfOk result (λ r. IsWeighted self.now.rows total r.items) }
     {
-        let shares = &shares[..self.rows];
-        let mut weights = rounded(alloc, shares, total, &mut line[..self.rows])?;
-        let sums = &mut line[..self.cols];
-        self.write_sums(&weights, sums);
-        self.improve(&mut weights, sums);
+        let mut weights = Vec::with_capacity(alloc, self.rows)?;
+        self.write_weights(shares, total, line, &mut weights)?;
         Ok(weights)
+    }
+
+    /// Writes such weights, and gives what they secure, times their total. The line is room to work in.
+    pub(crate) fn write_weights(
+        &self,
+        shares: &Line,
+        total: u32,
+        line: &mut Line,
+        weights: &mut Vec<u32>,
+    ) -> Result<f64, AllocError>
+        requires light { total ≤ MOST_WEIGHT }
+        ensures { OnOk result (IsWeighted self.now.rows total weights.new.items) }
+    {
+        round(&shares[..self.rows], total, &mut line[..self.rows], weights)?;
+        let sums = &mut line[..self.cols];
+        self.write_sums(weights, sums);
+        self.improve(weights, sums);
+        Ok(least(sums))
     }
 
     // Shifts single units while that raises the floor, at most two for each row.
@@ -128,21 +143,21 @@ pub(crate) fn least(numbers: &[f64]) -> f64 {
     least
 }
 
-// Weights in proportion to the shares, which sum to the total, by the largest remainder. A share that is no number counts
-// as 0. The rests are room to work in.
-fn rounded(
-    alloc: Global,
+// Writes weights in proportion to the shares, which sum to the total, by the largest remainder. A share that is no number
+// counts as 0. The rests are room to work in.
+fn round(
     shares: &[f64],
     total: u32,
     rests: &mut [f64],
-) -> Result<Vec<u32>, AllocError>
+    weights: &mut Vec<u32>,
+) -> Result<(), AllocError>
     requires some { 1 ≤ length shares.now }
     requires few { length shares.now ≤ MOST_MOVES }
     requires same { length rests.old ≡ length shares.now }
     requires light { total ≤ MOST_WEIGHT }
-    ensures { IfOk result (λ r. IsWeighted (length shares.now) total r.items) }
+    ensures { OnOk result (IsWeighted (length shares.now) total weights.new.items) }
 {
-    let mut weights = Vec::with_capacity(alloc, shares.len())?;
+    weights.clear();
     let mut left = total;
     for (place, share) in shares.iter().enumerate() {
         let exact = *share * f64::from(total);
@@ -151,8 +166,8 @@ fn rounded(
         rests[place] = exact - f64::from(whole);
         left -= whole;
     }
-    give(&mut weights, rests, left);
-    Ok(weights)
+    give(weights, rests, left);
+    Ok(())
 }
 
 // Gives single units to the places of greatest rests, each once, and what is still left to the first place.

@@ -19,8 +19,8 @@ returns-in_err-meet-clause-err g c =
     let turns = c.args.turns.now in
     err_is (λ e. e ≡ NoMemory) _ _ c.from_residual-in_err-meet.ensures.1 (λ e is. stopped_at m ⊥ 0 0 turns turns e (no_memory ⊥ turns e is) (nothing m) (none_spent 0 turns))
 
-pub layers-init : goal.layers-init
-layers-init g c =
+pub each-init : goal.each-init
+each-init g c =
     let m = g.G.Game.model c.args.g in
     let n = g.G.Game.numbering c.args.g in
     let none : (place : ℕ) → is_put c.in_ok-seen.seen place ≡ false = λ place. none_put c.in_ok-seen.seen place 0 (sym (c.in_ok-seen.ensures place)) refl in
@@ -32,20 +32,20 @@ layers-init g c =
       spent = none_spent 0 c.args.turns.now;
     })
 
-pub returns-in_err-plan_layer-clause-err : goal.returns-in_err-plan_layer-clause-err
-returns-in_err-plan_layer-clause-err g c =
+pub returns-in_err-plan_by-clause-err : goal.returns-in_err-plan_by-clause-err
+returns-in_err-plan_by-clause-err g c =
     let m = g.G.Game.model c.args.g in
-    let stopped : c.from_residual-in_err-plan_layer.result ≡ Err c.in_err-plan_layer.field-0.0 = search rules in
-    rw stopped (stopped_later m ⊥ _ _ _ _ _ _ c.layers.invariant.spent c.in_err-plan_layer.ensures.err)
+    let stopped : c.from_residual-in_err-plan_by.result ≡ Err c.in_err-plan_by.field-0.0 = search rules in
+    rw stopped (stopped_later m ⊥ _ _ _ _ _ _ c.each.invariant.spent c.in_err-plan_by.ensures.err)
 
 pub returns-clause-whole : goal.returns-clause-whole
 returns-clause-whole g c =
     let m = g.G.Game.model c.args.g in
-    whole_plan m (g.met.G.Game.lawful c.args.g) (g.G.Game.numbering c.args.g).place c.args.side c.args.total (is_put c.layers.walk.seen) c.layers.walk.met.items c.layers.walk.states.items
-    c.layers.invariant.followed (omega arith) c.layers.invariant.root
+    whole_plan m (g.met.G.Game.lawful c.args.g) (g.G.Game.numbering c.args.g).place c.args.side c.args.total (is_put c.each.walk.seen) c.each.walk.met.items c.each.walk.states.items
+    c.each.invariant.followed (omega arith) c.each.invariant.root
 
 pub returns-clause-as_many : goal.returns-clause-as_many
 returns-clause-as_many g c =
     let m = g.G.Game.model c.args.g in
-    as_many m (g.met.G.Game.lawful c.args.g) (g.G.Game.numbering c.args.g).place c.args.side c.args.total (is_put c.layers.walk.seen) c.layers.walk.met.items c.layers.walk.states.items
-    c.layers.invariant.followed (omega arith)
+    as_many m (g.met.G.Game.lawful c.args.g) (g.G.Game.numbering c.args.g).place c.args.side c.args.total (is_put c.each.walk.seen) c.each.walk.met.items c.each.walk.states.items
+    c.each.invariant.followed (omega arith)

@@ -1,5 +1,5 @@
 use Rattle.std.proofs.Common.{◌≡◌, ◌+◌, length, sum}
-use Rattle.matrix_game.proofs.rounding.rounded.Given as goal
+use Rattle.matrix_game.proofs.rounding.round.Given as goal
 
 abbrev pub invariant-loop-place : goal.invariant-loop-place
 invariant-loop-place l = record {

@@ -1,5 +1,5 @@
 -- Searches of states, and restricted games that grow.
-use Rattle.std.proofs.Common.{◌≡◌, ◌↔◌, inl, inr, ⊎_elim, ℕ, ◌+◌, ◌-◌, ◌*◌, ◌<◌, ◌≤◌, ℤ, pos, ◌+ℤ◌, ◌≤ℤ◌, true, false, cond, Some, None, Contains, refl, sym, ap, subst, ◌∙◌, arith}
+use Rattle.std.proofs.Common.{◌≡◌, ◌↔◌, inl, inr, ⊎_elim, ℕ, ◌+◌, ◌-◌, ◌*◌, ◌<◌, ◌≤◌, ℤ, pos, ◌+ℤ◌, ◌≤ℤ◌, cond, Option, Some, None, Ok, Err, Contains, refl, sym, ap, subst, ◌∙◌, arith}
 use Rattle.std.proofs.lemmas.Int.{ints}
 use Rattle.std.proofs.Math.Nat.{mul-le-mul_right}
 use Rattle.sim_game.specs.declared.Side.TheVariants.{One, Two}
@@ -20,12 +20,12 @@ use Rattle.oracle_search.specs.declared.ends.SearchEnd.{SearchEnd}
 use Rattle.oracle_search.specs.declared.ends.SearchEnd.TheVariants.{Reached, Settled, Spent, Full}
 use Rattle.oracle_search.specs.declared.ends.Stop.{Stop}
 use Rattle.oracle_search.specs.declared.ends.Stop.TheVariants as stops
-use Rattle.oracle_search.specs.Finished.{IsWithin, IsClose, rank_gap}
-use Rattle.oracle_search.specs.Searches.{IsWorked, growth_turns, TakesTurns, TakesAtMost, HasTaken, HasTurn, HasKept, HasEnded, IsFirstHeld, Ends, IsBoardFull, IsStop, stop_of, IsStoppedAs, IsEarlyEnd, AreDone}
-use Rattle.oracle_search.specs.Workers.{WorkerView, WorkView, is_linear, at_work, with_full}
+use Rattle.oracle_search.specs.Finished.{IsWithin, IsBeyond, IsClose, rank_gap}
+use Rattle.oracle_search.specs.Searches.{IsWorked, growth_turns, TakesTurns, TakesAtMost, HasTaken, HasTurn, HasKept, IsFirstHeld, Ends, IsStop, finish_of, IsEarlyEnd, AreDone}
+use Rattle.oracle_search.specs.Workers.{WorkerView, WorkView, is_linear, at_work}
 use Rattle.oracle_search.proofs.KeyLemmas.{done_within}
 use Rattle.oracle_search.proofs.TurnLemmas.{TakesWithin, more_turns, begun_within, last_turn, taken_by, taken_after, within_turn, stopped_within, passed_within}
-use Rattle.oracle_search.proofs.WorkLemmas.{worked_none, worked_read, worked_after, full_kept, within_not_beyond}
+use Rattle.oracle_search.proofs.WorkLemmas.{worked_none, worked_read, worked_after, within_not_beyond}
 
 -- a turn changes nothing of how stages are solved
 pub same_kind : (a b : StageSolver) → UsesRegret a ↔ UsesRegret b → is_linear a ≡ is_linear b
@@ -75,60 +75,26 @@ module _ {S G N : Type 0} {m : GameModel S} {s : S} where
 
 -- ---- how the search of one of the states ended
 module _ {S G N : Type 0} (m : GameModel S) (s : S) (u v : WorkView G N) where
-  pub child_done : (end : SearchEnd) → 1 ≤ m.rank s → stop_of end ≡ None → Ends m s (pos 0) v end → HasTaken m s end u v
+  pub child_done : {done : Unit {0}} (end : SearchEnd) → 1 ≤ m.rank s → finish_of end ≡ Ok done → Ends m s (pos 0) v end → HasTaken m s end u v
       → IsClose m v.board s × TakesAtMost (growth_turns m) 1 (m.rank s) u.worker v.worker
   child_done Reached goes_on is ends taken = (done_within m s v.board (ends goes_on) goes_on, taken)
   child_done Settled goes_on is ends taken = (ends.2, taken)
   child_done Spent goes_on is ends taken = absurd (cc)
   child_done Full goes_on is ends taken = absurd (cc)
 
-  pub child_stopped : (end : SearchEnd) (target : ℤ) (stop : Stop) → stop_of end ≡ Some stop → Ends m s target v end → HasTaken m s end u v
-      → IsStop m s v stop × TakesAtMost (growth_turns m) (m.rank s) (m.rank s) u.worker v.worker
-  child_stopped Reached target stop is ends taken = absurd (cc)
-  child_stopped Settled target stop is ends taken = absurd (cc)
-  child_stopped Spent target stop is ends taken = let same : stops.Spent ≡ stop = cc in (subst (λ (x : Stop). IsStop m s v x) same ends.2, taken)
-  child_stopped Full target stop is ends taken = let same : stops.Full ≡ stop = cc in (subst (λ (x : Stop). IsStop m s v x) same (ends.0, ends.1), taken)
+  pub child_stopped : (end : SearchEnd) (stop : Stop) → finish_of end ≡ Err stop → Ends m s (pos 0) v end → HasTaken m s end u v
+      → IsStop m s v (TakesAtMost (growth_turns m) (m.rank s) (m.rank s) u.worker v.worker) stop
+  child_stopped Reached stop is ends taken = absurd (cc)
+  child_stopped Settled stop is ends taken = absurd (cc)
+  child_stopped Spent stop is ends taken = let same : stops.Spent ≡ stop = cc in subst (IsStop m s v (TakesAtMost (growth_turns m) (m.rank s) (m.rank s) u.worker v.worker)) same (ends.2, taken)
+  child_stopped Full stop is ends taken = let same : stops.Full ≡ stop = cc in subst (IsStop m s v (TakesAtMost (growth_turns m) (m.rank s) (m.rank s) u.worker v.worker)) same ends.1
 
--- ---- why a search stops
-pub stop_full : {S G N : Type 0} (m : GameModel S) (s : S) {v : BoardView G N} {new : WorkerView} (w : WorkerView) → new ≡ with_full w → IsBoardFull m s v → IsStop m s (at_work v new) stops.Full
-stop_full m s w is was = (ap (λ (x : WorkerView). x.settled.was_full) is, was)
-
--- on a later board
-pub stop_kept : {S G N : Type 0} (m : GameModel S) (s : S) (v board : BoardView G N) (w : WorkerView) (stop : Stop) → IsLater v board
-    → IsStop m s (at_work v w) stop → IsStop m s (at_work board w) stop
-stop_kept m s v board w stops.Spent later is = is
-stop_kept m s v board w stops.Full later is = (is.0, full_kept m s later is.1)
-
--- a search that stopped did not settle its state
-pub stopped_unsettled : {S G N : Type 0} (m : GameModel S) (v : BoardView G N) (s : S) (target : ℤ) (stop : Stop) (end : SearchEnd) → IsStoppedAs m v s target stop end → end ≡ Settled → ⊥
-stopped_unsettled m v s target stop end stopped is = subst (IsStoppedAs m v s target stop) is stopped
-
+-- ---- how a search ends before its first turn
 module _ {S G N : Type 0} (m : GameModel S) (s : S) (goes_on : 1 ≤ m.rank s) where
-  pub stopped_ends : (w : WorkView G N) (target : ℤ) (stop : Stop) (end : SearchEnd) → IsStop m s w stop → IsStoppedAs m w.board s target stop end → Ends m s target w end
-  stopped_ends w target stop Reached why is = λ _. is
-  stopped_ends w target stop Settled why is = absurd is
-  stopped_ends w target stop Spent why is = (goes_on, is.0, subst (λ (x : Stop). IsStop m s w x) is.1 why)
-  stopped_ends w target stop Full why is = let full : IsStop m s w stops.Full = subst (λ (x : Stop). IsStop m s w x) is.1 why in (full.0, full.1, λ row below held. is.0)
+  pub early_beyond : (v : BoardView G N) (target : ℤ) (early : Option SearchEnd) → IsEarlyEnd m v s target early → ((end : SearchEnd) → early ≡ Some end → ⊥) → IsBeyond m v s target
+  early_beyond v target None is none = is
+  early_beyond v target (Some end) is none = absurd (none end refl)
 
-  stopped_taken : (u w : WorkView G N) (target : ℤ) (stop : Stop) (end : SearchEnd) → IsStop m s w stop
-      → IsStoppedAs m w.board s target stop end → TakesAtMost (growth_turns m) (m.rank s) (m.rank s) u.worker w.worker → HasTaken m s end u w
-  stopped_taken u w target stops.Spent Reached why is taken = record {
-    unless_full = λ not. inr (
-      why,
-      ⊎_elim (λ (a : TakesTurns (growth_turns m) (m.rank s) u.worker w.worker). a)
-          (λ (b : (left_of w.turns ≡ 0) × TakesTurns (growth_turns m) (m.rank s) u.worker w.worker). b.1) (taken.unless_full not),
-    );
-  }
-  stopped_taken u w target stops.Full Reached why is taken = record { unless_full = λ not. let wrong : false ≡ true = sym not ∙ why.0 in absurd (cc) }
-  stopped_taken u w target stop Settled why is taken = absurd is
-  stopped_taken u w target stop Spent why is taken = taken
-  stopped_taken u w target stop Full why is taken = taken
-
-  pub stopped_ended : (u w : WorkView G N) (target : ℤ) (stop : Stop) (end : SearchEnd) → IsStop m s w stop
-      → IsStoppedAs m w.board s target stop end → TakesAtMost (growth_turns m) (m.rank s) (m.rank s) u.worker w.worker → HasEnded m s target u w end
-  stopped_ended u w target stop end why is taken = record { ends = stopped_ends w target stop end why is; turns = stopped_taken u w target stop end why is taken }
-
-  -- ---- how a search ends before its first turn
   pub early_ends : (w : WorkView G N) (target : ℤ) (end : SearchEnd) → IsEarlyEnd m w.board s target (Some end) → Ends m s target w end
   early_ends w target Reached early = λ _. early
   early_ends w target Settled early = (goes_on, early.0, early.1)

@@ -1,5 +1,6 @@
 -- Sweeps, one part after another.
-use Rattle.std.proofs.Common.{◌≡◌, inl, inr, ℕ, ◌+◌, ◌*◌, ◌<◌, ◌≤◌, ℤ, pos, ◌+ℤ◌, ◌≤ℤ◌, ◌<ℤ◌, Bool, true, false, cond, List, [], ◌∷◌, ◌++◌, length, Some, None, Option, Contains, refl, sym, ap, subst, ◌∙◌, arith}
+use Rattle.std.proofs.Common.{◌≡◌, inl, inr, ⊎_elim, ℕ, ◌+◌, ◌*◌, ◌<◌, ◌≤◌, ℤ, pos, ◌+ℤ◌, ◌≤ℤ◌, ◌<ℤ◌, Bool, true, false, cond, List, [], ◌∷◌, ◌++◌, length, Some, Result, Ok, Err, Contains, refl, sym, ap, subst, ◌∙◌, arith}
+use Rattle.std.specs.Bool.{MatchBool}
 use Rattle.std.specs.List.{range_with_len}
 use Rattle.std.proofs.lemmas.Int.{ints}
 use Rattle.std.proofs.lemmas.Bool.{cases_lt}
@@ -8,6 +9,7 @@ use Rattle.std.proofs.lemmas.List.{length-append}
 use Rattle.std.proofs.lemmas.List.Elements.{All-contains}
 use Rattle.sim_game.specs.declared.Side.TheVariants.{One, Two}
 use Rattle.sim_game.specs.Model.{GameModel, IsGame, Reachable}
+use Rattle.matrix_game.specs.Budget.{left_of}
 use Rattle.bounds_board.specs.Views.{BoardView, IsLater}
 use Rattle.bounds_board.proofs.KnownLemmas.{known_later}
 use Rattle.bounds_board.proofs.ViewLemmas.{later_refl}
@@ -18,16 +20,16 @@ use Rattle.restricted_game.specs.Held.{HeldMoves, IsGrown}
 use Rattle.restricted_game.specs.Gaps.{HasStepGap}
 use Rattle.restricted_game.proofs.HeldLemmas.{all_moves_held}
 use Rattle.oracle_search.specs.declared.ends.SearchEnd.{SearchEnd}
-use Rattle.oracle_search.specs.declared.ends.SearchEnd.TheVariants.{Settled}
+use Rattle.oracle_search.specs.declared.ends.SearchEnd.TheVariants.{Reached, Settled, Spent, Full}
 use Rattle.oracle_search.specs.declared.ends.Stop.{Stop}
 use Rattle.oracle_search.specs.Finished.{IsWithin, IsBeyond, IsClose, AreFinished, AreAdded}
-use Rattle.oracle_search.specs.Searches.{HasKept, IsBoardFull, IsWorked, IsWorkedBelow, Ends, HasTurn, HasEnded}
-use Rattle.oracle_search.specs.Sweeps.{HasSwept, TakesOne, IsSweepEnd, AreAllDone, IsFullHeld, TakesSweeps, EndsBySweeps, LeavesToNext, HasBounded}
-use Rattle.oracle_search.specs.Workers.{WorkerView, WorkView, at_work, at_start, with_full, with_swept, without_full}
+use Rattle.oracle_search.specs.Searches.{HasKept, IsBoardFull, IsWorked, IsWorkedBelow, Ends, TakesAtMost, growth_turns, HasTurn, HasEnded, BoundsByPure, IsStoppedAs}
+use Rattle.oracle_search.specs.Sweeps.{HasSwept, TakesOne, IsSweepEnd, AreAllDone, IsFullHeld, TakesSweeps, TakesUnlessFull, EndsBySweeps, LeavesToNext, IsAfterSweep, HasBounded, HasRunOut}
+use Rattle.oracle_search.specs.Workers.{WorkerView, WorkView, at_work, at_start, with_swept, without_full}
 use Rattle.oracle_search.proofs.GrowLemmas.{close_after}
 use Rattle.oracle_search.proofs.KeyLemmas.{finished_none, finished_later, finished_more, added_none, added_wider, added_after, added_more}
-use Rattle.oracle_search.proofs.TurnLemmas.{not_before, taken_by, taken_from}
-use Rattle.oracle_search.proofs.WorkLemmas.{IsAfter, worked_none, worked_read, worked_full, worked_after, worked_wider, worked_under, worked_swept}
+use Rattle.oracle_search.proofs.TurnLemmas.{not_before, taken_by, taken_from, taken_full, taken_spent}
+use Rattle.oracle_search.proofs.WorkLemmas.{IsAfter, worked_none, worked_read, worked_after, worked_wider, worked_under, worked_swept, stop_more, pure_later}
 
 -- ---- parts of a sweep
 module _ {S G N : Type 0} {m : GameModel S} {is_last : Bool} {s : S} {limit : ℕ} where
@@ -46,11 +48,6 @@ module _ {S G N : Type 0} {m : GameModel S} {is_last : Bool} {s : S} {limit : �
   pub swept_read : {u : WorkView G N} {v b : BoardView G N} {w : WorkerView} → HasSwept m is_last s limit u (at_work v w) → IsLater v b → b.entries ≡ v.entries
       → HasSwept m is_last s limit u (at_work b w)
   swept_read p later same = swept_by p (worked_read (worked_none p.worked.kept) later same) refl
-
-  -- a claim that was full
-  pub swept_full : {u : WorkView G N} {v b : BoardView G N} {w new : WorkerView} → HasSwept m is_last s limit u (at_work v w) → IsLater v b → b.entries ≡ v.entries
-      → new ≡ with_full w → IsBoardFull m s b → HasSwept m is_last s limit u (at_work b new)
-  swept_full p later same is was = swept_by p (worked_full (worked_none p.worked.kept) later same is was) (ap (λ (x : WorkerView). x.swept) is)
 
   pub swept_after : {u v w : WorkView G N} → HasSwept m is_last s limit u v → HasSwept m is_last s limit v w → HasSwept m is_last s limit u w
   swept_after p q = record { worked = worked_after p.worked q.worked; added = added_after q.worked.board.later p.added q.added; kept = q.kept }
@@ -79,10 +76,6 @@ swept_added {m = m} {is_last = is_last} game s r {u} {v} {w} row goes_on held cl
 pub one_none : {w x : WorkerView} → x.turns.spent ≡ w.turns.spent → x.swept ≡ w.swept → TakesOne w x
 one_none turns swept = record { unless_full = λ not. let keys = ap (λ (l : List ℕ). length l) swept in omega arith }
 
--- a claim that was full
-pub one_full : {w new : WorkerView} (x : WorkerView) → new ≡ with_full x → TakesOne w new
-one_full x is = record { unless_full = λ not. let wrong : false ≡ true = sym not ∙ ap (λ (x : WorkerView). x.settled.was_full) is in absurd (cc) }
-
 -- a turn at the state itself, whose key was added
 pub one_added : {w x y : WorkerView} (key : ℕ) → HasTurn w.turns x.turns → x.swept ≡ w.swept → y ≡ with_swept x key → TakesOne w y
 one_added {w} {x} {y} key turn swept is = record {
@@ -101,9 +94,9 @@ module _ {S G N : Type 0} {m : GameModel S} {s : S} {limit : ℕ} {v x : WorkVie
   }
 
   -- an end, after a part that took no turn
-  pub ended_after : (Known : Type 0) {u : WorkerView} → TakesOne u v.worker → (stop : Option Stop) → IsSweepEnd m s Known v.worker x stop → IsSweepEnd m s Known u x stop
-  ended_after Known p None end = (end.0, one_after p end.1)
-  ended_after Known p (Some stop) end = (end.0, one_after p end.1)
+  pub ended_after : (Known : Type 0) {u : WorkerView} → TakesOne u v.worker → (r : Result (Unit {0}) Stop) → IsSweepEnd m s Known v.worker x r → IsSweepEnd m s Known u x r
+  ended_after Known p (Ok done) end = (end.0, one_after p end.1)
+  ended_after Known p (Err stop) end = stop_more m s x stop (one_after p) end
 
 -- ---- sweeps over the states after moves
 -- what was kept so far, what is done, and the rows that are known
@@ -196,11 +189,15 @@ module _ {S G N : Type 0} {m : GameModel S} where
       let more_last : x * length owed.finished ≤ y * length owed.finished = mul-le-mul_right (length owed.finished) last in
       record { keys = owed.keys; swept = owed.swept; finished = owed.finished; closed = owed.closed; few = omega arith }
 
+  pub owed_later : {p x a b : ℕ} {u v : BoardView G N} → IsLater u v → TakesSweeps m p x u a b → TakesSweeps m p x v a b
+  owed_later later owed =
+      record { keys = owed.keys; swept = finished_later later owed.swept; finished = owed.finished; closed = finished_later later owed.closed; few = owed.few }
+
 -- ---- whole sweeps
 -- what so many sweeps, none of them the last, leave to the next
 pub record HasMade {S G N : Type 0} (m : GameModel S) (s : S) (sweeps : ℕ) (old new : WorkView G N) : Type 0 where
   pub worked : IsWorked m s old new
-  pub owed : new.settled.was_full ≡ false → TakesSweeps m sweeps 0 new.board old.turns.spent new.turns.spent
+  pub owed : TakesUnlessFull m sweeps 0 old.worker new
 
 module _ {S G N : Type 0} {m : GameModel S} {s : S} {u v : WorkView G N} where
   pub made_wider : {p q : ℕ} → p ≤ q → HasMade m s p u v → HasMade m s q u v
@@ -213,13 +210,23 @@ module _ {S G N : Type 0} {m : GameModel S} {s : S} {u v : WorkView G N} where
     pub made_more : {target : ℤ} → LeavesToNext m s target false v w → HasMade m s (sweeps + 1) u w
     made_more left = record { worked = worked_after made.worked worked; owed = λ not. owed_after worked.board.later (made.owed (not_full not)) (left.owed not) }
 
-    -- the end with one more, be it the last
+    -- with one more, be it the last
+    pub made_owed : (earlier last : ℕ) → sweeps + earlier ≤ 2 → last ≤ 1 → TakesUnlessFull m earlier last v.worker w → TakesUnlessFull m 2 1 u.worker w
+    made_owed earlier last few one owed = λ not. owed_wider {x = 0 + last} few (omega arith) (owed_after worked.board.later (made.owed (not_full not)) (owed not))
+
     pub made_end : (earlier last : ℕ) {target : ℤ} {end : SearchEnd} → sweeps + earlier ≤ 2 → last ≤ 1 → EndsBySweeps m s target earlier last v w end → EndsBySweeps m s target 2 1 u w end
     made_end earlier last few one ended = record {
       ends = ended.ends;
-      owed = λ not. owed_wider {x = 0 + last} few (omega arith) (owed_after worked.board.later (made.owed (not_full not)) (ended.owed not));
+      owed = made_owed earlier last few one ended.owed;
       turned = λ is. let before = made.worked.turns.rises in let turn = ended.turned is in omega arith;
     }
+
+-- whether a sweep reached the target
+pub after_sweep : {S G N : Type 0} {m : GameModel S} {s : S} {target : ℤ} {is_last : Bool} {u v : WorkView G N} (reached : Bool)
+    → MatchBool reached (IsWithin m v.board s target) (IsBeyond m v.board s target) → (IsWithin m v.board s target → EndsBySweeps m s target (cond is_last 0 1) (cond is_last 1 0) u v Reached)
+    → (IsBeyond m v.board s target → LeavesToNext m s target is_last u v) → IsAfterSweep m s target is_last u v reached
+after_sweep true is ends leaves = ends is
+after_sweep false is ends leaves = leaves is
 
 -- the search is settled after the last sweep
 pub ends_settled : {S G N : Type 0} {m : GameModel S} {s : S} {target : ℤ} {v w : WorkView G N} → 1 ≤ m.rank s → LeavesToNext m s target true v w → EndsBySweeps m s target 0 1 v w Settled
@@ -242,6 +249,60 @@ module _ {S G N : Type 0} {m : GameModel S} {s : S} {target : ℤ} {u v : WorkVi
       turns = λ regret. let wrong : false ≡ true = sym regret ∙ linear in absurd (cc);
       owed = λ _ not. subst (λ (n : ℕ). TakesSweeps m 2 1 v.board n v.turns.spent) turns (ended.owed not);
     }
+
+-- ---- how the search of a state ends that stopped
+no_room : {A : Type 0} {full : Bool} → full ≡ true → full ≡ false → A
+no_room full not = let wrong : false ≡ true = sym not ∙ full in absurd (cc)
+
+-- it is not settled
+pub stopped_unsettled : {S G N : Type 0} (m : GameModel S) (v : BoardView G N) (s : S) (target : ℤ) (stopped end : SearchEnd)
+    → (stopped ≡ Settled → ⊥) → IsStoppedAs m v s target stopped end → end ≡ Settled → ⊥
+stopped_unsettled m v s target stopped end not is settled = ⊎_elim
+    (λ (a : IsWithin m v s target × (end ≡ Reached)). let wrong : Reached ≡ Settled = sym a.1 ∙ settled in absurd (cc))
+    (λ (b : IsBeyond m v s target × (end ≡ stopped)). not (sym b.1 ∙ settled)) is
+
+-- where no turn is left after pure plans
+module _ {S G N : Type 0} {m : GameModel S} {s : S} {target : ℤ} {start v : WorkView G N} (u : WorkView G N) (turns : u.turns.spent ≡ start.turns.spent) where
+  pub run_out_grown : u.settled.keys ≡ start.settled.keys → start.linear ≡ false → ((end : SearchEnd) → BoundsByPure m s target start v end)
+      → TakesAtMost (growth_turns m) (m.rank s) (m.rank s) u.worker v.worker → HasRunOut m s target start v
+  run_out_grown keys regret pure taken =
+      record { turns = λ _. taken_from turns keys taken; owed = λ linear. let wrong : false ≡ true = sym regret ∙ linear in absurd (cc); pure = pure }
+
+  pub run_out_swept : start.linear ≡ true → ((end : SearchEnd) → BoundsByPure m s target start v end) → TakesUnlessFull m 2 1 u.worker v → HasRunOut m s target start v
+  run_out_swept linear pure owed = record {
+    turns = λ regret. let wrong : false ≡ true = sym regret ∙ linear in absurd (cc);
+    owed = λ _ not. subst (λ (n : ℕ). TakesSweeps m 2 1 v.board n v.turns.spent) turns (owed not);
+    pure = pure;
+  }
+
+module _ {S G N : Type 0} {m : GameModel S} {s : S} {target : ℤ} {u : WorkView G N} where
+  -- on a later board
+  pub run_out_later : {v b : BoardView G N} {w : WorkerView} → IsLater v b → HasRunOut m s target u (at_work v w) → HasRunOut m s target u (at_work b w)
+  run_out_later later out = record {
+    turns = out.turns;
+    owed = λ linear not. owed_later later (out.owed linear not);
+    pure = λ end. record { tight = λ visits not goes_on. pure_later m s later ((out.pure end).tight visits not goes_on); at_once = (out.pure end).at_once };
+  }
+
+  module _ {v : WorkView G N} where
+    pub bounded_spent : (end : SearchEnd) → 1 ≤ m.rank s → left_of v.turns ≡ 0 → HasRunOut m s target u v → IsStoppedAs m v.board s target Spent end → HasBounded m s target u v end
+    bounded_spent end goes_on none out is = ⊎_elim
+        (λ (a : IsWithin m v.board s target × (end ≡ Reached)). subst (HasBounded m s target u v) (sym a.1)
+        (record { ends = λ _. a.0; turns = λ regret. taken_spent none (out.turns regret); owed = out.owed }))
+        (λ (b : IsBeyond m v.board s target × (end ≡ Spent)). subst (HasBounded m s target u v) (sym b.1)
+        (record { ends = (goes_on, b.0, none); turns = out.turns; owed = out.owed })) is
+
+    -- at a full board
+    module _ (full : v.settled.was_full ≡ true) where
+      pub pure_full : {end : SearchEnd} → BoundsByPure m s target u v end
+      pure_full = record { tight = λ visits not goes_on. no_room full not; at_once = λ visits not near. no_room full not }
+
+      pub bounded_full : (end : SearchEnd) → IsBoardFull m s v.board → IsStoppedAs m v.board s target Full end → HasBounded m s target u v end
+      bounded_full end was is = ⊎_elim
+          (λ (a : IsWithin m v.board s target × (end ≡ Reached)). subst (HasBounded m s target u v) (sym a.1)
+          (record { ends = λ _. a.0; turns = λ _. taken_full full; owed = λ _ not. no_room full not }))
+          (λ (b : IsBeyond m v.board s target × (end ≡ Full)). subst (HasBounded m s target u v) (sym b.1)
+          (record { ends = (full, was, λ row below held. b.0); turns = λ _. taken_full full; owed = λ _ not. no_room full not })) is
 
 -- a search that began with no full board in mind
 pub bounded_begun : {S G N : Type 0} {m : GameModel S} {s : S} {target : ℤ} {u v : BoardView G N} {x : WorkerView} {new : WorkView G N} {end : SearchEnd} (w : WorkerView) → x ≡ without_full w

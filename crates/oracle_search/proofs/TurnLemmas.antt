@@ -6,7 +6,7 @@ use Rattle.sim_game.specs.Model.{GameModel}
 use Rattle.matrix_game.specs.Budget.{Budget, left_of}
 use Rattle.oracle_search.specs.Finished.{FinishedView}
 use Rattle.oracle_search.specs.Searches.{IsWorkedBelow, TakesTurns, TakesAtMost, HasTurn}
-use Rattle.oracle_search.specs.Workers.{WorkerView, WorkView, with_full, with_key}
+use Rattle.oracle_search.specs.Workers.{WorkerView, WorkView, with_key}
 
 pub not_before : (a b : Bool) → (a ≡ true → b ≡ true) → b ≡ false → a ≡ false
 not_before false b f e = refl
@@ -40,9 +40,17 @@ taken_from {each} {states} {most} {u} {v} {w} turns keys p = record {
       (λ (b : (left_of w.turns ≡ 0) × TakesTurns each most v w). let b1 = b.1 in inr (b.0, omega arith)) (p.unless_full not);
 }
 
--- a claim that was full
-pub taken_full : {each states most : ℕ} {u new : WorkerView} (w : WorkerView) → new ≡ with_full w → TakesAtMost each states most u new
-taken_full w is = record { unless_full = λ not. let wrong : false ≡ true = sym not ∙ ap (λ (x : WorkerView). x.settled.was_full) is in absurd (cc) }
+-- at a full board, and where no turn is left
+pub taken_full : {each states most : ℕ} {u w : WorkerView} → w.settled.was_full ≡ true → TakesAtMost each states most u w
+taken_full full = record { unless_full = λ not. let wrong : false ≡ true = sym not ∙ full in absurd (cc) }
+
+pub taken_spent : {each states most : ℕ} {u w : WorkerView} → left_of w.turns ≡ 0 → TakesAtMost each most most u w → TakesAtMost each states most u w
+taken_spent {each} {states} {most} {u} {w} none p = record {
+  unless_full = λ not. inr (
+    none,
+    ⊎_elim (λ (a : TakesTurns each most u w). a) (λ (b : (left_of w.turns ≡ 0) × TakesTurns each most u w). b.1) (p.unless_full not),
+  );
+}
 
 -- a finished state, whose key was added
 pub taken_added : {each most : ℕ} {u w new : WorkerView} (key : ℕ) → new ≡ with_key w key → TakesAtMost each 1 most u w → TakesAtMost each 0 most u new

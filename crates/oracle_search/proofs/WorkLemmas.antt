@@ -1,5 +1,5 @@
 -- What one part of a search after another keeps.
-use Rattle.std.proofs.Common.{◌≡◌, ◌⊎◌, inl, inr, ⊎_elim, ℕ, ◌+◌, ◌*◌, ◌/◌, ◌≤◌, ◌<◌, ℤ, pos, ◌+ℤ◌, ◌-ℤ◌, ◌≤ℤ◌, ◌<ℤ◌, cond, true, Option, Some, List, [], Contains, refl, sym, ap, subst, ◌∙◌, arith}
+use Rattle.std.proofs.Common.{◌≡◌, ◌⊎◌, inl, inr, ⊎_elim, ℕ, ◌+◌, ◌*◌, ◌/◌, ◌≤◌, ◌<◌, ℤ, pos, ◌+ℤ◌, ◌-ℤ◌, ◌≤ℤ◌, ◌<ℤ◌, cond, true, Option, Some, Result, Err, List, [], Contains, refl, sym, ap, subst, ◌∙◌, arith}
 use Rattle.std.specs.Int.{div_ceil}
 use Rattle.std.proofs.Math.Nat.{mul-le-mul_left, mul-div_cancel_left}
 use Rattle.std.proofs.lemmas.Bool.{cases_lt}
@@ -16,6 +16,8 @@ use Rattle.plan_book.specs.Entries.{IsLawfulEntry, IsPureEntry}
 use Rattle.plan_book.specs.Serial.{serial_bound}
 use Rattle.matrix_game.specs.Budget.{Budget, left_of, after_one_turn, IsSameBudget, HasGivenUp}
 use Rattle.matrix_game.proofs.BudgetLemmas.{same_budget, budget_after, one_turn_later}
+use Rattle.bounds_board.specs.declared.bounds.BoardFault.{BoardFault}
+use Rattle.bounds_board.specs.declared.bounds.BoardFault.TheVariants as board_faults
 use Rattle.bounds_board.specs.Views.{BoardView, IsLater, IsFull, known_bound}
 use Rattle.bounds_board.proofs.FullLemmas.{full_later, full_weaker}
 use Rattle.bounds_board.proofs.KnownLemmas.{known_later}
@@ -26,6 +28,8 @@ use Rattle.serial_ab.specs.Transpositions.{AreRemembered}
 use Rattle.serial_ab.proofs.KeptLemmas.{grows_none, grows_after}
 use Rattle.serial_ab.proofs.TableLemmas.{remembered_later, remembered_none}
 use Rattle.restricted_game.specs.Children.{KeptRows, HasRow, AreChildRows}
+use Rattle.restricted_game.specs.declared.held.StepFault.{StepFault}
+use Rattle.restricted_game.specs.declared.held.StepFault.TheVariants as step_faults
 use Rattle.restricted_game.specs.Nodes.{IsAtNode, IsBetter}
 use Rattle.restricted_game.proofs.ChildLemmas.{row_later}
 use Rattle.restricted_game.proofs.NodeLemmas.{better_trans}
@@ -33,7 +37,7 @@ use Rattle.oracle_search.specs.declared.ends.SearchEnd.{SearchEnd}
 use Rattle.oracle_search.specs.declared.ends.Stop.{Stop}
 use Rattle.oracle_search.specs.declared.ends.Stop.TheVariants as stops
 use Rattle.oracle_search.specs.Finished.{AreFinished, AreAdded, IsWithin, IsBeyond, IsClose, IsLeftBelow, left_gap}
-use Rattle.oracle_search.specs.Searches.{HasTurned, HasKept, IsAtRow, IsAtChildren, IsBoardFull, IsWorkedBelow, IsWorked, IsStop, HasVisitsBelow, IsPureTight, IsPureWithin, IsAhead, BoundsByPure}
+use Rattle.oracle_search.specs.Searches.{HasTurned, HasKept, IsAtRow, IsAtChildren, IsBoardFull, IsWorkedBelow, IsWorked, IsStop, stop_at, stop_after, HasVisitsBelow, IsPureTight, IsPureWithin, IsAhead, BoundsByPure}
 use Rattle.oracle_search.specs.Workers.{WorkerView, WorkView, HasAsked, at_work, with_full, with_key, without_full, without_searches}
 use Rattle.oracle_search.proofs.BetterLemmas.{grows_weaker, better_serial}
 use Rattle.oracle_search.proofs.KeyLemmas.{finished_none, finished_later, finished_more, added_none, added_wider, added_after, added_more}
@@ -318,9 +322,29 @@ module _ {S G N : Type 0} {m : GameModel S} {s child : S} (after : IsAfter m s c
   pub full_child : {v : BoardView G N} → IsFull m v (m.key child) → IsBoardFull m s v
   full_child full = record { state = child; is_asked = after.leads child (leads_none m child); full = full }
 
-  pub stop_under : (v : WorkView G N) (stop : Stop) → IsStop m child v stop → IsStop m s v stop
-  stop_under v stops.Spent is = is
-  stop_under v stops.Full is = (is.0, full_below m s child after.leads is.1)
+  pub stop_under : {Taken More : Type 0} (v : WorkView G N) (stop : Stop) → (Taken → More) → IsStop m child v Taken stop → IsStop m s v More stop
+  stop_under v stops.Spent more is = (is.0, more is.1)
+  stop_under v stops.Full more is = full_below m s child after.leads is
+  stop_under v stops.NoMemory more is = tt
+
+-- ---- why a part of a search stopped
+module _ {S G N : Type 0} (m : GameModel S) (s : S) (v : WorkView G N) where
+  pub stop_more : {Taken More : Type 0} (stop : Stop) → (Taken → More) → IsStop m s v Taken stop → IsStop m s v More stop
+  stop_more stops.Spent more is = (is.0, more is.1)
+  stop_more stops.Full more is = is
+  stop_more stops.NoMemory more is = tt
+
+  -- a fault of a board, and of a step
+  pub stop_board : (Taken : Type 0) {T : Type 0} (fault : BoardFault) {r : Result T BoardFault} → r ≡ Err fault
+      → (r ≡ Err board_faults.Full → IsBoardFull m s v.board) → IsStop m s v Taken (stop_at fault)
+  stop_board Taken board_faults.Full is full = full is
+  stop_board Taken board_faults.NoMemory is full = tt
+
+  pub stop_step : {Taken T : Type 0} (fault : StepFault) {r : Result T StepFault} → r ≡ Err fault → (r ≡ Err step_faults.Full → IsBoardFull m s v.board)
+      → (r ≡ Err step_faults.Spent → (left_of v.turns ≡ 0) × Taken) → IsStop m s v Taken (stop_after fault)
+  stop_step step_faults.Spent is full spent = spent is
+  stop_step step_faults.Full is full spent = full is
+  stop_step step_faults.NoMemory is full spent = tt
 
 -- ---- how far bounds are apart
 module _ {S G N : Type 0} (m : GameModel S) (s : S) where

@@ -1,5 +1,5 @@
 -- What a search keeps, and how it ends.
-use Rattle.std.specs.Prelude.{◌≡◌, ◌⊎◌, ℕ, ◌+◌, ◌-◌, ◌*◌, ◌<◌, ◌≤◌, ℤ, ◌+ℤ◌, ◌≤ℤ◌, ◌<ℤ◌, Bool, true, false, IsTrue, Option, None, Some, Result, Err, IfOk, length}
+use Rattle.std.specs.Prelude.{◌≡◌, ◌⊎◌, ℕ, ◌+◌, ◌-◌, ◌*◌, ◌<◌, ◌≤◌, ℤ, ◌+ℤ◌, ◌≤ℤ◌, ◌<ℤ◌, Bool, true, false, IsTrue, Option, None, Some, Result, Ok, Err, IfOk, length}
 use Rattle.sim_game.specs.declared.Side.{Side}
 use Rattle.sim_game.specs.declared.Side.TheVariants.{One, Two}
 use Rattle.sim_game.specs.Model.{GameModel, LeadsTo, Reachable}
@@ -8,6 +8,8 @@ use Rattle.plan_book.specs.Entries.{IsPureEntry}
 use Rattle.plan_book.specs.Books.{Grows}
 use Rattle.plan_book.specs.Serial.{serial_bound, tree_size}
 use Rattle.matrix_game.specs.Budget.{Budget, left_of, after_one_turn, IsSameBudget}
+use Rattle.bounds_board.specs.declared.bounds.BoardFault.{BoardFault}
+use Rattle.bounds_board.specs.declared.bounds.BoardFault.TheVariants as board_faults
 use Rattle.bounds_board.specs.Views.{BoardView, WasFull, known_bound}
 use Rattle.serial_ab.specs.Counts.{VisitsView, HasCounted, left_on}
 use Rattle.serial_ab.specs.Transpositions.{AreRemembered}
@@ -164,17 +166,28 @@ IsFoundAbove None bound = ⊥
 IsFoundAbove (Some x) bound = bound <ℤ x
 
 -- ---- the states after held moves
--- why not all of them were finished
-abbrev pub IsStop : {S G N : Type 0} → GameModel S → S → WorkView G N → Stop → Type 0
-IsStop m s v stops.Spent = left_of v.turns ≡ 0
-IsStop m s v stops.Full = (v.settled.was_full ≡ true) × IsBoardFull m s v.board
+-- why a part of a search stopped; where no turn is left, with what holds of those that were taken
+abbrev pub IsStop : {S G N : Type 0} → GameModel S → S → WorkView G N → Type 0 → Stop → Type 0
+IsStop m s v Taken stops.Spent = (left_of v.turns ≡ 0) × Taken
+IsStop m s v Taken stops.Full = IsBoardFull m s v.board
+IsStop m s v Taken stops.NoMemory = Unit {0}
 
--- why the search of a state ends that of the states among which it is, if it does
-abbrev pub stop_of : SearchEnd → Option Stop
-stop_of Reached = None
-stop_of Settled = None
-stop_of Spent = Some stops.Spent
-stop_of Full = Some stops.Full
+-- whether a search that ended so has finished its state, else why the search stops that it is a part of
+abbrev pub finish_of : SearchEnd → Result (Unit {0}) Stop
+finish_of Reached = Ok tt
+finish_of Settled = Ok tt
+finish_of Spent = Err stops.Spent
+finish_of Full = Err stops.Full
+
+-- why a search stops at a board's fault, and at a step's
+abbrev pub stop_at : BoardFault → Stop
+stop_at board_faults.Full = stops.Full
+stop_at board_faults.NoMemory = stops.NoMemory
+
+abbrev pub stop_after : StepFault → Stop
+stop_after faults.Spent = stops.Spent
+stop_after faults.Full = stops.Full
+stop_after faults.NoMemory = stops.NoMemory
 
 -- an end, or its bounds are as close as its rank allows
 abbrev pub IsDone : {S G N : Type 0} → GameModel S → BoardView G N → S → Type 0
@@ -185,16 +198,13 @@ abbrev pub AreDone : {S G N : Type 0} → GameModel S → BoardView G N → S �
 AreDone m v s one two = (draw : ℕ) → draw < m.draws s one two → IsDone m v (m.drawn s one two draw)
 
 -- how the searches of states of at most this rank end: all is known, or one of them stopped
-abbrev pub HasSearched : {S G N : Type 0} → GameModel S → S → ℕ → Type 0 → WorkerView → WorkView G N → Option Stop → Type 0
-HasSearched m s rank Known old new None = Known × TakesAtMost (growth_turns m) 0 rank old new.worker
-HasSearched m s rank Known old new (Some stop) = IsStop m s new stop × TakesAtMost (growth_turns m) rank rank old new.worker
+abbrev pub HasSearched : {S G N : Type 0} → GameModel S → S → ℕ → Type 0 → WorkerView → WorkView G N → Result (Unit {0}) Stop → Type 0
+HasSearched m s rank Known old new (Ok _) = Known × TakesAtMost (growth_turns m) 0 rank old new.worker
+HasSearched m s rank Known old new (Err stop) = IsStop m s new (TakesAtMost (growth_turns m) rank rank old new.worker) stop
 
 -- how a search ends that stopped: it is reached all the same where the bounds known are within the target
-abbrev pub IsStoppedAs : {S G N : Type 0} → GameModel S → BoardView G N → S → ℤ → Stop → SearchEnd → Type 0
-IsStoppedAs m v s target stop Reached = IsWithin m v s target
-IsStoppedAs m v s target stop Settled = ⊥
-IsStoppedAs m v s target stop Spent = IsBeyond m v s target × (stop ≡ stops.Spent)
-IsStoppedAs m v s target stop Full = IsBeyond m v s target × (stop ≡ stops.Full)
+abbrev pub IsStoppedAs : {S G N : Type 0} → GameModel S → BoardView G N → S → ℤ → SearchEnd → SearchEnd → Type 0
+IsStoppedAs m v s target stopped end = (IsWithin m v s target × (end ≡ Reached)) ⊎ (IsBeyond m v s target × (end ≡ stopped))
 
 -- how the search of a state may end before its first turn: the bounds known are within the target, or as close as its rank allows
 abbrev pub IsEarlyEnd : {S G N : Type 0} → GameModel S → BoardView G N → S → ℤ → Option SearchEnd → Type 0

@@ -1,6 +1,6 @@
 //! The searches of the states after held moves.
 
-ghost use Rattle.std.specs.Prelude.{◌≡◌, ◌+◌, ◌-◌, ◌<◌, ℕ, false, Contains, IfOk};
+ghost use Rattle.std.specs.Prelude.{◌≡◌, ◌+◌, ◌-◌, ◌<◌, ℕ, false, Contains};
 ghost use Rattle.sim_game.specs.declared.Side.{Side};
 ghost use Rattle.restricted_game.specs.Children.{AreChildRows};
 ghost use Rattle.restricted_game.specs.Held.{IsHolding};
@@ -16,7 +16,7 @@ use crate::state::search_row;
 use crate::worker::{Setup, Worker};
 use bounds_board::{Bounds, Row};
 use restricted_game::{ChildRows, Restricted};
-use sim_game::{Game, NoMemory};
+use sim_game::Game;
 
 /// Searches the states after held moves of both sides, up to the first that stops. The pairs of moves come row by row,
 /// as on a ring, from a place on that depends on the worker.
@@ -28,7 +28,7 @@ pub(crate) fn search_children<G: Game, B: Bounds<G>, T: Gate>(
     children: &mut ChildRows,
     worker: &mut Worker,
     board: &mut B,
-) -> Result<Option<Stop>, NoMemory>
+) -> Result<(), Stop>
     requires here { IsAtChildren (G.model setup.now.game) setup.now.game s children.old
         (at_work (B.view board.old) worker.old) }
     requires fits { FitsState (G.model setup.now.game) s held.now }
@@ -37,24 +37,20 @@ pub(crate) fn search_children<G: Game, B: Bounds<G>, T: Gate>(
     ensures children { AreChildRows (G.model setup.now.game) (B.view board.new) s children.new }
     ensures worked { IsWorked (G.model setup.now.game) s
         (at_work (B.view board.old) worker.old) (at_work (B.view board.new) worker.new) }
-    ensures searched { IfOk result (HasSearched (G.model setup.now.game) s ((G.model setup.now.game).rank s - 1)
+    ensures searched { HasSearched (G.model setup.now.game) s ((G.model setup.now.game).rank s - 1)
         ((one two : ℕ) → Contains held.now.rows one → Contains held.now.cols two
         → AreDone (G.model setup.now.game) (B.view board.new) s one two)
-        worker.old (at_work (B.view board.new) worker.new)) }
+        worker.old (at_work (B.view board.new) worker.new) result }
 {
     let rows = held.rows();
     let cols = held.cols();
     let pairs = rows.len() * cols.len();
-    for turn in 0..pairs {
-        let pair = (setup.worker as usize + turn) % pairs;
+    for step in 0..pairs {
+        let pair = (setup.worker as usize + step) % pairs;
         let moves = (rows[pair / cols.len()], cols[pair % cols.len()]);
-        match search_draws(setup, s, moves, children, worker, board) {
-            Ok(None) => {}
-            Ok(Some(stop)) => return Ok(Some(stop)),
-            Err(_) => return Err(NoMemory),
-        }
+        search_draws(setup, s, moves, children, worker, board)?;
     }
-    Ok(None)
+    Ok(())
 }
 
 /// Those after a move of One and a move of Two.
@@ -66,7 +62,7 @@ fn search_draws<G: Game, B: Bounds<G>, T: Gate>(
     children: &mut ChildRows,
     worker: &mut Worker,
     board: &mut B,
-) -> Result<Option<Stop>, NoMemory>
+) -> Result<(), Stop>
     requires here { IsAtChildren (G.model setup.now.game) setup.now.game s children.old
         (at_work (B.view board.old) worker.old) }
     requires one { moves.0 < (G.model setup.now.game).moves Side.One s }
@@ -75,27 +71,17 @@ fn search_draws<G: Game, B: Bounds<G>, T: Gate>(
     ensures children { AreChildRows (G.model setup.now.game) (B.view board.new) s children.new }
     ensures worked { IsWorked (G.model setup.now.game) s
         (at_work (B.view board.old) worker.old) (at_work (B.view board.new) worker.new) }
-    ensures searched { IfOk result (HasSearched (G.model setup.now.game) s ((G.model setup.now.game).rank s - 1)
+    ensures searched { HasSearched (G.model setup.now.game) s ((G.model setup.now.game).rank s - 1)
         (AreDone (G.model setup.now.game) (B.view board.new) s moves.0 moves.1)
-        worker.old (at_work (B.view board.new) worker.new)) }
+        worker.old (at_work (B.view board.new) worker.new) result }
 {
     let g = setup.game;
     for draw in 0..g.draws(s, moves.0, moves.1) {
-        let row = match children.claim(g, s, moves.0, moves.1, draw, board) {
-            Ok(row) => row,
-            Err(_) => {
-                worker.note_full();
-                return Ok(Some(Stop::Full));
-            }
-        };
+        let row = children.claim(g, s, moves.0, moves.1, draw, board)?;
         let child = g.drawn(s, moves.0, moves.1, draw);
-        match search_child(setup, child, row, worker, board) {
-            Ok(None) => {}
-            Ok(Some(stop)) => return Ok(Some(stop)),
-            Err(_) => return Err(NoMemory),
-        }
+        search_child(setup, child, row, worker, board)?;
     }
-    Ok(None)
+    Ok(())
 }
 
 /// Finishes a state, unless it is an end, which has no row, is finished, or has no gap.
@@ -106,35 +92,27 @@ fn search_child<G: Game, B: Bounds<G>, T: Gate>(
     row: Option<Row>,
     worker: &mut Worker,
     board: &mut B,
-) -> Result<Option<Stop>, NoMemory>
+) -> Result<(), Stop>
     requires here { IsAtRow (G.model setup.now.game) setup.now.game s row (at_work (B.view board.old) worker.old) }
     requires regret { worker.old.linear ≡ false }
     ensures worked { IsWorkedBelow (G.model setup.now.game) s ((G.model setup.now.game).rank s + 1)
         (at_work (B.view board.old) worker.old) (at_work (B.view board.new) worker.new) }
-    ensures searched { IfOk result (HasSearched (G.model setup.now.game) s ((G.model setup.now.game).rank s)
+    ensures searched { HasSearched (G.model setup.now.game) s ((G.model setup.now.game).rank s)
         (IsDone (G.model setup.now.game) (B.view board.new) s)
-        worker.old (at_work (B.view board.new) worker.new)) }
+        worker.old (at_work (B.view board.new) worker.new) result }
 {
-    let row = match row {
-        Some(row) => row,
-        None => return Ok(None),
+    let Some(row) = row else {
+        return Ok(());
     };
     let key = setup.game.key(s);
     if worker.has(key) {
-        return Ok(None);
+        return Ok(());
     }
     if gap_at(setup.game, s, row, board) == 0 {
-        return Ok(None);
+        return Ok(());
     }
-    let end = match search_row(setup, s, row, 0, true, worker, board) {
-        Ok(end) => end,
-        Err(_) => return Err(NoMemory),
-    };
-    match end.stop() {
-        None => match worker.add(key) {
-            Ok(()) => Ok(None),
-            Err(_) => Err(NoMemory),
-        },
-        Some(stop) => Ok(Some(stop)),
-    }
+    let end = search_row(setup, s, row, 0, true, worker, board)?;
+    end.finished()?;
+    worker.add(key)?;
+    Ok(())
 }

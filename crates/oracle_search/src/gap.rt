@@ -10,7 +10,7 @@ ghost use Rattle.restricted_game.specs.Nodes.{IsAtNode};
 ghost use Rattle.oracle_search.specs.Finished.{IsWithin, IsBeyond, IsLeftBelow, left_gap};
 ghost use Rattle.oracle_search.specs.Searches.{IsInner, IsStoppedAs, IsEarlyEnd};
 
-use crate::ends::{SearchEnd, Stop};
+use crate::ends::SearchEnd;
 use crate::gate::Gate;
 use crate::worker::Setup;
 use bounds_board::{Bounds, Enclosure, Row, known_bounds};
@@ -152,27 +152,24 @@ pub(crate) fn ended_early<G: Game, B: Bounds<G>, T: Gate>(
     }
 }
 
-/// How the search of a state ends that stopped: it is reached all the same where its gap, read once more, is at most
-/// the target.
+/// How the search of a state ends that stopped with this end: it is reached all the same where its gap, read once more,
+/// is at most the target.
 pub(crate) fn stopped<G: Game, B: Bounds<G>>(
     g: G,
     s: G::State,
     row: Row,
     target: i64,
-    stop: Stop,
+    end: SearchEnd,
     board: &mut B,
 ) -> SearchEnd
     requires here { IsAtNode (G.model g) g (B.view board.old) s row }
     requires target { pos 0 ≤ℤ target }
     ensures later { IsLater (B.view board.old) (B.view board.new) }
     ensures entries { (B.view board.new).entries ≡ (B.view board.old).entries }
-    ensures end { IsStoppedAs (G.model g) (B.view board.new) s target stop result }
+    ensures end { IsStoppedAs (G.model g) (B.view board.new) s target end result }
 {
     if is_within(g, s, row, target, board) {
         return SearchEnd::Reached;
     }
-    match stop {
-        Stop::Spent => SearchEnd::Spent,
-        Stop::Full => SearchEnd::Full,
-    }
+    end
 }

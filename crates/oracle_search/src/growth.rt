@@ -1,6 +1,6 @@
 //! Restricted games that grow by best replies.
 
-ghost use Rattle.std.specs.Prelude.{◌≡◌, ◌≤ℤ◌, ◌+◌, ◌≤◌, pos, false, Some, Err, IfOk};
+ghost use Rattle.std.specs.Prelude.{◌≡◌, ◌≤ℤ◌, ◌+◌, ◌≤◌, pos, false, Some, Err, IfErr, IfOk};
 ghost use Rattle.matrix_game.specs.Budget.{left_of};
 ghost use Rattle.restricted_game.specs.declared.held.StepFault.{StepFault};
 ghost use Rattle.restricted_game.specs.Children.{AreChildRows, HasNoRows};
@@ -9,13 +9,13 @@ ghost use Rattle.restricted_game.specs.Nodes.{FitsState};
 ghost use Rattle.restricted_game.specs.Gaps.{HasStepGap};
 ghost use Rattle.restricted_game.specs.Stages.{HasStepGapOver, WereStageNumbers};
 ghost use Rattle.oracle_search.specs.Workers.{at_work};
-ghost use Rattle.oracle_search.specs.Searches.{IsAtRow, IsWorked, HasEnded, HasTurn, TakesAskedTurn};
-ghost use Rattle.oracle_search.specs.Searches.{IsInner, IsBoardFull, IsFirstHeld};
+ghost use Rattle.oracle_search.specs.Searches.{IsAtRow, IsWorked, HasEnded, IsStop, HasTurn, TakesAskedTurn};
+ghost use Rattle.oracle_search.specs.Searches.{IsInner, IsBoardFull, IsFirstHeld, TakesAtMost, growth_turns};
 ghost use Rattle.oracle_search.specs.Sweeps.{IsFullHeld};
 
 use crate::children::search_children;
 use crate::ends::{SearchEnd, Stop};
-use crate::gap::{is_within_told, stopped};
+use crate::gap::is_within_told;
 use crate::gate::Gate;
 use crate::worker::{Setup, Worker};
 use bounds_board::{Bounds, Row};
@@ -82,7 +82,7 @@ pub(crate) fn grow<G: Game, B: Bounds<G>, T: Gate>(
     target: i64,
     worker: &mut Worker,
     board: &mut B,
-) -> Result<SearchEnd, NoMemory>
+) -> Result<SearchEnd, Stop>
     requires here { IsAtRow (G.model setup.now.game) setup.now.game s (Some row)
         (at_work (B.view board.old) worker.old) }
     requires target { pos 0 ≤ℤ target }
@@ -91,36 +91,22 @@ pub(crate) fn grow<G: Game, B: Bounds<G>, T: Gate>(
         (at_work (B.view board.old) worker.old) (at_work (B.view board.new) worker.new) }
     ensures ended { IfOk result (HasEnded (G.model setup.now.game) s target
         (at_work (B.view board.old) worker.old) (at_work (B.view board.new) worker.new)) }
+    ensures stopped { IfErr result (IsStop (G.model setup.now.game) s (at_work (B.view board.new) worker.new)
+        (TakesAtMost (growth_turns (G.model setup.now.game))
+        ((G.model setup.now.game).rank s) ((G.model setup.now.game).rank s) worker.old worker.new)) }
     ensures turned { IfOk result (λ end. end ≡ SearchEnd.Settled
         → worker.old.turns.spent + 1 ≤ worker.new.turns.spent) }
 {
-    let g = setup.game;
-    let mut growth = match Growth::new(setup, s) {
-        Ok(growth) => growth,
-        Err(_) => return Err(NoMemory),
-    };
+    let mut growth = Growth::new(setup, s)?;
     'growth: loop {
-        match search_children(setup, s, &growth.held, &mut growth.children, worker, board) {
-            Ok(None) => {}
-            Ok(Some(stop)) => return Ok(stopped(g, s, row, target, stop, board)),
-            Err(_) => return Err(NoMemory),
+        search_children(setup, s, &growth.held, &mut growth.children, worker, board)?;
+        let end = take_turn(setup, s, row, &mut growth, worker, board)?;
+        if is_within_told(setup, s, row, target, board) {
+            return Ok(SearchEnd::Reached);
         }
-        match take_turn(setup, s, row, &mut growth, worker, board) {
-            Ok(end) => {
-                if is_within_told(setup, s, row, target, board) {
-                    return Ok(SearchEnd::Reached);
-                }
-                match end {
-                    StepEnd::Grown { .. } => {}
-                    StepEnd::Done { .. } => return Ok(SearchEnd::Settled),
-                }
-            }
-            Err(StepFault::Spent) => return Ok(stopped(g, s, row, target, Stop::Spent, board)),
-            Err(StepFault::Full) => {
-                worker.note_full();
-                return Ok(stopped(g, s, row, target, Stop::Full, board));
-            }
-            Err(StepFault::NoMemory) => return Err(NoMemory),
+        match end {
+            StepEnd::Grown { .. } => {}
+            StepEnd::Done { .. } => return Ok(SearchEnd::Settled),
         }
     }
 }

@@ -49,11 +49,8 @@ fn bound_side<G: Game, B: Bounds<G>, T: Gate>(
         interrupt: setup,
         may_stop: worker.turns.may_stop(),
     };
-    match serial_with(&task, s, row, range, &mut worker.serial, board) {
-        Ok(end) => Ok(number_in(end)),
-        Err(BoardFault::Full) => Err(BoardFault::Full),
-        Err(BoardFault::NoMemory) => Err(BoardFault::NoMemory),
-    }
+    let end = serial_with(&task, s, row, range, &mut worker.serial, board)?;
+    Ok(number_in(end))
 }
 
 /// The number that a serial search found, unless it was cut.
@@ -98,20 +95,12 @@ pub(crate) fn bound_state<G: Game, B: Bounds<G>, T: Gate>(
     ensures tight { HasVisitsBelow (G.model setup.now.game) s worker.old.turns worker.old.visits
         → IfOk result (λ _. IsPureTight (G.model setup.now.game) s (B.view board.new)) }
 {
-    match bound_side(setup, s, row, Side::One, worker, board) {
-        Ok(lower) => {
-            let enclosure = known_bounds(setup.game, s, row, board);
-            if enclosure.lower == enclosure.upper {
-                return Ok(false);
-            }
-            match bound_side(setup, s, row, Side::Two, worker, board) {
-                Ok(upper) => {
-                    let last = known_bounds(setup.game, s, row, board);
-                    Ok(is_ahead(last, lower, upper))
-                }
-                Err(fault) => Err(fault),
-            }
-        }
-        Err(fault) => Err(fault),
+    let lower = bound_side(setup, s, row, Side::One, worker, board)?;
+    let enclosure = known_bounds(setup.game, s, row, board);
+    if enclosure.lower == enclosure.upper {
+        return Ok(false);
     }
+    let upper = bound_side(setup, s, row, Side::Two, worker, board)?;
+    let last = known_bounds(setup.game, s, row, board);
+    Ok(is_ahead(last, lower, upper))
 }

@@ -1,10 +1,10 @@
 //! The search of a state.
 
-ghost use Rattle.std.specs.Prelude.{◌≡◌, ◌≢◌, ℕ, ◌+◌, ◌≤◌, ◌≤ℤ◌, pos, Some, IfOk};
+ghost use Rattle.std.specs.Prelude.{◌≡◌, ◌≢◌, ℕ, ◌+◌, ◌≤◌, ◌≤ℤ◌, pos, Some, IfErr, IfOk};
 ghost use Rattle.sim_game.specs.Model.{Reachable};
-ghost use Rattle.oracle_search.specs.Sweeps.{HasBounded};
+ghost use Rattle.oracle_search.specs.Sweeps.{HasBounded, HasRunOut};
 ghost use Rattle.oracle_search.specs.Workers.{at_start, at_work};
-ghost use Rattle.oracle_search.specs.Searches.{HasKept, IsAtRow, IsWorked};
+ghost use Rattle.oracle_search.specs.Searches.{HasKept, IsAtRow, IsWorked, IsStop};
 ghost use Rattle.oracle_search.specs.Searches.{BoundsByPure, IsLeavable};
 
 use crate::ends::{SearchEnd, Stop};
@@ -14,7 +14,7 @@ use crate::growth::grow;
 use crate::serial_bounds::bound_state;
 use crate::sweeping::make_sweeps;
 use crate::worker::{Setup, Worker};
-use bounds_board::{BoardFault, Bounds, Row};
+use bounds_board::{Bounds, Row};
 use sim_game::{Game, NoMemory};
 
 /// Bounds a state until its gap is at most the target, in millionths of a payoff. `Full`, and what the worker keeps in
@@ -68,8 +68,7 @@ pub fn search<G: Game, B: Bounds<G>, T: Gate>(
     }
 }
 
-/// Bounds a state that is no end, by its row: by pure plans first, then by sweeps with linear stages, else by a game that
-/// grows. It may be left to another worker where that is allowed.
+/// Bounds a state that is no end, by its row. It may be left to another worker where that is allowed.
 #[cycle(search)]
 pub(crate) fn search_row<G: Game, B: Bounds<G>, T: Gate>(
     setup: &Setup<'_, G, T>,
@@ -93,28 +92,56 @@ pub(crate) fn search_row<G: Game, B: Bounds<G>, T: Gate>(
         → IsLeavable (G.model setup.now.game) s may_leave
         (at_work (B.view board.old) worker.old) (at_work (B.view board.new) worker.new)) }
 {
-    let g = setup.game;
-    if gap_at(g, s, row, board) == 0 {
+    match close_row(setup, s, row, target, may_leave, worker, board) {
+        Ok(end) => Ok(end),
+        Err(Stop::Spent) => Ok(stopped(setup.game, s, row, target, SearchEnd::Spent, board)),
+        Err(Stop::Full) => {
+            worker.note_full();
+            Ok(stopped(setup.game, s, row, target, SearchEnd::Full, board))
+        }
+        Err(Stop::NoMemory) => Err(NoMemory),
+    }
+}
+
+/// Brings the bounds of its row together: by pure plans first, then by sweeps with linear stages, else by a game that
+/// grows.
+#[cycle(search)]
+fn close_row<G: Game, B: Bounds<G>, T: Gate>(
+    setup: &Setup<'_, G, T>,
+    s: G::State,
+    row: Row,
+    target: i64,
+    may_leave: bool,
+    worker: &mut Worker,
+    board: &mut B,
+) -> Result<SearchEnd, Stop>
+    requires here { IsAtRow (G.model setup.now.game) setup.now.game s (Some row)
+        (at_work (B.view board.old) worker.old) }
+    requires target { pos 0 ≤ℤ target }
+    ensures worked { IsWorked (G.model setup.now.game) s
+        (at_work (B.view board.old) worker.old) (at_work (B.view board.new) worker.new) }
+    ensures ended { IfOk result (HasBounded (G.model setup.now.game) s target
+        (at_work (B.view board.old) worker.old) (at_work (B.view board.new) worker.new)) }
+    ensures pure { IfOk result (BoundsByPure (G.model setup.now.game) s target
+        (at_work (B.view board.old) worker.old) (at_work (B.view board.new) worker.new)) }
+    ensures left { IfOk result (λ end. end ≡ SearchEnd.Settled → worker.new.turns.spent ≡ worker.old.turns.spent
+        → IsLeavable (G.model setup.now.game) s may_leave
+        (at_work (B.view board.old) worker.old) (at_work (B.view board.new) worker.new)) }
+    ensures stopped { IfErr result (IsStop (G.model setup.now.game) s (at_work (B.view board.new) worker.new)
+        (HasRunOut (G.model setup.now.game) s target
+        (at_work (B.view board.old) worker.old) (at_work (B.view board.new) worker.new))) }
+{
+    if gap_at(setup.game, s, row, board) == 0 {
         return Ok(SearchEnd::Reached);
     }
-    match bound_state(setup, s, row, worker, board) {
-        Ok(is_ahead) => {
-            let is_left = worker.may_leave(may_leave, is_ahead);
-            match ended_early(setup, s, row, target, is_left, board) {
-                Some(end) => Ok(end),
-                None => {
-                    if worker.is_linear() {
-                        make_sweeps(setup, s, row, target, worker, board)
-                    } else {
-                        grow(setup, s, row, target, worker, board)
-                    }
-                }
-            }
-        }
-        Err(BoardFault::Full) => {
-            worker.note_full();
-            Ok(stopped(g, s, row, target, Stop::Full, board))
-        }
-        Err(BoardFault::NoMemory) => Err(NoMemory),
+    let is_ahead = bound_state(setup, s, row, worker, board)?;
+    let is_left = worker.may_leave(may_leave, is_ahead);
+    if let Some(end) = ended_early(setup, s, row, target, is_left, board) {
+        return Ok(end);
+    }
+    if worker.is_linear() {
+        make_sweeps(setup, s, row, target, worker, board)
+    } else {
+        grow(setup, s, row, target, worker, board)
     }
 }

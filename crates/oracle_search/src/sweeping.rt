@@ -1,18 +1,18 @@
 //! A search by sweeps over the states that a state leads to, with linear stages.
 
-ghost use Rattle.std.specs.Prelude.{◌≡◌, ◌≤◌, ◌≤ℤ◌, pos, true, false, Some, IsTrue, IfOk};
+ghost use Rattle.std.specs.Prelude.{◌≡◌, ◌≤◌, ◌≤ℤ◌, pos, true, false, cond, Some, IsTrue, IfErr, IfOk};
 ghost use Rattle.sums.specs.declared.TheConstants.{LEAST_WEIGHT, MOST_WEIGHT};
-ghost use Rattle.oracle_search.specs.Sweeps.{EndsBySweeps, IsAfterSweep};
+ghost use Rattle.oracle_search.specs.Sweeps.{EndsBySweeps, IsAfterSweep, TakesUnlessFull};
 ghost use Rattle.oracle_search.specs.Workers.{at_work};
-ghost use Rattle.oracle_search.specs.Searches.{IsInner, IsAtRow, IsWorked};
+ghost use Rattle.oracle_search.specs.Searches.{IsInner, IsAtRow, IsStop, IsWorked};
 
-use crate::ends::SearchEnd;
-use crate::gap::{is_within_told, stopped};
+use crate::ends::{SearchEnd, Stop};
+use crate::gap::is_within_told;
 use crate::gate::Gate;
 use crate::sweeps::sweep_state;
 use crate::worker::{Setup, Worker};
 use bounds_board::{Bounds, Row};
-use sim_game::{Game, NoMemory, Side, opening_bound};
+use sim_game::{Game, Side, opening_bound};
 
 /// How close a sweep brings the states.
 #[derive(Clone, Copy)]
@@ -93,7 +93,7 @@ pub(crate) fn make_sweeps<G: Game, B: Bounds<G>, T: Gate>(
     target: i64,
     worker: &mut Worker,
     board: &mut B,
-) -> Result<SearchEnd, NoMemory>
+) -> Result<SearchEnd, Stop>
     requires here { IsAtRow (G.model setup.now.game) setup.now.game s (Some row)
         (at_work (B.view board.old) worker.old) }
     requires target { pos 0 ≤ℤ target }
@@ -101,6 +101,8 @@ pub(crate) fn make_sweeps<G: Game, B: Bounds<G>, T: Gate>(
         (at_work (B.view board.old) worker.old) (at_work (B.view board.new) worker.new) }
     ensures ended { IfOk result (EndsBySweeps (G.model setup.now.game) s target 2 1
         (at_work (B.view board.old) worker.old) (at_work (B.view board.new) worker.new)) }
+    ensures stopped { IfErr result (IsStop (G.model setup.now.game) s (at_work (B.view board.new) worker.new)
+        (TakesUnlessFull (G.model setup.now.game) 2 1 worker.old (at_work (B.view board.new) worker.new))) }
 {
     worker.forget_searches(setup.alloc);
     let first = Sweep::first(setup.game, s, board.total());
@@ -112,21 +114,18 @@ pub(crate) fn make_sweeps<G: Game, B: Bounds<G>, T: Gate>(
     for goal in [coarse, target] {
         if goal > 0 {
             let sweep = first.with_goal(goal);
-            match make_sweep(setup, &sweep, s, row, target, worker, board) {
-                Ok(None) => {}
-                Ok(Some(end)) => return Ok(end),
-                Err(_) => return Err(NoMemory),
+            if make_sweep(setup, &sweep, s, row, target, worker, board)? {
+                return Ok(SearchEnd::Reached);
             }
         }
     }
-    match make_sweep(setup, &first.last(), s, row, target, worker, board) {
-        Ok(None) => Ok(SearchEnd::Settled),
-        Ok(Some(end)) => Ok(end),
-        Err(_) => Err(NoMemory),
+    if make_sweep(setup, &first.last(), s, row, target, worker, board)? {
+        return Ok(SearchEnd::Reached);
     }
+    Ok(SearchEnd::Settled)
 }
 
-/// One sweep: how the search ends, if it does.
+/// One sweep: whether it reaches the target.
 fn make_sweep<G: Game, B: Bounds<G>, T: Gate>(
     setup: &Setup<'_, G, T>,
     sweep: &Sweep,
@@ -135,7 +134,7 @@ fn make_sweep<G: Game, B: Bounds<G>, T: Gate>(
     target: i64,
     worker: &mut Worker,
     board: &mut B,
-) -> Result<Option<SearchEnd>, NoMemory>
+) -> Result<bool, Stop>
     requires here { IsAtRow (G.model setup.now.game) setup.now.game s (Some row)
         (at_work (B.view board.old) worker.old) }
     requires target { pos 0 ≤ℤ target }
@@ -143,17 +142,11 @@ fn make_sweep<G: Game, B: Bounds<G>, T: Gate>(
         (at_work (B.view board.old) worker.old) (at_work (B.view board.new) worker.new) }
     ensures ended { IfOk result (IsAfterSweep (G.model setup.now.game) s target sweep.now.is_last
         (at_work (B.view board.old) worker.old) (at_work (B.view board.new) worker.new)) }
+    ensures stopped { IfErr result (IsStop (G.model setup.now.game) s (at_work (B.view board.new) worker.new)
+        (TakesUnlessFull (G.model setup.now.game) (cond sweep.now.is_last 0 1) (cond sweep.now.is_last 1 0)
+        worker.old (at_work (B.view board.new) worker.new))) }
 {
     worker.begin_sweep();
-    match sweep_state(setup, sweep, s, row, worker, board) {
-        Ok(None) => {
-            if is_within_told(setup, s, row, target, board) {
-                Ok(Some(SearchEnd::Reached))
-            } else {
-                Ok(None)
-            }
-        }
-        Ok(Some(stop)) => Ok(Some(stopped(setup.game, s, row, target, stop, board))),
-        Err(_) => Err(NoMemory),
-    }
+    sweep_state(setup, sweep, s, row, worker, board)?;
+    Ok(is_within_told(setup, s, row, target, board))
 }

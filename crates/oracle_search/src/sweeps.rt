@@ -1,12 +1,12 @@
 //! One sweep over the states that a state leads to: a turn for each, its children first.
 
-ghost use Rattle.std.specs.Prelude.{◌≡◌, ◌⊎◌, ◌+◌, ◌<◌, ◌≤◌, ◌≤ℤ◌, pos, true, None, Some, Ok, Err, IsTrue, IsFalse, IfOk, Contains};
+ghost use Rattle.std.specs.Prelude.{◌≡◌, ◌⊎◌, ◌+◌, ◌<◌, ◌≤◌, ◌≤ℤ◌, pos, true, Some, IsTrue, IsFalse, IfErr, IfOk, OnOk, Contains};
 ghost use Rattle.sums.specs.declared.TheConstants.{LEAST_WEIGHT, MOST_WEIGHT};
 ghost use Rattle.sim_game.specs.declared.Side.{Side};
 ghost use Rattle.restricted_game.specs.Children.{AreChildRows};
-ghost use Rattle.oracle_search.specs.Sweeps.{HasSwept, IsSweepEnd, IsSweepDone, IsFullHeld, AreAllDone};
+ghost use Rattle.oracle_search.specs.Sweeps.{HasSwept, IsSweepEnd, IsSweepDone, IsFullHeld, AreAllDone, TakesOne};
 ghost use Rattle.oracle_search.specs.Workers.{at_work};
-ghost use Rattle.oracle_search.specs.Searches.{IsInner, IsAtRow, IsAtChildren, IsWorked, IsBoardFull, IsDone, AreDone};
+ghost use Rattle.oracle_search.specs.Searches.{IsInner, IsAtRow, IsAtChildren, IsStop, IsWorked, IsDone, AreDone};
 ghost use Rattle.oracle_search.specs.Finished.{AreFinished, IsLeftBelow, IsWithin};
 
 use crate::ends::Stop;
@@ -16,9 +16,9 @@ use crate::growth::{Growth, take_turn_over};
 use crate::serial_bounds::bound_state;
 use crate::sweeping::Sweep;
 use crate::worker::{Setup, Worker};
-use bounds_board::{BoardFault, Bounds, Row};
+use bounds_board::{Bounds, Row};
 use restricted_game::{ChildRows, Node, StageBuffers};
-use sim_game::{Game, NoMemory, Side};
+use sim_game::{Game, Side};
 
 /// Makes the sweep at the states that this one leads to, and then here, with all moves held.
 #[cycle(sweep)]
@@ -29,34 +29,24 @@ pub(crate) fn sweep_state<G: Game, B: Bounds<G>, T: Gate>(
     row: Row,
     worker: &mut Worker,
     board: &mut B,
-) -> Result<Option<Stop>, NoMemory>
+) -> Result<(), Stop>
     requires here { IsAtRow (G.model setup.now.game) setup.now.game s (Some row)
         (at_work (B.view board.old) worker.old) }
     requires swept { AreFinished (G.model setup.now.game) sweep.now.is_last (B.view board.old) worker.old.swept }
     requires unmet { Contains worker.old.swept ((G.model setup.now.game).key s) → ⊥ }
     ensures swept { HasSwept (G.model setup.now.game) sweep.now.is_last s ((G.model setup.now.game).rank s + 1)
         (at_work (B.view board.old) worker.old) (at_work (B.view board.new) worker.new) }
-    ensures ended { IfOk result (IsSweepEnd (G.model setup.now.game) s
+    ensures ended { IsSweepEnd (G.model setup.now.game) s
         (IsSweepDone (G.model setup.now.game) sweep.now.is_last (B.view board.new) s)
-        worker.old (at_work (B.view board.new) worker.new)) }
-    ensures turned { result ≡ Ok None → sweep.now.is_last ≡ true
+        worker.old (at_work (B.view board.new) worker.new) result }
+    ensures turned { OnOk result (sweep.now.is_last ≡ true
         → (worker.old.turns.spent + 1 ≤ worker.new.turns.spent)
-        ⊎ IsWithin (G.model setup.now.game) (B.view board.new) s (pos 0) }
+        ⊎ IsWithin (G.model setup.now.game) (B.view board.new) s (pos 0)) }
 {
-    let mut children = match worker.child_rows(setup.game, s) {
-        Ok(children) => children,
-        Err(_) => return Err(NoMemory),
-    };
-    match sweep_children(setup, sweep, s, &mut children, worker, board) {
-        Ok(None) => {}
-        Ok(Some(stop)) => return Ok(Some(stop)),
-        Err(_) => return Err(NoMemory),
-    }
+    let mut children = worker.child_rows(setup.game, s)?;
+    sweep_children(setup, sweep, s, &mut children, worker, board)?;
     let mut buffers = worker.take_buffers(setup.alloc);
-    let mut growth = match Growth::full(setup.game, s, children, &mut buffers) {
-        Ok(growth) => growth,
-        Err(_) => return Err(NoMemory),
-    };
+    let mut growth = Growth::full(setup.game, s, children, &mut buffers)?;
     let node = Node { state: s, row };
     let end = close_in(setup, sweep, node, &mut growth, worker, board, &mut buffers);
     growth.give_back(&mut buffers);
@@ -75,7 +65,7 @@ fn close_in<G: Game, B: Bounds<G>, T: Gate>(
     worker: &mut Worker,
     board: &mut B,
     buffers: &mut StageBuffers,
-) -> Result<Option<Stop>, NoMemory>
+) -> Result<(), Stop>
     requires here { IsAtRow (G.model setup.now.game) setup.now.game node.state (Some node.row)
         (at_work (B.view board.old) worker.old) }
     requires held { IsFullHeld (G.model setup.now.game) node.state growth.old.held }
@@ -86,47 +76,33 @@ fn close_in<G: Game, B: Bounds<G>, T: Gate>(
     ensures swept { HasSwept (G.model setup.now.game) sweep.now.is_last node.state
         ((G.model setup.now.game).rank node.state + 1)
         (at_work (B.view board.old) worker.old) (at_work (B.view board.new) worker.new) }
-    ensures ended { IfOk result (IsSweepEnd (G.model setup.now.game) node.state
+    ensures ended { IsSweepEnd (G.model setup.now.game) node.state
         (IsSweepDone (G.model setup.now.game) sweep.now.is_last (B.view board.new) node.state)
-        worker.old (at_work (B.view board.new) worker.new)) }
-    ensures turned { result ≡ Ok None → sweep.now.is_last ≡ true
+        worker.old (at_work (B.view board.new) worker.new) result }
+    ensures turned { OnOk result (sweep.now.is_last ≡ true
         → (worker.old.turns.spent + 1 ≤ worker.new.turns.spent)
-        ⊎ IsWithin (G.model setup.now.game) (B.view board.new) node.state (pos 0) }
+        ⊎ IsWithin (G.model setup.now.game) (B.view board.new) node.state (pos 0)) }
 {
     let g = setup.game;
     let s = node.state;
     let goal = sweep.goal_at(g.rank(s));
-    let numbers = match growth.held.read(g, s, &mut growth.children, board, buffers) {
-        Ok(numbers) => numbers,
-        Err(BoardFault::Full) => {
-            worker.note_full();
-            return Ok(Some(Stop::Full));
-        }
-        Err(BoardFault::NoMemory) => return Err(NoMemory),
-    };
-    match growth.held.post_alone(g, node, goal, &numbers, board) {
-        Ok(()) => {}
-        Err(_) => return Err(NoMemory),
-    }
+    let numbers = growth
+        .held
+        .read(g, s, &mut growth.children, board, buffers)?;
+    growth.held.post_alone(g, node, goal, &numbers, board)?;
     if is_within(g, s, node.row, goal, board) {
         numbers.give_back(buffers);
-        return Ok(None);
+        return Ok(());
     }
     worker.ask(setup);
     if worker.turns().left() == 0 {
         numbers.give_back(buffers);
-        return Ok(Some(Stop::Spent));
+        return Err(Stop::Spent);
     }
-    match take_turn_over(setup, node, &numbers, &mut growth.held, worker, board) {
-        Ok(_) => {
-            numbers.give_back(buffers);
-            match worker.add_swept(g.key(s)) {
-                Ok(()) => Ok(None),
-                Err(_) => Err(NoMemory),
-            }
-        }
-        Err(_) => Err(NoMemory),
-    }
+    take_turn_over(setup, node, &numbers, &mut growth.held, worker, board)?;
+    numbers.give_back(buffers);
+    worker.add_swept(g.key(s))?;
+    Ok(())
 }
 
 /// Makes the sweep at the states after each pair of moves, up to the first that stops. The pairs come row by row, as on
@@ -139,37 +115,26 @@ fn sweep_children<G: Game, B: Bounds<G>, T: Gate>(
     children: &mut ChildRows,
     worker: &mut Worker,
     board: &mut B,
-) -> Result<Option<Stop>, NoMemory>
+) -> Result<(), Stop>
     requires here { IsAtChildren (G.model setup.now.game) setup.now.game s children.old
         (at_work (B.view board.old) worker.old) }
     requires swept { AreFinished (G.model setup.now.game) sweep.now.is_last (B.view board.old) worker.old.swept }
     ensures children { AreChildRows (G.model setup.now.game) (B.view board.new) s children.new }
     ensures swept { HasSwept (G.model setup.now.game) sweep.now.is_last s ((G.model setup.now.game).rank s)
         (at_work (B.view board.old) worker.old) (at_work (B.view board.new) worker.new) }
-    ensures ended { IfOk result (IsSweepEnd (G.model setup.now.game) s
+    ensures ended { IsSweepEnd (G.model setup.now.game) s
         (sweep.now.is_last ≡ true → AreAllDone (G.model setup.now.game) (B.view board.new) s)
-        worker.old (at_work (B.view board.new) worker.new)) }
+        worker.old (at_work (B.view board.new) worker.new) result }
 {
     let cols = setup.game.moves(Side::Two, s);
     let pairs = setup.game.moves(Side::One, s) * cols;
     let first = first_pair(setup, pairs);
-    for turn in 0..pairs {
-        let pair = (first % pairs + turn) % pairs;
-        match sweep_draws(
-            setup,
-            sweep,
-            s,
-            (pair / cols, pair % cols),
-            children,
-            worker,
-            board,
-        ) {
-            Ok(None) => {}
-            Ok(Some(stop)) => return Ok(Some(stop)),
-            Err(_) => return Err(NoMemory),
-        }
+    for step in 0..pairs {
+        let pair = (first % pairs + step) % pairs;
+        let moves = (pair / cols, pair % cols);
+        sweep_draws(setup, sweep, s, moves, children, worker, board)?;
     }
-    Ok(None)
+    Ok(())
 }
 
 /// The pair that a worker begins with: the workers share the ring of pairs.
@@ -188,7 +153,7 @@ fn sweep_draws<G: Game, B: Bounds<G>, T: Gate>(
     children: &mut ChildRows,
     worker: &mut Worker,
     board: &mut B,
-) -> Result<Option<Stop>, NoMemory>
+) -> Result<(), Stop>
     requires here { IsAtChildren (G.model setup.now.game) setup.now.game s children.old
         (at_work (B.view board.old) worker.old) }
     requires one { moves.0 < (G.model setup.now.game).moves Side.One s }
@@ -197,27 +162,17 @@ fn sweep_draws<G: Game, B: Bounds<G>, T: Gate>(
     ensures children { AreChildRows (G.model setup.now.game) (B.view board.new) s children.new }
     ensures swept { HasSwept (G.model setup.now.game) sweep.now.is_last s ((G.model setup.now.game).rank s)
         (at_work (B.view board.old) worker.old) (at_work (B.view board.new) worker.new) }
-    ensures ended { IfOk result (IsSweepEnd (G.model setup.now.game) s
+    ensures ended { IsSweepEnd (G.model setup.now.game) s
         (sweep.now.is_last ≡ true → AreDone (G.model setup.now.game) (B.view board.new) s moves.0 moves.1)
-        worker.old (at_work (B.view board.new) worker.new)) }
+        worker.old (at_work (B.view board.new) worker.new) result }
 {
     let g = setup.game;
     for draw in 0..g.draws(s, moves.0, moves.1) {
-        let row = match children.claim(g, s, moves.0, moves.1, draw, board) {
-            Ok(row) => row,
-            Err(_) => {
-                worker.note_full();
-                return Ok(Some(Stop::Full));
-            }
-        };
+        let row = children.claim(g, s, moves.0, moves.1, draw, board)?;
         let child = g.drawn(s, moves.0, moves.1, draw);
-        match sweep_child(setup, sweep, child, row, worker, board) {
-            Ok(None) => {}
-            Ok(Some(stop)) => return Ok(Some(stop)),
-            Err(_) => return Err(NoMemory),
-        }
+        sweep_child(setup, sweep, child, row, worker, board)?;
     }
-    Ok(None)
+    Ok(())
 }
 
 /// Makes the sweep at a state, unless it is an end, which has no row, or has enough for this sweep.
@@ -229,33 +184,22 @@ fn sweep_child<G: Game, B: Bounds<G>, T: Gate>(
     row: Option<Row>,
     worker: &mut Worker,
     board: &mut B,
-) -> Result<Option<Stop>, NoMemory>
+) -> Result<(), Stop>
     requires here { IsAtRow (G.model setup.now.game) setup.now.game s row (at_work (B.view board.old) worker.old) }
     requires swept { AreFinished (G.model setup.now.game) sweep.now.is_last (B.view board.old) worker.old.swept }
     ensures swept { HasSwept (G.model setup.now.game) sweep.now.is_last s ((G.model setup.now.game).rank s + 1)
         (at_work (B.view board.old) worker.old) (at_work (B.view board.new) worker.new) }
-    ensures ended { IfOk result (IsSweepEnd (G.model setup.now.game) s
+    ensures ended { IsSweepEnd (G.model setup.now.game) s
         (IsSweepDone (G.model setup.now.game) sweep.now.is_last (B.view board.new) s)
-        worker.old (at_work (B.view board.new) worker.new)) }
+        worker.old (at_work (B.view board.new) worker.new) result }
 {
-    let row = match row {
-        Some(row) => row,
-        None => return Ok(None),
+    let Some(row) = row else {
+        return Ok(());
     };
-    match is_enough(setup, sweep, s, row, worker, board) {
-        Ok(is_enough) => {
-            if is_enough {
-                Ok(None)
-            } else {
-                sweep_state(setup, sweep, s, row, worker, board)
-            }
-        }
-        Err(BoardFault::Full) => {
-            worker.note_full();
-            Ok(Some(Stop::Full))
-        }
-        Err(BoardFault::NoMemory) => Err(NoMemory),
+    if is_enough(setup, sweep, s, row, worker, board)? {
+        return Ok(());
     }
+    sweep_state(setup, sweep, s, row, worker, board)
 }
 
 /// Whether the sweep has finished a state, or its gap is at most what the sweep wants of it, after serial searches where
@@ -268,14 +212,15 @@ fn is_enough<G: Game, B: Bounds<G>, T: Gate>(
     row: Row,
     worker: &mut Worker,
     board: &mut B,
-) -> Result<bool, BoardFault>
+) -> Result<bool, Stop>
     requires here { IsAtRow (G.model setup.now.game) setup.now.game s (Some row)
         (at_work (B.view board.old) worker.old) }
     requires swept { AreFinished (G.model setup.now.game) sweep.now.is_last (B.view board.old) worker.old.swept }
     ensures worked { IsWorked (G.model setup.now.game) s
         (at_work (B.view board.old) worker.old) (at_work (B.view board.new) worker.new) }
     ensures same { worker.new ≡ record worker.old { visits = worker.new.visits; searches = worker.new.searches } }
-    ensures full { result ≡ Err BoardFault.Full → IsBoardFull (G.model setup.now.game) s (B.view board.new) }
+    ensures stopped { IfErr result (IsStop (G.model setup.now.game) s (at_work (B.view board.new) worker.new)
+        (TakesOne worker.old worker.new)) }
     ensures unmet { IfOk result (λ is_enough. IsFalse is_enough
         → Contains worker.old.swept ((G.model setup.now.game).key s) → ⊥) }
     ensures last { sweep.now.is_last ≡ true → IfOk result (λ is_enough. IsTrue is_enough
@@ -292,15 +237,10 @@ fn is_enough<G: Game, B: Bounds<G>, T: Gate>(
     if !worker.wants_bounds(g.rank(s), g.key(s)) {
         return Ok(false);
     }
-    match bound_state(setup, s, row, worker, board) {
-        Ok(_) => {}
-        Err(fault) => return Err(fault),
-    }
+    bound_state(setup, s, row, worker, board)?;
     let gap = gap_at(g, s, row, board);
-    match worker.note_bounds(g.key(s), gap == 0) {
-        Ok(()) => Ok(gap <= goal),
-        Err(_) => Err(BoardFault::NoMemory),
-    }
+    worker.note_bounds(g.key(s), gap == 0)?;
+    Ok(gap <= goal)
 }
 
 /// The gap that the sweep wants at a state below the one that was asked for.

@@ -18,15 +18,18 @@ abbrev pub decreases-growth::grow : goal.decreases-growth::grow
 decreases-growth::grow g l = 8 * (g.G.Game.model l.setup.now.game).rank l.s + 5
 
 abbrev pub decreases-state::search_row : goal.decreases-state::search_row
-decreases-state::search_row g l = 8 * (g.G.Game.model l.setup.now.game).rank l.s + 6
+decreases-state::search_row g l = 8 * (g.G.Game.model l.setup.now.game).rank l.s + 7
 
-abbrev pub invariant-children::search_children-loop-turn : goal.invariant-children::search_children-loop-turn
-invariant-children::search_children-loop-turn g l =
+abbrev pub decreases-state::close_row : goal.decreases-state::close_row
+decreases-state::close_row g l = 8 * (g.G.Game.model l.setup.now.game).rank l.s + 6
+
+abbrev pub invariant-children::search_children-loop-step : goal.invariant-children::search_children-loop-step
+invariant-children::search_children-loop-step g l =
     let m = g.G.Game.model l.setup.game in
     let v = g.B.Bounds.view l.board in
-    let pair : ℕ → ℕ = λ turn. (l.setup.worker + turn) % l.pairs in
+    let pair : ℕ → ℕ = λ step. (l.setup.worker + step) % l.pairs in
     IsSearching m l.s l.children (at_work (g.B.Bounds.view l.initial.board) l.initial.worker) (at_work v l.worker)
-    ((turn : ℕ) → turn < l.turn → AreDone m v l.s (slice_index l.rows (pair turn / length l.cols)) (slice_index l.cols (pair turn % length l.cols)))
+    ((step : ℕ) → step < l.step → AreDone m v l.s (slice_index l.rows (pair step / length l.cols)) (slice_index l.cols (pair step % length l.cols)))
 
 abbrev pub invariant-children::search_draws-loop-draw : goal.invariant-children::search_draws-loop-draw
 invariant-children::search_draws-loop-draw g l =

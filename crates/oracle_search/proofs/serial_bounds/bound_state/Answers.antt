@@ -13,16 +13,16 @@ use Rattle.oracle_search.proofs.BetterLemmas.{met_known, enclosure_known, serial
 use Rattle.oracle_search.proofs.WorkLemmas.{worked_after, worked_read, at_row_after}
 use Rattle.oracle_search.proofs.serial_bounds.bound_state.Given.{Over}
 use Rattle.oracle_search.proofs.serial_bounds.bound_state.Goals as goal
-use Rattle.oracle_search.proofs.serial_bounds.bound_state.Goals.{After-known_bounds-enclosure, After-bound_side-in-Ok}
+use Rattle.oracle_search.proofs.serial_bounds.bound_state.Goals.{After-known_bounds-enclosure, After-bound_side-2}
 
 -- what the searches of one side and of both kept
 one : (g : Over) (c : After-known_bounds-enclosure g) → IsWorked (g.G.Game.model c.args.setup.now.game) c.args.s (at_work (g.B.Bounds.view c.args.board.now) c.args.worker.now)
     (at_work (g.B.Bounds.view c.known_bounds-enclosure.new.board) c.bound_side.new.worker)
 one g c = worked_read c.bound_side.ensures.worked c.known_bounds-enclosure.ensures.later c.known_bounds-enclosure.ensures.entries
 
-both : (g : Over) (c : After-bound_side-in-Ok g) → IsWorked (g.G.Game.model c.args.setup.now.game) c.args.s (at_work (g.B.Bounds.view c.args.board.now) c.args.worker.now)
-    (at_work (g.B.Bounds.view c.bound_side-in-Ok.new.board) c.bound_side-in-Ok.new.worker)
-both g c = worked_after (worked_read c.bound_side.ensures.worked c.known_bounds-enclosure.ensures.later c.known_bounds-enclosure.ensures.entries) c.bound_side-in-Ok.ensures.worked
+both : (g : Over) (c : After-bound_side-2 g) → IsWorked (g.G.Game.model c.args.setup.now.game) c.args.s (at_work (g.B.Bounds.view c.args.board.now) c.args.worker.now)
+    (at_work (g.B.Bounds.view c.bound_side-2.new.board) c.bound_side-2.new.worker)
+both g c = worked_after (worked_read c.bound_side.ensures.worked c.known_bounds-enclosure.ensures.later c.known_bounds-enclosure.ensures.entries) c.bound_side-2.ensures.worked
 
 pub returns-then-enclosure-clause-worked : goal.returns-then-enclosure-clause-worked
 returns-then-enclosure-clause-worked g c = one g (goal.at.returns-then-enclosure-clause-worked g c).After-known_bounds-enclosure
@@ -40,36 +40,36 @@ pub known_bounds-enclosure-requires : goal.known_bounds-enclosure-requires
 known_bounds-enclosure-requires g c =
     let here = at_row_after c.requires.here c.bound_side.ensures.worked in record { game = here.game; reachable = here.reachable; row = here.has_row.holds }
 
-pub bound_side-requires-in-Ok-clause-here : goal.bound_side-requires-in-Ok-clause-here
-bound_side-requires-in-Ok-clause-here g c = at_row_after c.requires.here (one g (goal.at.bound_side-requires-in-Ok-clause-here g c).After-known_bounds-enclosure)
+pub bound_side-requires-2-clause-here : goal.bound_side-requires-2-clause-here
+bound_side-requires-2-clause-here g c = at_row_after c.requires.here (one g (goal.at.bound_side-requires-2-clause-here g c).After-known_bounds-enclosure)
 
 pub known_bounds-last-requires : goal.known_bounds-last-requires
 known_bounds-last-requires g c =
-    let here = at_row_after c.requires.here (both g (goal.at.known_bounds-last-requires g c).After-bound_side-in-Ok) in
+    let here = at_row_after c.requires.here (both g (goal.at.known_bounds-last-requires g c).After-bound_side-2) in
     record { game = here.game; reachable = here.reachable; row = here.has_row.holds }
 
-pub returns-in-Err-bound_side-clause-worked : goal.returns-in-Err-bound_side-clause-worked
-returns-in-Err-bound_side-clause-worked g c = both g (goal.at.returns-in-Err-bound_side-clause-worked g c).After-bound_side-in-Ok
+pub returns-in_err-upper-clause-worked : goal.returns-in_err-upper-clause-worked
+returns-in_err-upper-clause-worked g c = both g (goal.at.returns-in_err-upper-clause-worked g c).After-bound_side-2
 
-pub returns-in-Ok-bound_side-clause-worked : goal.returns-in-Ok-bound_side-clause-worked
-returns-in-Ok-bound_side-clause-worked g c =
-    worked_read (both g (goal.at.returns-in-Ok-bound_side-clause-worked g c).After-bound_side-in-Ok) c.known_bounds-last.ensures.later c.known_bounds-last.ensures.entries
+pub returns-clause-worked : goal.returns-clause-worked
+returns-clause-worked g c =
+    worked_read (both g (goal.at.returns-clause-worked g c).After-bound_side-2) c.known_bounds-last.ensures.later c.known_bounds-last.ensures.entries
 
-pub returns-in-Ok-bound_side-clause-tight : goal.returns-in-Ok-bound_side-clause-tight
-returns-in-Ok-bound_side-clause-tight g c visits = tight where
+pub returns-clause-tight : goal.returns-clause-tight
+returns-clause-tight g c visits = tight where
   tight : (side : Side) → IsNoTighter side (serial_bound (g.G.Game.model c.args.setup.now.game) side c.args.s)
       (known_bound (g.G.Game.model c.args.setup.now.game) (g.B.Bounds.view c.known_bounds-last.new.board) side c.args.s)
   tight One =
       let m = g.G.Game.model c.args.setup.now.game in
-      looser_trans One _ _ _ (c.in-Ok.ensures.tight visits.0 (visits.1 One)) (known_later m (g.B.Bounds.view c.bound_side.new.board) (g.B.Bounds.view c.known_bounds-last.new.board) One c.args.s
-      (later_trans _ _ _ c.known_bounds-enclosure.ensures.later (later_trans _ _ _ c.bound_side-in-Ok.ensures.worked.board.later c.known_bounds-last.ensures.later)))
+      looser_trans One _ _ _ (c.in_ok-lower.ensures.tight visits.0 (visits.1 One)) (known_later m (g.B.Bounds.view c.bound_side.new.board) (g.B.Bounds.view c.known_bounds-last.new.board) One c.args.s
+      (later_trans _ _ _ c.known_bounds-enclosure.ensures.later (later_trans _ _ _ c.bound_side-2.ensures.worked.board.later c.known_bounds-last.ensures.later)))
   tight Two =
       let m = g.G.Game.model c.args.setup.now.game in
-      looser_trans Two _ _ _ (c.in-Ok-bound_side.ensures.tight (ap (λ (w : WorkerView). w.turns.may_stop) c.bound_side.ensures.same ∙ visits.0)
+      looser_trans Two _ _ _ (c.in_ok-upper.ensures.tight (ap (λ (w : WorkerView). w.turns.may_stop) c.bound_side.ensures.same ∙ visits.0)
       (subst (λ (x : ℕ). tree_size m c.args.s ≤ x) (sym c.bound_side.ensures.other) (visits.1 Two)))
-      (known_later m (g.B.Bounds.view c.bound_side-in-Ok.new.board) (g.B.Bounds.view c.known_bounds-last.new.board) Two c.args.s c.known_bounds-last.ensures.later)
+      (known_later m (g.B.Bounds.view c.bound_side-2.new.board) (g.B.Bounds.view c.known_bounds-last.new.board) Two c.args.s c.known_bounds-last.ensures.later)
 
-pub returns-in-Ok-bound_side-clause-ahead : goal.returns-in-Ok-bound_side-clause-ahead
-returns-in-Ok-bound_side-clause-ahead g c is =
-    ahead_known (g.G.Game.model c.args.setup.now.game) c.args.s (g.B.Bounds.view c.known_bounds-last.new.board) c.known_bounds-last.result c.in-Ok.lower c.in-Ok-bound_side.upper
-    c.known_bounds-last.ensures.known c.in-Ok.ensures.found c.in-Ok-bound_side.ensures.found (c.is_ahead.ensures is)
+pub returns-clause-ahead : goal.returns-clause-ahead
+returns-clause-ahead g c is =
+    ahead_known (g.G.Game.model c.args.setup.now.game) c.args.s (g.B.Bounds.view c.known_bounds-last.new.board) c.known_bounds-last.result c.in_ok-lower.lower c.in_ok-upper.upper
+    c.known_bounds-last.ensures.known c.in_ok-lower.ensures.found c.in_ok-upper.ensures.found (c.is_ahead.ensures is)

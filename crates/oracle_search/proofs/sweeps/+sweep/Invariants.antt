@@ -17,13 +17,13 @@ decreases-sweep_draws g l = 8 * (g.G.Game.model l.setup.now.game).rank l.s + 2
 abbrev pub decreases-sweep_state : goal.decreases-sweep_state
 decreases-sweep_state g l = 8 * (g.G.Game.model l.setup.now.game).rank l.s + 6
 
-abbrev pub invariant-sweep_children-loop-turn : goal.invariant-sweep_children-loop-turn
-invariant-sweep_children-loop-turn g l =
+abbrev pub invariant-sweep_children-loop-step : goal.invariant-sweep_children-loop-step
+invariant-sweep_children-loop-step g l =
     let m = g.G.Game.model l.setup.game in
     let v = g.B.Bounds.view l.board in
-    let pair : ℕ → ℕ = λ turn. (l.first % l.pairs + turn) % l.pairs in
+    let pair : ℕ → ℕ = λ step. (l.first % l.pairs + step) % l.pairs in
     IsSweeping m l.sweep.is_last l.s l.children (at_work (g.B.Bounds.view l.initial.board) l.initial.worker) (at_work v l.worker)
-    (l.sweep.is_last ≡ true → (turn : ℕ) → turn < l.turn → AreDone m v l.s (pair turn / l.cols) (pair turn % l.cols))
+    (l.sweep.is_last ≡ true → (step : ℕ) → step < l.step → AreDone m v l.s (pair step / l.cols) (pair step % l.cols))
 
 abbrev pub invariant-sweep_draws-loop-draw : goal.invariant-sweep_draws-loop-draw
 invariant-sweep_draws-loop-draw g l =

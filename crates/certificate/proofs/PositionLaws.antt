@@ -18,7 +18,6 @@ use Rattle.fields.specs.declared.positions.Shown.{Shown}
 use Rattle.sim_game.specs.declared.Limits.{Limits}
 use Rattle.sim_game.specs.declared.Limits.TheVariants.{Narrow, Wide}
 use Rattle.fields.specs.declared.positions.GameKind.{GameKind}
-use Rattle.fields.specs.declared.positions.GameKind.TheVariants.{Goofspiel, OshiZumo, Tron, GoofspielDrawn, Pursuit, Table}
 use Rattle.fields.specs.Numbers.{Within}
 use Rattle.certificate.specs.Spellings.{joined_list, value_text, value_fields}
 use Rattle.certificate.specs.Versions.{has_game, limits_of}
@@ -43,26 +42,10 @@ is_game limits game = is_word (game_word game) && (are_small (kinds_of limits ga
 
 known_word : (game : GameKind) → game_of (game_word game) ≡ Some game
 unfolding game_of
-known_word Goofspiel = refl
-known_word OshiZumo = refl
-known_word Tron = refl
-known_word GoofspielDrawn = refl
-known_word Pursuit = refl
-known_word Table = refl
+known_word game = refl
 
 known_game : (limits : Limits) (game : GameKind) → is_game limits game ≡ true
-known_game Narrow Goofspiel = refl
-known_game Narrow OshiZumo = refl
-known_game Narrow Tron = refl
-known_game Narrow GoofspielDrawn = refl
-known_game Narrow Pursuit = refl
-known_game Narrow Table = refl
-known_game Wide Goofspiel = refl
-known_game Wide OshiZumo = refl
-known_game Wide Tron = refl
-known_game Wide GoofspielDrawn = refl
-known_game Wide Pursuit = refl
-known_game Wide Table = refl
+known_game limits game = refl
 
 -- ---- what is written of a position
 
@@ -128,13 +111,9 @@ values_fit limits game u x e = within_wide limits game x.0 (line_takes (kinds_of
 
 -- behind its word a line has five or six fields
 pub numbers_count : (text : PositionText) → Within 5 6 (length (position_numbers text))
-numbers_count (texts.Goofspiel one two prizes score pay) = (omega arith, omega arith)
-numbers_count (texts.OshiZumo size one two least place) = (omega arith, omega arith)
-numbers_count (texts.Tron height width walls one two) = (omega arith, omega arith)
-numbers_count (texts.GoofspielDrawn one two prizes score pay) = (omega arith, omega arith)
-numbers_count (texts.Pursuit nodes edges one two rounds) = (omega arith, omega arith)
 numbers_count (texts.Table ranks moves values cells draws []) = (omega arith, omega arith)
 numbers_count (texts.Table ranks moves values cells draws (z ∷ zs)) = (omega arith, omega arith)
+numbers_count text = (omega arith, omega arith)
 
 game_words : Spells 20 game_of game_word (λ _. Unit {0})
 unfolding game_of

@@ -116,11 +116,8 @@ in_range_with game vs fits = let made = made_of game vs fits in rw (made.0, made
 -- the position made of its values is the position
 pub made_again : (text : PositionText) → position_with (kind_of text) (values_of text) ≡ text
 made_again (texts.Goofspiel one two prizes score pay) = ap (texts.Goofspiel one two prizes score) (word_pay pay)
-made_again (texts.OshiZumo size one two least place) = refl
-made_again (texts.Tron height width walls one two) = refl
 made_again (texts.GoofspielDrawn one two prizes score pay) = ap (texts.GoofspielDrawn one two prizes score) (word_pay pay)
-made_again (texts.Pursuit nodes edges one two rounds) = refl
-made_again (texts.Table ranks moves values cells draws rewards) = refl
+made_again text = refl
 
 -- ---- the narrow limits
 
@@ -187,13 +184,10 @@ lists_wide = (
 
 -- what fits the fields within any limits fits the wide ones
 pub within_wide : (limits : Limits) (game : GameKind) (vs : List Value) → AllFit (kinds_of limits game) vs → AllFit (kinds_of Wide game) vs
-within_wide Wide game vs fits = fits
 within_wide Narrow Goofspiel vs fits = all_widen (kinds_of Narrow Goofspiel) (kinds_of Wide Goofspiel) vs pays_wide fits
 within_wide Narrow GoofspielDrawn vs fits = all_widen (kinds_of Narrow Goofspiel) (kinds_of Wide Goofspiel) vs pays_wide fits
 within_wide Narrow Table vs fits = all_widen (kinds_of Narrow Table) (kinds_of Wide Table) vs lists_wide fits
-within_wide Narrow OshiZumo vs fits = fits
-within_wide Narrow Tron vs fits = fits
-within_wide Narrow Pursuit vs fits = fits
+within_wide limits game vs fits = fits
 
 int_le-true : (a b : ℤ) → int_le a b ≡ true → a ≤ℤ b
 int_le-true a b h = grind (arith, ints)

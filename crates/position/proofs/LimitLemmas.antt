@@ -255,7 +255,6 @@ abs_at_most z most low high = grind (arith, ints)
 
 -- within any limits no rule is broken that is kept within others, if the position is small enough for these
 pub wide_too : (limits : Limits) (text : PositionText) → fault_of limits text ≡ None → fault_of Wide text ≡ None
-wide_too Wide text e = e
 wide_too Narrow (texts.OshiZumo size one two least place) e =
     let g = oshi_zumo.setting_of size one two least place in
     let kept = unmapped errors.OshiZumo (oshi_zumo.first_fault Narrow g) e in
@@ -273,9 +272,7 @@ wide_too Narrow (texts.Pursuit nodes edges one two rounds) e =
 wide_too Narrow (texts.Table ranks moves values cells draws rewards) e =
     let l = lists_from ranks moves values cells draws rewards in
     mapped errors.Table (table.first_fault Wide l) (fault_wider Narrow l (unmapped errors.Table (table.first_fault Narrow l) e))
-wide_too Narrow (texts.Goofspiel one two prizes score pay) e = e
-wide_too Narrow (texts.GoofspielDrawn one two prizes score pay) e = e
-wide_too Narrow (texts.Tron height width walls one two) e = e
+wide_too limits text e = e
 
 -- a position that the narrow rules accept is small
 pub accepted_small : (text : PositionText) → fault_of Narrow text ≡ None → is_small text ≡ true
@@ -291,9 +288,7 @@ accepted_small (texts.Table ranks moves values cells draws rewards) e =
     let few = few_moves_kept Narrow l (unmapped errors.Table (table.first_fault Narrow l) e) in
     and_from _ _ (list_all_each are_narrow_turns ranks (pos 0) (λ i below. not_above (get_or ranks i (pos 0)) 31 (few.0 i below)))
     (list_all_each are_narrow_moves moves (pos 0) (λ i below. not_above (get_or moves i (pos 0)) 32 (few.1 i below)))
-accepted_small (texts.Goofspiel one two prizes score pay) e = refl
-accepted_small (texts.GoofspielDrawn one two prizes score pay) e = refl
-accepted_small (texts.Tron height width walls one two) e = refl
+accepted_small text e = refl
 
 beyond : (xs : List ℤ) (i most : ℕ) → (i < length xs → unsigned_abs (get_or xs i (pos 0)) ≤ most) → unsigned_abs (get_or xs i (pos 0)) ≤ most
 beyond xs i most few = elim (cases_lt i (length xs)) [
@@ -327,9 +322,7 @@ small_accepted (texts.Table ranks moves values cells draws rewards) fits small e
     abs_at_most (get_or moves i (pos 0)) 32 (All-get_or (Between (pos 0) (pos 255)) moves i (pos 0) below fits.1.0.within).0 (each_of_all are_narrow_moves moves (pos 0) i a.1 below)) in
     let each : (side : Side) (s : ℕ) → table_moves l side s ≤ 32 = λ side s. elim side as (λ side. table_moves l side s ≤ 32) [ One ↦ count (2 * s) | Two ↦ count (2 * s + 1) ] in
     mapped errors.Table (table.first_fault Narrow l) (keeps_moves Wide Narrow l (record { turns = turns; moves = λ side s here. each side s }) (unmapped errors.Table (table.first_fault Wide l) e))
-small_accepted (texts.Goofspiel one two prizes score pay) fits small e = e
-small_accepted (texts.GoofspielDrawn one two prizes score pay) fits small e = e
-small_accepted (texts.Tron height width walls one two) fits small e = e
+small_accepted text fits small e = e
 
 -- ---- widths
 -- the width that the text tells is that of the game
@@ -362,12 +355,7 @@ narrow_width text g p e = absurd p
 
 -- any game is narrow enough for a report
 pub width_is : (g : AnyGame) → (model_of g).width ≡ any_width g
-width_is (Goofspiel g) = refl
-width_is (OshiZumo g) = refl
-width_is (Tron g) = refl
-width_is (GoofspielDrawn g) = refl
-width_is (Pursuit g) = refl
-width_is (Table g) = refl
+width_is g = refl
 
 no_fault : (fault : Option InputError) → is_some fault ≡ false → fault ≡ None
 no_fault None e = refl

@@ -63,39 +63,28 @@ position_text_in limits game d = if is_table game then states_at limits d else d
 
 -- ---- what is told of a refusal
 -- want of memory has the number 0 and no words
+abbrev pub told_of : InputError → ℕ × List ℕ
+told_of errors.NotJson = (10, codes "not json")
+told_of errors.NotObject = (11, codes "not an object")
+told_of (errors.Missing field) = (12, codes "missing " ++ name_of field)
+told_of errors.Unknown = (13, codes "unknown field")
+told_of (errors.Kind field) = (14, codes "kind of " ++ name_of field)
+told_of (errors.Range field) = (15, codes "range of " ++ name_of field)
+told_of errors.GameName = (16, codes "game name")
+told_of (errors.Goofspiel e) = (goofspiel_refusals.number_of e, goofspiel_refusals.words_of e)
+told_of (errors.OshiZumo e) = (oshi_zumo_refusals.number_of e, oshi_zumo_refusals.words_of e)
+told_of (errors.Tron e) = (tron_refusals.number_of e, tron_refusals.words_of e)
+told_of (errors.Pursuit e) = (pursuit_refusals.number_of e, pursuit_refusals.words_of e)
+told_of (errors.Table e) = (table_refusals.number_of e, table_refusals.words_of e)
+told_of errors.TooLong = (50, codes "too long")
+told_of errors.Weight = (91, codes "weight")
+told_of errors.NoMemory = (0, [])
+
 abbrev pub code_of : InputError → ℕ
-code_of errors.NotJson = 10
-code_of errors.NotObject = 11
-code_of (errors.Missing field) = 12
-code_of errors.Unknown = 13
-code_of (errors.Kind field) = 14
-code_of (errors.Range field) = 15
-code_of errors.GameName = 16
-code_of (errors.Goofspiel e) = goofspiel_refusals.number_of e
-code_of (errors.OshiZumo e) = oshi_zumo_refusals.number_of e
-code_of (errors.Tron e) = tron_refusals.number_of e
-code_of (errors.Pursuit e) = pursuit_refusals.number_of e
-code_of (errors.Table e) = table_refusals.number_of e
-code_of errors.TooLong = 50
-code_of errors.Weight = 91
-code_of errors.NoMemory = 0
+code_of e = (told_of e).0
 
 abbrev pub words_of : InputError → List ℕ
-words_of errors.NotJson = codes "not json"
-words_of errors.NotObject = codes "not an object"
-words_of (errors.Missing field) = codes "missing " ++ name_of field
-words_of errors.Unknown = codes "unknown field"
-words_of (errors.Kind field) = codes "kind of " ++ name_of field
-words_of (errors.Range field) = codes "range of " ++ name_of field
-words_of errors.GameName = codes "game name"
-words_of (errors.Goofspiel e) = goofspiel_refusals.words_of e
-words_of (errors.OshiZumo e) = oshi_zumo_refusals.words_of e
-words_of (errors.Tron e) = tron_refusals.words_of e
-words_of (errors.Pursuit e) = pursuit_refusals.words_of e
-words_of (errors.Table e) = table_refusals.words_of e
-words_of errors.TooLong = codes "too long"
-words_of errors.Weight = codes "weight"
-words_of errors.NoMemory = []
+words_of e = (told_of e).1
 
 -- ---- the game of a position
 -- the first rule of the game that the position breaks, within the limits

@@ -18,6 +18,7 @@ use Rattle.fields.specs.declared.positions.Shown.{Shown}
 use Rattle.sim_game.specs.declared.Limits.{Limits}
 use Rattle.sim_game.specs.declared.Limits.TheVariants.{Narrow, Wide}
 use Rattle.fields.specs.declared.positions.GameKind.{GameKind}
+use Rattle.fields.specs.declared.positions.GameKind.TheVariants.{Goofspiel}
 use Rattle.fields.specs.Numbers.{Within}
 use Rattle.certificate.specs.Spellings.{joined_list, value_text, value_fields}
 use Rattle.certificate.specs.Versions.{has_game, limits_of}
@@ -42,9 +43,12 @@ is_game limits game = is_word (game_word game) && (are_small (kinds_of limits ga
 
 known_word : (game : GameKind) → game_of (game_word game) ≡ Some game
 unfolding game_of
+known_word Goofspiel = refl
 known_word game = refl
 
 known_game : (limits : Limits) (game : GameKind) → is_game limits game ≡ true
+known_game Narrow Goofspiel = refl
+known_game Wide Goofspiel = refl
 known_game limits game = refl
 
 -- ---- what is written of a position

@@ -16,6 +16,7 @@ use Rattle.plan_book.specs.declared.SheetRow.{SheetRow}
 use Rattle.certificate.specs.declared.error.TextError.{TextError}
 use Rattle.certificate.specs.declared.error.TextError.TheVariants.{Line, Head, NoMemory}
 use Rattle.fields.specs.declared.positions.GameKind.{GameKind}
+use Rattle.fields.specs.declared.positions.GameKind.TheVariants.{Goofspiel}
 use Rattle.certificate.specs.declared.report.Outcome.{Outcome}
 use Rattle.certificate.specs.declared.report.Report.{Report}
 use Rattle.certificate.specs.Unread.{Unread}
@@ -370,6 +371,7 @@ record IsVersion (r : Report) (version : ℕ) : Type 0 where
   outcome : has_outcome version r.outcome ≡ true
 
 own_game : (k : GameKind) → (Within 1 newest_version (game_version k)) × ((limits_of (game_version k) ≡ Narrow) × (has_game (game_version k) k ≡ true))
+own_game Goofspiel = ((omega arith, omega arith), (refl, refl))
 own_game k = ((omega arith, omega arith), (refl, refl))
 
 newest_has : (k : GameKind) → has_game newest_version k ≡ true

@@ -16,6 +16,7 @@ use Rattle.certificate.specs.Ranges.{IsInRange}
 use Rattle.certificate.specs.Texts.{report_text}
 use Rattle.sim_game.specs.declared.Limits.TheVariants.{Narrow, Wide}
 use Rattle.fields.specs.declared.positions.GameKind.{GameKind}
+use Rattle.fields.specs.declared.positions.GameKind.TheVariants.{Goofspiel}
 use Rattle.fields.specs.Positions.{kind_of, fits_narrow, is_small, is_narrow}
 use Rattle.certificate.specs.Versions.{newest_version, game_version, is_long, is_older, limits_of, needs_newest, version_of}
 use Rattle.certificate.proofs.ReportLaws.{read_named}
@@ -89,6 +90,7 @@ built bytes task is =
 
 -- nor is one broken within the limits of the report's version
 narrow_game : (k : GameKind) → limits_of (game_version k) ≡ Narrow
+narrow_game Goofspiel = refl
 narrow_game k = refl
 
 none_long : (narrow long : Bool) → (not narrow || long) ≡ false → narrow ≡ true

@@ -3,6 +3,7 @@ use Rattle.std.proofs.Common.{◌≡◌, ◌⊎◌, ⊎_elim, inl, inr, ℕ, ◌
 use Rattle.std.proofs.lemmas.Fmt.{decimal_digit}
 use Rattle.text.specs.Texts.{line_text}
 use Rattle.fields.specs.declared.positions.GameKind.{GameKind}
+use Rattle.fields.specs.declared.positions.GameKind.TheVariants.{Goofspiel}
 use Rattle.fields.specs.Positions.{kind_of}
 use Rattle.certificate.specs.declared.report.Report.{Report}
 use Rattle.certificate.specs.Ranges.{IsInRange}
@@ -14,6 +15,7 @@ use Rattle.devices.proofs.LimitLemmas.{limit_kept, limit_least}
 
 -- ---- a version is the newest, or one of the two before it
 game_old : (k : GameKind) → game_version k ≤ 2
+game_old Goofspiel = omega arith
 game_old k = omega arith
 
 old_or_newest : (r : Report) → (version_of r ≤ 2) ⊎ (version_of r ≡ 3)

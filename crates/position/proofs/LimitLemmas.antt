@@ -355,6 +355,7 @@ narrow_width text g p e = absurd p
 
 -- any game is narrow enough for a report
 pub width_is : (g : AnyGame) → (model_of g).width ≡ any_width g
+width_is (Goofspiel g) = refl
 width_is g = refl
 
 no_fault : (fault : Option InputError) → is_some fault ≡ false → fault ≡ None

@@ -1,5 +1,5 @@
 -- The games of the tests have few moves.
-use Rattle.std.proofs.Common.{◌≡◌, ℕ, ◌*◌, ◌≤◌, pos, arith}
+use Rattle.std.proofs.Common.{◌≡◌, ◌*◌, ◌≤◌, pos, arith}
 use Rattle.std.proofs.Math.Nat.{mul-le-mul}
 use Rattle.sim_game.specs.Model.{GameModel}
 use Rattle.goofspiel.specs.declared.Goofspiel.{Goofspiel}

@@ -21,6 +21,7 @@ fn new_desk<'a, G: Game>(rt: &impl Abort, board: &'a Board<G>, lead: &mut Pass<G
     requires ours { IsPassOf board.now lead.old }
     requires lead { lead.old.view.lead ≡ true }
     ensures board { result.board ≡ board.now }
+    ensures pass { IsPassOf board.now result.pass }
     ensures ours { IsPassOf board.now lead.new }
     ensures lead { lead.new.view.lead ≡ true }
 {
@@ -28,6 +29,17 @@ fn new_desk<'a, G: Game>(rt: &impl Abort, board: &'a Board<G>, lead: &mut Pass<G
         panic!(rt; "there are few passes");
     };
     Desk::new(board, pass)
+}
+
+// Takes the pass in, where there is memory for its entries.
+fn join_pass<G: Game>(rt: &impl Abort, board: &Board<G>, lead: &mut Pass<G>, pass: Pass<G>)
+    requires ours { IsPassOf board.now lead.old }
+    requires theirs { IsPassOf board.now pass }
+    requires lead { lead.old.view.lead ≡ true }
+    ensures ours { IsPassOf board.now lead.new }
+    ensures lead { lead.new.view.lead ≡ true }
+{
+    assert!(rt; board.join(lead, pass).is_ok());
 }
 
 // Posts a lower bound at the root of a game that ends after the one move of each side and its one draw, which pays nothing.
@@ -72,8 +84,8 @@ fn two_threads_post_in_one_row(rt: HostRuntime) -> Result<(), Fail> {
         &mut || post_root(&rt, alloc, 5, &mut low),
         &mut || post_root(&rt, alloc, 7, &mut high),
     );
-    assert!(rt; board.join(&mut lead, low.into_pass()).is_ok());
-    assert!(rt; board.join(&mut lead, high.into_pass()).is_ok());
+    join_pass(&rt, &board, &mut lead, low.into_pass());
+    join_pass(&rt, &board, &mut lead, high.into_pass());
     let mut desk = Desk::new(&board, lead);
     assert_eq!(rt; root_bounds(&rt, g, &mut desk), Some((7, 1000000)));
     post_root(&rt, alloc, 6, &mut desk);
@@ -158,10 +170,10 @@ fn four_threads_want_one_row(rt: HostRuntime) -> Result<(), Fail> {
             &mut || claim_each(&rt, alloc, &keys[3..7], &mut fourth),
         ),
     );
-    assert!(rt; board.join(&mut lead, first.into_pass()).is_ok());
-    assert!(rt; board.join(&mut lead, second.into_pass()).is_ok());
-    assert!(rt; board.join(&mut lead, third.into_pass()).is_ok());
-    assert!(rt; board.join(&mut lead, fourth.into_pass()).is_ok());
+    join_pass(&rt, &board, &mut lead, first.into_pass());
+    join_pass(&rt, &board, &mut lead, second.into_pass());
+    join_pass(&rt, &board, &mut lead, third.into_pass());
+    join_pass(&rt, &board, &mut lead, fourth.into_pass());
     let Ok(closed) = board.close(lead) else {
         panic!(rt; "each pass was joined");
     };
@@ -187,8 +199,8 @@ fn threads_that_meet_on_one_board(rt: HostRuntime) -> Result<(), Fail> {
         &mut || bound_pairs(&rt, alloc, false, &mut forth),
         &mut || bound_pairs(&rt, alloc, true, &mut back),
     );
-    assert!(rt; board.join(&mut lead, forth.into_pass()).is_ok());
-    assert!(rt; board.join(&mut lead, back.into_pass()).is_ok());
+    join_pass(&rt, &board, &mut lead, forth.into_pass());
+    join_pass(&rt, &board, &mut lead, back.into_pass());
     let Ok(closed) = board.close(lead) else {
         panic!(rt; "each pass was joined");
     };

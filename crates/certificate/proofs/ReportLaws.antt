@@ -21,13 +21,13 @@ use Rattle.certificate.specs.declared.report.Outcome.{Outcome}
 use Rattle.certificate.specs.declared.report.Report.{Report}
 use Rattle.certificate.specs.Unread.{Unread}
 use Rattle.text.specs.Texts.{line_text, text_of}
-use Rattle.certificate.specs.Versions.{newest_version, game_version, has_game, is_older, has_outcome, limits_of, most_rows, most_moves, is_long, needs_newest, version_of}
+use Rattle.certificate.specs.Versions.{newest_version, has_game, is_older, has_outcome, limits_of, most_rows, most_moves, is_long, needs_newest, version_of}
 use Rattle.certificate.specs.Positions.{position_fields}
 use Rattle.sim_game.specs.declared.Limits.{Limits}
 use Rattle.sim_game.specs.declared.Limits.TheVariants.{Narrow, Wide}
 use Rattle.fields.specs.declared.positions.PositionText.{PositionText}
 use Rattle.fields.specs.Fields.{AllFit}
-use Rattle.fields.specs.Positions.{kind_of, kinds_of, values_of, is_small, is_narrow}
+use Rattle.fields.specs.Positions.{game_version, kind_of, kinds_of, values_of, is_small, is_narrow}
 use Rattle.fields.proofs.PositionLemmas.{within_wide, narrow_fits, narrow_by_size}
 use Rattle.certificate.specs.Texts.{outcome_word, row_fields, sheet_lines, report_lines, report_text}
 use Rattle.fields.specs.Ranges.{Within, Between, IsPositionInRange}

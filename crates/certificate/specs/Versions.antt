@@ -2,10 +2,9 @@
 use Rattle.std.specs.Prelude.{ℕ, ◌==◌, Bool, true, false, not, ◌||◌, if◌then◌else◌, nat_lt, length}
 use Rattle.plan_book.specs.declared.Sheet.{Sheet}
 use Rattle.fields.specs.declared.positions.GameKind.{GameKind}
-use Rattle.fields.specs.declared.positions.GameKind.TheVariants.{Goofspiel, OshiZumo, Tron, GoofspielDrawn, Pursuit, Table}
 use Rattle.sim_game.specs.declared.Limits.{Limits}
 use Rattle.sim_game.specs.declared.Limits.TheVariants.{Narrow, Wide}
-use Rattle.fields.specs.Positions.{kind_of, is_narrow}
+use Rattle.fields.specs.Positions.{game_version, kind_of, is_narrow}
 use Rattle.certificate.specs.declared.report.Outcome.{Outcome}
 use Rattle.certificate.specs.declared.report.Outcome.TheVariants.{Closed, Settled, Spent, Full, Stopped}
 use Rattle.certificate.specs.declared.report.Report.{Report}
@@ -13,15 +12,6 @@ use Rattle.certificate.specs.declared.report.Report.{Report}
 -- versions are numbered from 1
 abbrev pub newest_version : ℕ
 newest_version = 3
-
--- the first version that has the game
-abbrev pub game_version : GameKind → ℕ
-game_version Goofspiel = 1
-game_version OshiZumo = 1
-game_version Tron = 1
-game_version GoofspielDrawn = 2
-game_version Pursuit = 2
-game_version Table = 2
 
 -- each version has its own games, the newest has all
 abbrev pub has_game : ℕ → GameKind → Bool

@@ -1,7 +1,7 @@
 //! The version of a report, and how much reports of a version can hold.
 
 ghost use Rattle.std.specs.Prelude.{◌≡◌, ◌+◌};
-ghost use Rattle.certificate.specs.Versions.{game_version, has_game, is_older, has_outcome, limits_of, most_rows, most_moves, is_long, needs_newest, version_of};
+ghost use Rattle.certificate.specs.Versions.{has_game, is_older, has_outcome, limits_of, most_rows, most_moves, is_long, needs_newest, version_of};
 
 use crate::{Outcome, Report};
 use fields::GameKind;
@@ -11,24 +11,10 @@ use sim_game::Limits;
 /// The newest version of reports; the first is 1.
 pub(crate) const NEWEST_VERSION: u32 = 3;
 
-/// The first version that has the game.
-fn game_version(game: GameKind) -> u32
-    ensures { result ≡ game_version game }
-{
-    match game {
-        GameKind::Goofspiel => 1,
-        GameKind::OshiZumo => 1,
-        GameKind::Tron => 1,
-        GameKind::GoofspielDrawn => 2,
-        GameKind::Pursuit => 2,
-        GameKind::Table => 2,
-    }
-}
-
 pub(crate) fn has_game(version: u32, game: GameKind) -> bool
     ensures { result ≡ has_game version game }
 {
-    game_version(game) == version || version == NEWEST_VERSION
+    game.version() == version || version == NEWEST_VERSION
 }
 
 /// Whether the versions before the newest have the outcome.
@@ -93,7 +79,7 @@ impl Report {
         if self.needs_newest() {
             NEWEST_VERSION
         } else {
-            game_version(self.position.game())
+            self.position.game().version()
         }
     }
 

@@ -17,8 +17,8 @@ use Rattle.certificate.specs.Texts.{report_text}
 use Rattle.sim_game.specs.declared.Limits.TheVariants.{Narrow, Wide}
 use Rattle.fields.specs.declared.positions.GameKind.{GameKind}
 use Rattle.fields.specs.declared.positions.GameKind.TheVariants.{Goofspiel}
-use Rattle.fields.specs.Positions.{kind_of, fits_narrow, is_small, is_narrow}
-use Rattle.certificate.specs.Versions.{newest_version, game_version, is_long, is_older, limits_of, needs_newest, version_of}
+use Rattle.fields.specs.Positions.{game_version, kind_of, fits_narrow, is_small, is_narrow}
+use Rattle.certificate.specs.Versions.{newest_version, is_long, is_older, limits_of, needs_newest, version_of}
 use Rattle.certificate.proofs.ReportLaws.{read_named}
 use Rattle.position.specs.declared.games.InputError.{InputError}
 use Rattle.position.proofs.GameLemmas.{of_game_weaker, of_one_game}

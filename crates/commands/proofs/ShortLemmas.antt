@@ -4,11 +4,11 @@ use Rattle.std.proofs.lemmas.Fmt.{decimal_digit}
 use Rattle.text.specs.Texts.{line_text}
 use Rattle.fields.specs.declared.positions.GameKind.{GameKind}
 use Rattle.fields.specs.declared.positions.GameKind.TheVariants.{Goofspiel}
-use Rattle.fields.specs.Positions.{kind_of}
+use Rattle.fields.specs.Positions.{game_version, kind_of}
 use Rattle.certificate.specs.declared.report.Report.{Report}
 use Rattle.certificate.specs.Ranges.{IsInRange}
 use Rattle.certificate.specs.Texts.{report_lines, report_text}
-use Rattle.certificate.specs.Versions.{game_version, needs_newest, version_of}
+use Rattle.certificate.specs.Versions.{needs_newest, version_of}
 use Rattle.certificate.proofs.LengthLemmas.{report_by_rows, report_short}
 use Rattle.commands.specs.Checks.{newest_head, most_report}
 use Rattle.devices.proofs.LimitLemmas.{limit_kept, limit_least}

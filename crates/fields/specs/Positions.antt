@@ -21,13 +21,26 @@ use Rattle.fields.specs.declared.positions.GameKind.TheVariants.{Goofspiel, Oshi
 use Rattle.fields.specs.Fields.{FieldRow, AllFit}
 
 -- ---- the games
+-- a game's word, the first version of reports that has it, and its fields within narrow and wide limits
+pub record GameRow : Type 0 where
+  pub word : List ℕ
+  pub version : ℕ
+  pub narrow : List FieldRow
+  pub wide : List FieldRow
+
+abbrev pub game_row : GameKind → GameRow
+game_row Goofspiel = record { word = codes "goofspiel"; version = 1; narrow = NARROW_GOOFSPIEL; wide = GOOFSPIEL }
+game_row OshiZumo = record { word = codes "oshi_zumo"; version = 1; narrow = OSHI_ZUMO; wide = OSHI_ZUMO }
+game_row Tron = record { word = codes "tron"; version = 1; narrow = TRON; wide = TRON }
+game_row GoofspielDrawn = record { word = codes "goofspiel_drawn"; version = 2; narrow = NARROW_GOOFSPIEL; wide = GOOFSPIEL }
+game_row Pursuit = record { word = codes "pursuit"; version = 2; narrow = PURSUIT; wide = PURSUIT }
+game_row Table = record { word = codes "table"; version = 2; narrow = NARROW_TABLE; wide = TABLE }
+
 abbrev pub game_word : GameKind → List ℕ
-game_word Goofspiel = codes "goofspiel"
-game_word OshiZumo = codes "oshi_zumo"
-game_word Tron = codes "tron"
-game_word GoofspielDrawn = codes "goofspiel_drawn"
-game_word Pursuit = codes "pursuit"
-game_word Table = codes "table"
+game_word game = (game_row game).word
+
+abbrev pub game_version : GameKind → ℕ
+game_version game = (game_row game).version
 
 -- the game whose word it is
 unfoldable pub game_of : List ℕ → Option GameKind
@@ -35,29 +48,14 @@ game_of word = find (λ k. bytes_eq word (game_word k)) GAMES
 
 -- the fields of the game within the limits, in the order of refusals
 abbrev pub fields_of : Limits → GameKind → List FieldRow
-fields_of Narrow Goofspiel = NARROW_GOOFSPIEL
-fields_of Wide Goofspiel = GOOFSPIEL
-fields_of limits OshiZumo = OSHI_ZUMO
-fields_of limits Tron = TRON
-fields_of Narrow GoofspielDrawn = NARROW_GOOFSPIEL
-fields_of Wide GoofspielDrawn = GOOFSPIEL
-fields_of limits Pursuit = PURSUIT
-fields_of Narrow Table = NARROW_TABLE
-fields_of Wide Table = TABLE
+fields_of Narrow game = (game_row game).narrow
+fields_of Wide game = (game_row game).wide
 
 abbrev pub kinds_in : List FieldRow → List FieldKind
 kinds_in rows = map (λ (row : FieldRow). row.1) rows
 
 abbrev pub kinds_of : Limits → GameKind → List FieldKind
 kinds_of limits game = kinds_in (fields_of limits game)
-
-abbrev pub kind_of : PositionText → GameKind
-kind_of (texts.Goofspiel one two prizes score pay) = Goofspiel
-kind_of (texts.OshiZumo size one two least place) = OshiZumo
-kind_of (texts.Tron height width walls one two) = Tron
-kind_of (texts.GoofspielDrawn one two prizes score pay) = GoofspielDrawn
-kind_of (texts.Pursuit nodes edges one two rounds) = Pursuit
-kind_of (texts.Table ranks moves values cells draws rewards) = Table
 
 -- ---- positions as values of their fields
 abbrev pub pay_named : Word → Pay
@@ -73,14 +71,23 @@ pay_word Prizes = words.Prizes
 abbrev whole : ℕ → Value
 whole n = values_are.Number (pos n)
 
+-- the game of a position, and the values of its fields
+abbrev pub game_and_values : PositionText → GameKind × List Value
+game_and_values (texts.Goofspiel one two prizes score pay) =
+    (Goofspiel, values_are.List one ∷ values_are.List two ∷ values_are.List prizes ∷ values_are.Number score ∷ values_are.Word (pay_word pay) ∷ [])
+game_and_values (texts.OshiZumo size one two least place) = (OshiZumo, whole size ∷ whole one ∷ whole two ∷ whole least ∷ values_are.Number place ∷ [])
+game_and_values (texts.Tron height width walls one two) = (Tron, whole height ∷ whole width ∷ values_are.List walls ∷ whole one ∷ whole two ∷ [])
+game_and_values (texts.GoofspielDrawn one two prizes score pay) =
+    (GoofspielDrawn, values_are.List one ∷ values_are.List two ∷ values_are.List prizes ∷ values_are.Number score ∷ values_are.Word (pay_word pay) ∷ [])
+game_and_values (texts.Pursuit nodes edges one two rounds) = (Pursuit, whole nodes ∷ values_are.List edges ∷ whole one ∷ whole two ∷ whole rounds ∷ [])
+game_and_values (texts.Table ranks moves values cells draws rewards) =
+    (Table, values_are.Numbers ranks ∷ values_are.Numbers moves ∷ values_are.Numbers values ∷ values_are.Numbers cells ∷ values_are.Numbers draws ∷ values_are.Optional rewards ∷ [])
+
+abbrev pub kind_of : PositionText → GameKind
+kind_of text = (game_and_values text).0
+
 abbrev pub values_of : PositionText → List Value
-values_of (texts.Goofspiel one two prizes score pay) = values_are.List one ∷ values_are.List two ∷ values_are.List prizes ∷ values_are.Number score ∷ values_are.Word (pay_word pay) ∷ []
-values_of (texts.OshiZumo size one two least place) = whole size ∷ whole one ∷ whole two ∷ whole least ∷ values_are.Number place ∷ []
-values_of (texts.Tron height width walls one two) = whole height ∷ whole width ∷ values_are.List walls ∷ whole one ∷ whole two ∷ []
-values_of (texts.GoofspielDrawn one two prizes score pay) = values_are.List one ∷ values_are.List two ∷ values_are.List prizes ∷ values_are.Number score ∷ values_are.Word (pay_word pay) ∷ []
-values_of (texts.Pursuit nodes edges one two rounds) = whole nodes ∷ values_are.List edges ∷ whole one ∷ whole two ∷ whole rounds ∷ []
-values_of (texts.Table ranks moves values cells draws rewards) =
-    values_are.Numbers ranks ∷ values_are.Numbers moves ∷ values_are.Numbers values ∷ values_are.Numbers cells ∷ values_are.Numbers draws ∷ values_are.Optional rewards ∷ []
+values_of text = (game_and_values text).1
 
 abbrev pub number_in_value : Value → ℤ
 number_in_value (values_are.Number z) = z

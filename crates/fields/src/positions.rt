@@ -5,7 +5,7 @@ ghost use Rattle.std.specs.List.{list_all};
 ghost use Rattle.sim_game.specs.declared.Limits.TheVariants.{Narrow, Wide};
 ghost use Rattle.fields.specs.declared.positions.PositionText.{PositionText};
 ghost use Rattle.fields.specs.Fields.{Fits, AllFit};
-ghost use Rattle.fields.specs.Positions.{game_word, fields_of, kinds_of, kind_of, pay_word, HoldsNumbers, HoldsOptional, shown_value, values_of, position_with, IsPositionInRange, game_of, is_between, numbers_fit, is_paid_at_end, fits_narrow, are_narrow_turns, are_narrow_moves, is_small, is_narrow};
+ghost use Rattle.fields.specs.Positions.{game_word, game_version, fields_of, kinds_of, kind_of, pay_word, HoldsNumbers, HoldsOptional, shown_value, values_of, position_with, IsPositionInRange, game_of, is_between, numbers_fit, is_paid_at_end, fits_narrow, are_narrow_turns, are_narrow_moves, is_small, is_narrow};
 ghost use Rattle.fields.specs.declared.positions.TheConstants.{BYTE, SCORE, PLACE};
 
 use crate::{Choices, Field, FieldKind, FieldRow, Pay, Value, Word};
@@ -116,29 +116,105 @@ pub enum GameKind {
     Table,
 }
 
+/// Does the same with each game: its name; its word, the first version of reports that has it, and its fields within narrow
+/// and within wide limits; how many fields it has, and in their order what each of them holds.
+macro_rules! each_game {
+    ($then:ident, $given:tt) => { $then! { $given;
+        Goofspiel (b"goofspiel", 1, NARROW_GOOFSPIEL, GOOFSPIEL)
+            5 { one: list, two: list, prizes: list, score: score, pay: pay }
+        OshiZumo (b"oshi_zumo", 1, OSHI_ZUMO, OSHI_ZUMO)
+            5 { size: byte, one: byte, two: byte, least: byte, place: place }
+        Tron (b"tron", 1, TRON, TRON)
+            5 { height: byte, width: byte, walls: list, one: byte, two: byte }
+        GoofspielDrawn (b"goofspiel_drawn", 2, NARROW_GOOFSPIEL, GOOFSPIEL)
+            5 { one: list, two: list, prizes: list, score: score, pay: pay }
+        Pursuit (b"pursuit", 2, PURSUIT, PURSUIT)
+            5 { nodes: byte, edges: list, one: byte, two: byte, rounds: byte }
+        Table (b"table", 2, NARROW_TABLE, TABLE)
+            6 { ranks: numbers, moves: numbers, values: numbers, cells: numbers, draws: numbers, rewards: optional }
+    } };
+}
+
+macro_rules! kinds {
+    ((); $($name:ident $row:tt $many:literal $fields:tt)+) => { [$(GameKind::$name),+] };
+}
+
+macro_rules! kind {
+    (($text:expr); $($name:ident $row:tt $many:literal $fields:tt)+) => {
+        match $text { $(PositionText::$name { .. } => GameKind::$name,)+ }
+    };
+}
+
+macro_rules! word {
+    (($game:expr); $($name:ident ($word:literal, $($row:tt)+) $many:literal $fields:tt)+) => {
+        match $game { $(GameKind::$name => $word,)+ }
+    };
+}
+
+macro_rules! version {
+    (($game:expr); $($name:ident ($word:literal, $version:literal, $($row:tt)+) $many:literal $fields:tt)+) => {
+        match $game { $(GameKind::$name => $version,)+ }
+    };
+}
+
+macro_rules! fields_within {
+    (
+        ($game:expr, $limits:expr);
+        $($name:ident ($word:literal, $version:literal, $narrow:ident, $wide:ident) $many:literal $fields:tt)+
+    ) => {
+        match ($game, $limits) {
+            $((GameKind::$name, Limits::Narrow) => &$narrow,
+            (GameKind::$name, Limits::Wide) => &$wide,)+
+        }
+    };
+}
+
+/// The position of the game that is made of the values.
+macro_rules! made {
+    (
+        ($game:expr, $values:expr);
+        $($name:ident $row:tt $many:literal { $($field:ident: $kind:ident),+ })+
+    ) => {
+        match $game {
+            $(GameKind::$name => {
+                let [$($field),+] = exactly::<$many>($values);
+                PositionText::$name { $($field: $field.$kind()),+ }
+            })+
+        }
+    };
+}
+
+/// The values of the position.
+macro_rules! shown {
+    (
+        ($text:expr, $alloc:expr);
+        $($name:ident $row:tt $many:literal { $($field:ident: $kind:ident),+ })+
+    ) => {
+        match $text {
+            $(PositionText::$name { $($field),+ } => {
+                Ok(Vec::from_array($alloc, [$(shown_field!($kind, $field)),+])?)
+            })+
+        }
+    };
+}
+
+macro_rules! shown_field {
+    (list, $field:expr) => { Shown::List($field.as_slice()) };
+    (numbers, $field:expr) => { Shown::Numbers($field.as_slice()) };
+    (optional, $field:expr) => { Shown::Optional($field.as_slice()) };
+    (pay, $field:expr) => { Shown::Word(word_for(*$field)) };
+    ($number:ident, $field:expr) => { Shown::Number(i64::from(*$field)) };
+}
+
 /// All kinds of games.
-pub const GAMES: [GameKind; 6] = [
-    GameKind::Goofspiel,
-    GameKind::OshiZumo,
-    GameKind::Tron,
-    GameKind::GoofspielDrawn,
-    GameKind::Pursuit,
-    GameKind::Table,
-];
+pub const GAMES: [GameKind; 6] = each_game!(kinds, ());
 
 impl GameKind {
     /// The word by which the game is called.
     pub fn word(self) -> &'static [u8]
         ensures { result.now ≡ game_word self }
     {
-        match self {
-            GameKind::Goofspiel => b"goofspiel",
-            GameKind::OshiZumo => b"oshi_zumo",
-            GameKind::Tron => b"tron",
-            GameKind::GoofspielDrawn => b"goofspiel_drawn",
-            GameKind::Pursuit => b"pursuit",
-            GameKind::Table => b"table",
-        }
+        each_game!(word, (self))
     }
 
     /// The game that is called by this word.
@@ -149,19 +225,18 @@ impl GameKind {
         GAMES.iter().copied().find(|game| word == game.word())
     }
 
-    /// The fields of the game within the limits. A position can have what the wide ones allow.
+    /// The first version of reports that has the game, from 1 on.
+    pub fn version(self) -> u32
+        ensures { result ≡ game_version self }
+    {
+        each_game!(version, (self))
+    }
+
+    /// The fields of the game within the limits, in the order of refusals. A position can have what the wide ones allow.
     pub fn fields(self, limits: Limits) -> &'static [FieldRow]
         ensures { result.now ≡ fields_of limits self }
     {
-        match (self, limits) {
-            (GameKind::Goofspiel | GameKind::GoofspielDrawn, Limits::Narrow) => &NARROW_GOOFSPIEL,
-            (GameKind::Goofspiel | GameKind::GoofspielDrawn, Limits::Wide) => &GOOFSPIEL,
-            (GameKind::OshiZumo, _) => &OSHI_ZUMO,
-            (GameKind::Tron, _) => &TRON,
-            (GameKind::Pursuit, _) => &PURSUIT,
-            (GameKind::Table, Limits::Narrow) => &NARROW_TABLE,
-            (GameKind::Table, Limits::Wide) => &TABLE,
-        }
+        each_game!(fields_within, (self, limits))
     }
 }
 
@@ -348,49 +423,6 @@ fn exactly<const N: usize>(values: Vec<Value>) -> [Value; N]
     }
 }
 
-/// Does the same with each game: its name, how many fields it has, and its fields in their order with what they hold.
-macro_rules! each_game {
-    ($then:ident, $given:tt) => { $then! { $given;
-        Goofspiel[5] { one: list, two: list, prizes: list, score: score, pay: pay }
-        OshiZumo[5] { size: byte, one: byte, two: byte, least: byte, place: place }
-        Tron[5] { height: byte, width: byte, walls: list, one: byte, two: byte }
-        GoofspielDrawn[5] { one: list, two: list, prizes: list, score: score, pay: pay }
-        Pursuit[5] { nodes: byte, edges: list, one: byte, two: byte, rounds: byte }
-        Table[6] { ranks: numbers, moves: numbers, values: numbers, cells: numbers, draws: numbers, rewards: optional }
-    } };
-}
-
-/// The position of the game that is made of the values.
-macro_rules! made {
-    (($game:expr, $values:expr); $($name:ident[$many:literal] { $($field:ident: $kind:ident),+ })+) => {
-        match $game {
-            $(GameKind::$name => {
-                let [$($field),+] = exactly::<$many>($values);
-                PositionText::$name { $($field: $field.$kind()),+ }
-            })+
-        }
-    };
-}
-
-/// The values of the position.
-macro_rules! shown {
-    (($text:expr, $alloc:expr); $($name:ident[$many:literal] { $($field:ident: $kind:ident),+ })+) => {
-        match $text {
-            $(PositionText::$name { $($field),+ } => {
-                Ok(Vec::from_array($alloc, [$(shown_field!($kind, $field)),+])?)
-            })+
-        }
-    };
-}
-
-macro_rules! shown_field {
-    (list, $field:expr) => { Shown::List($field.as_slice()) };
-    (numbers, $field:expr) => { Shown::Numbers($field.as_slice()) };
-    (optional, $field:expr) => { Shown::Optional($field.as_slice()) };
-    (pay, $field:expr) => { Shown::Word(word_for(*$field)) };
-    ($number:ident, $field:expr) => { Shown::Number(i64::from(*$field)) };
-}
-
 /// Whether the numbers fit the field.
 fn are_within(kind: FieldKind, zs: &[i32]) -> bool
     ensures { result ≡ numbers_fit kind zs.now }
@@ -506,14 +538,7 @@ impl PositionText {
     pub fn game(&self) -> GameKind
         ensures { result ≡ kind_of self.now }
     {
-        match self {
-            PositionText::Goofspiel { .. } => GameKind::Goofspiel,
-            PositionText::OshiZumo { .. } => GameKind::OshiZumo,
-            PositionText::Tron { .. } => GameKind::Tron,
-            PositionText::GoofspielDrawn { .. } => GameKind::GoofspielDrawn,
-            PositionText::Pursuit { .. } => GameKind::Pursuit,
-            PositionText::Table { .. } => GameKind::Table,
-        }
+        each_game!(kind, (self))
     }
 }
 

@@ -26,18 +26,12 @@ use Rattle.position.specs.Games.{IsGameOf, state_type, model_of, OfSame, OfGame,
 
 pub one_game : (text : PositionText) (g h : AnyGame) → IsGameOf text g → IsGameOf text h → IsSameGame g h
 one_game (texts.Goofspiel one two prizes score pay) (Goofspiel g) (Goofspiel h) p q = (h, refl, goofspiel_position.one_setting one two prizes score pay g.setting h.setting p q)
-one_game (texts.Goofspiel one two prizes score pay) (Goofspiel g) h p q = absurd q
 one_game (texts.OshiZumo size one two least place) (OshiZumo g) (OshiZumo h) p q = (h, refl, oshi_zumo_position.one_setting size one two least place g.setting h.setting p q)
-one_game (texts.OshiZumo size one two least place) (OshiZumo g) h p q = absurd q
 one_game (texts.Tron height width walls one two) (Tron g) (Tron h) p q = (h, refl, tron_position.one_setting height width walls one two g.setting h.setting p q)
-one_game (texts.Tron height width walls one two) (Tron g) h p q = absurd q
 one_game (texts.GoofspielDrawn one two prizes score pay) (GoofspielDrawn g) (GoofspielDrawn h) p q = (h, refl, goofspiel_position.one_setting one two prizes score pay g.setting h.setting p q)
-one_game (texts.GoofspielDrawn one two prizes score pay) (GoofspielDrawn g) h p q = absurd q
 one_game (texts.Pursuit nodes edges one two rounds) (Pursuit g) (Pursuit h) p q = (h, refl, pursuit_position.one_setting nodes edges one two rounds g.setting h.setting p q)
-one_game (texts.Pursuit nodes edges one two rounds) (Pursuit g) h p q = absurd q
 one_game (texts.Table ranks moves values cells draws rewards) (Table g) (Table h) p q = (h, refl, p ∙ sym q)
-one_game (texts.Table ranks moves values cells draws rewards) (Table g) h p q = absurd q
-one_game text g h p q = absurd p
+one_game text g h p q = absurd (assumption (p, q))
 
 -- a property of the model of one is one of that of the other
 pub of_same : (P : (S : Type 0) → GameModel S → Type 0) (g h : AnyGame) → IsSameGame g h → P (state_type g) (model_of g) → P (state_type h) (model_of h)

@@ -325,33 +325,33 @@ small_accepted (texts.Table ranks moves values cells draws rewards) fits small e
 small_accepted text fits small e = e
 
 -- ---- widths
--- the width that the text tells is that of the game
-pub game_width : (text : PositionText) (g : AnyGame) → IsGameOf text g → any_width g ≡ text_width text
-game_width (texts.Goofspiel one two prizes score pay) (Goofspiel g) p = ap (λ (xs : List ℕ). max 1 (length xs)) p.one_is
-game_width (texts.OshiZumo size one two least place) (OshiZumo g) p = ap (λ (s : BoutSetting). max 1 (max (s.one + 1 - s.least) (s.two + 1 - s.least))) p
-game_width (texts.Tron height width walls one two) (Tron g) p = refl
-game_width (texts.GoofspielDrawn one two prizes score pay) (GoofspielDrawn g) p = ap (λ (xs : List ℕ). max 1 (length xs)) p.one_is
-game_width (texts.Pursuit nodes edges one two rounds) (Pursuit g) p = ap width_of (same_graph g.setting edges p.joined) ∙ ap (λ (n : ℕ). width_of (graph_of_edges n edges)) p.nodes_is
-game_width (texts.Table ranks moves values cells draws rewards) (Table g) p = ap table_width p
-game_width text g p = absurd p
-
--- within the narrow limits no game is wider than 32
-pub narrow_width : (text : PositionText) (g : AnyGame) → IsGameOf text g → fault_of Narrow text ≡ None → any_width g ≤ 32
-narrow_width (texts.Goofspiel one two prizes score pay) (Goofspiel g) p e = omega (arith, few_cards g.setting.one p.one_small)
-narrow_width (texts.OshiZumo size one two least place) (OshiZumo g) p e =
+-- the width that the text tells is that of the game, and it is at most 32 where the narrow rules accept the position
+widths : (text : PositionText) (g : AnyGame) → IsGameOf text g → (any_width g ≡ text_width text) × (fault_of Narrow text ≡ None → any_width g ≤ 32)
+widths (texts.Goofspiel one two prizes score pay) (Goofspiel g) p =
+    (ap (λ (xs : List ℕ). max 1 (length xs)) p.one_is, λ e. omega (arith, few_cards g.setting.one p.one_small))
+widths (texts.OshiZumo size one two least place) (OshiZumo g) p =
     let s = oshi_zumo.setting_of size one two least place in
-    let few = few_coins Narrow s (unmapped errors.OshiZumo (oshi_zumo.first_fault Narrow s) e) in
-    let is = game_width (texts.OshiZumo size one two least place) (OshiZumo g) p in
-    omega (arith, is, few.one, few.two, few.least_low)
-narrow_width (texts.Tron height width walls one two) (Tron g) p e = omega arith
-narrow_width (texts.GoofspielDrawn one two prizes score pay) (GoofspielDrawn g) p e = omega (arith, few_cards g.setting.one p.one_small)
-narrow_width (texts.Pursuit nodes edges one two rounds) (Pursuit g) p e =
-    let few = few_nodes Narrow nodes edges one two rounds (unmapped errors.Pursuit (pursuit.first_fault Narrow nodes edges one two rounds) e) in
-    omega (arith, chase_width g.setting g.valid, p.nodes_is, few.1)
-narrow_width (texts.Table ranks moves values cells draws rewards) (Table g) p e =
+    let is : any_width (OshiZumo g) ≡ text_width (texts.OshiZumo size one two least place) = ap (λ (s : BoutSetting). max 1 (max (s.one + 1 - s.least) (s.two + 1 - s.least))) p in
+    (is, λ e. let few = few_coins Narrow s (unmapped errors.OshiZumo (oshi_zumo.first_fault Narrow s) e) in omega (arith, is, few.one, few.two, few.least_low))
+widths (texts.Tron height width walls one two) (Tron g) p = (refl, λ e. omega arith)
+widths (texts.GoofspielDrawn one two prizes score pay) (GoofspielDrawn g) p =
+    (ap (λ (xs : List ℕ). max 1 (length xs)) p.one_is, λ e. omega (arith, few_cards g.setting.one p.one_small))
+widths (texts.Pursuit nodes edges one two rounds) (Pursuit g) p = (
+  ap width_of (same_graph g.setting edges p.joined) ∙ ap (λ (n : ℕ). width_of (graph_of_edges n edges)) p.nodes_is,
+  λ e.
+      let few = few_nodes Narrow nodes edges one two rounds (unmapped errors.Pursuit (pursuit.first_fault Narrow nodes edges one two rounds) e) in
+      omega (arith, chase_width g.setting g.valid, p.nodes_is, few.1),
+)
+widths (texts.Table ranks moves values cells draws rewards) (Table g) p =
     let l = lists_from ranks moves values cells draws rewards in
-    omega (arith, ap table_width p, width_kept Narrow l (unmapped errors.Table (table.first_fault Narrow l) e))
-narrow_width text g p e = absurd p
+    (ap table_width p, λ e. omega (arith, ap table_width p, width_kept Narrow l (unmapped errors.Table (table.first_fault Narrow l) e)))
+widths text g p = absurd p
+
+pub game_width : (text : PositionText) (g : AnyGame) → IsGameOf text g → any_width g ≡ text_width text
+game_width text g p = (widths text g p).0
+
+pub narrow_width : (text : PositionText) (g : AnyGame) → IsGameOf text g → fault_of Narrow text ≡ None → any_width g ≤ 32
+narrow_width text g p = (widths text g p).1
 
 -- any game is narrow enough for a report
 pub width_is : (g : AnyGame) → (model_of g).width ≡ any_width g

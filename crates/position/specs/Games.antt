@@ -4,31 +4,25 @@ use Rattle.std.specs.Prelude.{◌≡◌, ⊤, ℕ, ◌+◌, ◌-◌, ◌*◌, �
 use Rattle.serde_json.specs.Data.{Data}
 use Rattle.sim_game.specs.Model.{GameModel}
 use Rattle.goofspiel.specs.declared.Goofspiel.{Goofspiel as GoofspielGame}
-use Rattle.goofspiel.specs.declared.State.{State as GoofspielState}
 use Rattle.goofspiel.specs.Position as goofspiel
 use Rattle.goofspiel.specs.Refusals as goofspiel_refusals
 use Rattle.goofspiel.specs.Cards.{rising}
 use Rattle.goofspiel.specs.Rules.{goofspiel_game}
 use Rattle.goofspiel.specs.declared.drawn.GoofspielDrawn.{GoofspielDrawn as DrawnGame}
-use Rattle.goofspiel.specs.declared.drawn.DrawnState.{DrawnState}
 use Rattle.goofspiel.specs.DrawnRules.{drawn_game}
 use Rattle.oshi_zumo.specs.declared.OshiZumo.{OshiZumo as OshiZumoGame}
-use Rattle.oshi_zumo.specs.declared.State.{State as OshiZumoState}
 use Rattle.oshi_zumo.specs.Position as oshi_zumo
 use Rattle.oshi_zumo.specs.Refusals as oshi_zumo_refusals
 use Rattle.oshi_zumo.specs.Rules.{oshi_zumo_game}
 use Rattle.tron.specs.declared.Tron.{Tron as TronGame}
-use Rattle.tron.specs.declared.State.{State as TronState}
 use Rattle.tron.specs.Position as tron
 use Rattle.tron.specs.Refusals as tron_refusals
 use Rattle.tron.specs.Rules.{tron_game}
 use Rattle.pursuit.specs.declared.Pursuit.{Pursuit as PursuitGame}
-use Rattle.pursuit.specs.declared.State.{State as PursuitState}
 use Rattle.pursuit.specs.Position as pursuit
 use Rattle.pursuit.specs.Refusals as pursuit_refusals
 use Rattle.pursuit.specs.Rules.{graph_of_edges, pursuit_game, width_of}
 use Rattle.table.specs.declared.Table.{Table as TableGame}
-use Rattle.table.specs.declared.State.{State as TableState}
 use Rattle.table.specs.Faults as table
 use Rattle.table.specs.Lists.{lists_from, table_width}
 use Rattle.table.specs.Refusals as table_refusals
@@ -87,24 +81,42 @@ abbrev pub words_of : InputError → List ℕ
 words_of e = (told_of e).1
 
 -- ---- the game of a position
--- the first rule of the game that the position breaks, within the limits
-abbrev pub fault_of : Limits → PositionText → Option InputError
-fault_of limits (texts.Goofspiel one two prizes score pay) = option_map errors.Goofspiel (goofspiel.first_fault one two prizes score)
-fault_of limits (texts.OshiZumo size one two least place) = option_map errors.OshiZumo (oshi_zumo.first_fault limits (oshi_zumo.setting_of size one two least place))
-fault_of limits (texts.Tron height width walls one two) = option_map errors.Tron (tron.first_fault height width walls one two)
-fault_of limits (texts.GoofspielDrawn one two prizes score pay) = option_map errors.Goofspiel (goofspiel.first_fault one two prizes score)
-fault_of limits (texts.Pursuit nodes edges one two rounds) = option_map errors.Pursuit (pursuit.first_fault limits nodes edges one two rounds)
-fault_of limits (texts.Table ranks moves values cells draws rewards) = option_map errors.Table (table.first_fault limits (lists_from ranks moves values cells draws rewards))
+-- the first rule of the game that the position breaks, within the limits, and the most moves of a side, as its model has it
+pub record TextRules : Type 0 where
+  pub fault : Limits → Option InputError
+  pub width : ℕ
 
--- ---- its width
--- the most moves of a side, as the model of the position's game has it
+abbrev pub rules_of : PositionText → TextRules
+rules_of (texts.Goofspiel one two prizes score pay) = record {
+  fault = λ limits. option_map errors.Goofspiel (goofspiel.first_fault one two prizes score);
+  width = max 1 (length (rising one));
+}
+rules_of (texts.OshiZumo size one two least place) = record {
+  fault = λ limits. option_map errors.OshiZumo (oshi_zumo.first_fault limits (oshi_zumo.setting_of size one two least place));
+  width = max 1 (max (one + 1 - least) (two + 1 - least));
+}
+rules_of (texts.Tron height width walls one two) = record {
+  fault = λ limits. option_map errors.Tron (tron.first_fault height width walls one two);
+  width = 4;
+}
+rules_of (texts.GoofspielDrawn one two prizes score pay) = record {
+  fault = λ limits. option_map errors.Goofspiel (goofspiel.first_fault one two prizes score);
+  width = max 1 (length (rising one));
+}
+rules_of (texts.Pursuit nodes edges one two rounds) = record {
+  fault = λ limits. option_map errors.Pursuit (pursuit.first_fault limits nodes edges one two rounds);
+  width = width_of (graph_of_edges nodes edges);
+}
+rules_of (texts.Table ranks moves values cells draws rewards) = record {
+  fault = λ limits. option_map errors.Table (table.first_fault limits (lists_from ranks moves values cells draws rewards));
+  width = table_width (lists_from ranks moves values cells draws rewards);
+}
+
+abbrev pub fault_of : Limits → PositionText → Option InputError
+fault_of limits text = (rules_of text).fault limits
+
 abbrev pub text_width : PositionText → ℕ
-text_width (texts.Goofspiel one two prizes score pay) = max 1 (length (rising one))
-text_width (texts.OshiZumo size one two least place) = max 1 (max (one + 1 - least) (two + 1 - least))
-text_width (texts.Tron height width walls one two) = 4
-text_width (texts.GoofspielDrawn one two prizes score pay) = max 1 (length (rising one))
-text_width (texts.Pursuit nodes edges one two rounds) = width_of (graph_of_edges nodes edges)
-text_width (texts.Table ranks moves values cells draws rewards) = table_width (lists_from ranks moves values cells draws rewards)
+text_width text = (rules_of text).width
 
 -- The weight is too small for a game that is wider than the narrow limits allow: the rounds that linear stages fall back
 -- on hold their law where it is at least 8 times the square of the width.
@@ -132,31 +144,31 @@ IsGameOf (texts.Table ranks moves values cells draws rewards) (Table g) = IsSett
 IsGameOf text game = ⊥
 
 -- ---- its model
--- the states of the game
+-- a model, with its states and the most moves of a side
+pub record AnyModel : Type 1 where
+  pub State : Type 0
+  pub model : GameModel State
+  pub width : ℕ
+
+abbrev any_model : {S : Type 0} → GameModel S → AnyModel
+any_model {S = S} m = record { State = S; model = m; width = m.width }
+
+abbrev pub any_model_of : AnyGame → AnyModel
+any_model_of (Goofspiel g) = any_model (goofspiel_game g.setting)
+any_model_of (OshiZumo g) = any_model (oshi_zumo_game g.setting)
+any_model_of (Tron g) = any_model (tron_game g.setting)
+any_model_of (GoofspielDrawn g) = any_model (drawn_game g.setting)
+any_model_of (Pursuit g) = any_model (pursuit_game g.setting)
+any_model_of (Table g) = any_model (table_game (lists_of g.setting))
+
 abbrev pub state_type : AnyGame → Type 0
-state_type (Goofspiel g) = GoofspielState
-state_type (OshiZumo g) = OshiZumoState
-state_type (Tron g) = TronState
-state_type (GoofspielDrawn g) = DrawnState
-state_type (Pursuit g) = PursuitState
-state_type (Table g) = TableState
+state_type any = (any_model_of any).State
 
-abbrev pub model_of : (g : AnyGame) → GameModel (state_type g)
-model_of (Goofspiel g) = goofspiel_game g.setting
-model_of (OshiZumo g) = oshi_zumo_game g.setting
-model_of (Tron g) = tron_game g.setting
-model_of (GoofspielDrawn g) = drawn_game g.setting
-model_of (Pursuit g) = pursuit_game g.setting
-model_of (Table g) = table_game (lists_of g.setting)
+abbrev pub model_of : (any : AnyGame) → GameModel (state_type any)
+model_of any = (any_model_of any).model
 
--- its width
 abbrev pub any_width : AnyGame → ℕ
-any_width (Goofspiel g) = (goofspiel_game g.setting).width
-any_width (OshiZumo g) = (oshi_zumo_game g.setting).width
-any_width (Tron g) = (tron_game g.setting).width
-any_width (GoofspielDrawn g) = (drawn_game g.setting).width
-any_width (Pursuit g) = (pursuit_game g.setting).width
-any_width (Table g) = (table_game (lists_of g.setting)).width
+any_width any = (any_model_of any).width
 
 -- weights of this total are fine enough for stages of the game
 abbrev pub IsFineFor : AnyGame → ℕ → Type 0

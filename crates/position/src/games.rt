@@ -86,52 +86,68 @@ pub enum InputError {
     NoMemory,
 }
 
+/// Does the same with each refusal: its number and its words, with a field behind them where it has one; and those of a
+/// rule of a game, which tell themselves.
+macro_rules! each_refusal {
+    ($then:ident, $given:tt) => { $then! { $given;
+        NotJson 10 b"not json",
+        NotObject 11 b"not an object",
+        Unknown 13 b"unknown field",
+        GameName 16 b"game name",
+        TooLong 50 b"too long",
+        Weight 91 b"weight",
+        NoMemory 0 b"";
+        Missing 12 b"missing ",
+        Kind 14 b"kind of ",
+        Range 15 b"range of ";
+        Goofspiel, OshiZumo, Tron, Pursuit, Table
+    } };
+}
+
+macro_rules! number {
+    (
+        ($error:expr);
+        $($plain:ident $number:literal $words:literal),+;
+        $($of_field:ident $code:literal $begin:literal),+;
+        $($game:ident),+
+    ) => {
+        match $error {
+            $(InputError::$plain => $number,)+
+            $(InputError::$of_field { .. } => $code,)+
+            $(InputError::$game(error) => error.number(),)+
+        }
+    };
+}
+
+macro_rules! told {
+    (
+        ($error:expr, $text:expr);
+        $($plain:ident $number:literal $words:literal),+;
+        $($of_field:ident $code:literal $begin:literal),+;
+        $($game:ident),+
+    ) => {
+        match $error {
+            $(InputError::$plain => $text.word($words),)+
+            $(InputError::$of_field { field } => tell_field($text, $begin, *field),)+
+            $(InputError::$game(error) => error.tell($text),)+
+        }
+    };
+}
+
 impl InputError {
     /// The number of the refusal: 10 to 16 and 50 for bytes, the game's own number for a rule of the game, 91 for the
     /// weight, and 0 where there was no memory.
     pub fn code(&self) -> u32
         ensures { result ≡ code_of self.now }
     {
-        match self {
-            InputError::NotJson => 10,
-            InputError::NotObject => 11,
-            InputError::Missing { .. } => 12,
-            InputError::Unknown => 13,
-            InputError::Kind { .. } => 14,
-            InputError::Range { .. } => 15,
-            InputError::GameName => 16,
-            InputError::Goofspiel(error) => error.number(),
-            InputError::OshiZumo(error) => error.number(),
-            InputError::Tron(error) => error.number(),
-            InputError::Pursuit(error) => error.number(),
-            InputError::Table(error) => error.number(),
-            InputError::TooLong => 50,
-            InputError::Weight => 91,
-            InputError::NoMemory => 0,
-        }
+        each_refusal!(number, (self))
     }
 
     /// Adds the words of the refusal to the text; those of a game's rule are the game's.
     pub fn tell(&self, text: &mut Text) -> Result<(), NoMemory>
         ensures { OnOk result (Adds text.old text.new (words_of self.now)) }
     {
-        match self {
-            InputError::NotJson => text.word(b"not json"),
-            InputError::NotObject => text.word(b"not an object"),
-            InputError::Missing { field } => tell_field(text, b"missing ", *field),
-            InputError::Unknown => text.word(b"unknown field"),
-            InputError::Kind { field } => tell_field(text, b"kind of ", *field),
-            InputError::Range { field } => tell_field(text, b"range of ", *field),
-            InputError::GameName => text.word(b"game name"),
-            InputError::Goofspiel(error) => error.tell(text),
-            InputError::OshiZumo(error) => error.tell(text),
-            InputError::Tron(error) => error.tell(text),
-            InputError::Pursuit(error) => error.tell(text),
-            InputError::Table(error) => error.tell(text),
-            InputError::TooLong => text.word(b"too long"),
-            InputError::Weight => text.word(b"weight"),
-            InputError::NoMemory => text.word(b""),
-        }
+        each_refusal!(told, (self, text))
     }
 }
 

@@ -14,9 +14,9 @@ use Rattle.plan_book.specs.Sheets.{IsLawful, IsLawfulRow, row_at}
 use Rattle.plan_book.proofs.SheetLemmas.{reached_reachable}
 use Rattle.sim_game.specs.declared.Limits.{Limits}
 use Rattle.sim_game.specs.declared.Limits.TheVariants.{Narrow, Wide}
-use Rattle.fields.specs.Positions.{kind_of, is_narrow}
+use Rattle.fields.specs.Positions.{game_version, kind_of, is_narrow}
 use Rattle.certificate.specs.declared.report.Report.{Report}
-use Rattle.certificate.specs.Versions.{newest_version, game_version, limits_of, most_rows, most_moves, is_long, is_older, needs_newest, version_of}
+use Rattle.certificate.specs.Versions.{newest_version, limits_of, most_rows, most_moves, is_long, is_older, needs_newest, version_of}
 use Rattle.certificate.specs.Ranges.{IsRowInRange, IsSheetInRange}
 use Rattle.lazy_workers.proofs.SummaryLemmas.{abs_small, scaled_low, scaled_high}
 

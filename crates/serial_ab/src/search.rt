@@ -26,8 +26,9 @@ const STORED_RANK: u32 = 3;
 /// So many states are entered, some half a millisecond, before the interrupt is asked again.
 const BETWEEN_ASKS: u32 = 4096;
 
-/// The number of a state. Its row is claimed where it is not known.
+/// The number of a state. Its row is claimed where it is not known. Most states are ends, and cost no call.
 #[cycle(serial)]
+#[inline(always)]
 pub(crate) fn search_state<G: Game, I: Interrupt, B: Bounds<G>>(
     task: &SerialTask<'_, G, I>,
     s: G::State,
@@ -81,6 +82,7 @@ fn is_stopped<G: Game, I: Interrupt>(task: &SerialTask<'_, G, I>, unasked: &mut 
 /// The number of a state that is no end. Where a search of it with the same window was stored, its number is the
 /// answer, for the visits that it took.
 #[cycle(serial)]
+#[inline(never)]
 fn search_inner<G: Game, I: Interrupt, B: Bounds<G>>(
     task: &SerialTask<'_, G, I>,
     s: G::State,

@@ -67,7 +67,7 @@ owed_below m game methods.Linear before turns met finished n some few owed = ome
 -- the turns of a search that ended so: those of a restricted game to a state with regret matching, a turn of each of three sweeps with linear stages
 abbrev pub AreTaken : {S G N : Type 0} → GameModel S → Ask → SearchEnd → WorkView G N → WorkView G N → Type 0
 AreTaken m ask end start last = ((ask.stages ≡ Regret) × HasTaken m m.root end start last)
-    ⊎ ((ask.stages ≡ Linear) × (last.settled.was_full ≡ false → TakesSweeps m 2 1 last.board start.turns.spent last.turns.spent))
+    ⊎ ((ask.stages ≡ Linear) × (last.finished.was_full ≡ false → TakesSweeps m 2 1 last.board start.turns.spent last.turns.spent))
 
 -- whether the solver of a method makes sweeps
 abbrev IsOfKind : StageMethod → SolverKind → Type 0
@@ -99,25 +99,25 @@ module _ {S : Type 0} (m : GameModel S) (game : IsGame m) where
 
   module _ {G N : Type 0} (ask : Ask) (before : Begun) (start last : WorkView G N) (end : SearchEnd)
       (rows : last.board.rows ≡ ask.rows) (total : last.board.total ≡ ask.weight) (weight : 1 ≤ ask.weight) (goes_on : 1 ≤ m.rank m.root)
-      (none : start.settled ≡ record { keys = []; was_full = false }) (limit : HasLimit ask before.may_stop start.turns) (begun : start.turns.spent ≤ before.spent)
+      (none : start.finished ≡ record { keys = []; was_full = false }) (limit : HasLimit ask before.may_stop start.turns) (begun : start.turns.spent ≤ before.spent)
       (inside : start.turns.spent ≤ start.turns.limit)
       (worked : IsWorked m m.root start last) (ends : Ends m m.root ask.gap last end) (takes : AreTaken m ask end start last) where
     abbrev has_row : Rows
     has_row row key = last.board.key_at row ≡ Some key
 
     -- a full board has a key in each row, and had no row for each state
-    full_board : last.settled.was_full ≡ true → KnowsEach ask.rows has_row × (HasRoom m ask → ⊥)
+    full_board : last.finished.was_full ≡ true → KnowsEach ask.rows has_row × (HasRoom m ask → ⊥)
     full_board was = ⊎_elim
-        (λ (before : start.settled.was_full ≡ true). let no = ap (λ (f : FinishedView). f.was_full) none in let wrong : false ≡ true = sym no ∙ before in absurd (cc))
+        (λ (before : start.finished.was_full ≡ true). let no = ap (λ (f : FinishedView). f.was_full) none in let wrong : false ≡ true = sym no ∙ before in absurd (cc))
         (λ (full : IsBoardFull m m.root last.board). (
           λ row l. let it = full.full.others row (omega (arith, rows)) in (it.0, it.1),
           λ has. let few = rows_too_few m last.board (m.key full.state) full.full ask.rows has in absurd (omega (arith, few, rows)),
         ))
         (worked.cause was)
 
-    room : HasRoom m ask → last.settled.was_full ≡ false
-    room has = by last.settled.was_full refl where
-      by : (b : Bool) → last.settled.was_full ≡ b → last.settled.was_full ≡ false
+    room : HasRoom m ask → last.finished.was_full ≡ false
+    room has = by last.finished.was_full refl where
+      by : (b : Bool) → last.finished.was_full ≡ b → last.finished.was_full ≡ false
       by true e = absurd ((full_board e).1 has)
       by false e = e
 
@@ -148,15 +148,15 @@ module _ {S : Type 0} (m : GameModel S) (game : IsGame m) where
           let in_limit = within in
           let none_left = ends.2 in (
             λ no. let last_limit : last.turns.limit ≡ ask.turns = worked.turns.limit.whole (limit.may ∙ no) ∙ limit.whole no in omega arith,
-            λ all. (too_few all takes, by all takes last.settled.was_full refl),
+            λ all. (too_few all takes, by all takes last.finished.was_full refl),
           ) where
-            taken : last.turns.spent ≡ ask.turns → HasTaken m m.root Spent start last → last.settled.was_full ≡ false
-                → ask.turns ≤ before.spent + growth_turns m * (length last.settled.keys + m.rank m.root)
+            taken : last.turns.spent ≡ ask.turns → HasTaken m m.root Spent start last → last.finished.was_full ≡ false
+                → ask.turns ≤ before.spent + growth_turns m * (length last.finished.keys + m.rank m.root)
             taken all takes quiet =
                 let so : TakesTurns (growth_turns m) (m.rank m.root) start.worker last.worker =
                 ⊎_elim (λ (a : TakesTurns (growth_turns m) (m.rank m.root) start.worker last.worker). a)
                 (λ (b : (left_of last.turns ≡ 0) × TakesTurns (growth_turns m) (m.rank m.root) start.worker last.worker). b.1) (takes.unless_full quiet) in
-                turns_from (growth_turns m) last.turns.spent start.turns.spent before.spent ask.turns (length last.settled.keys) (length start.settled.keys) (m.rank m.root) so begun all
+                turns_from (growth_turns m) last.turns.spent start.turns.spent before.spent ask.turns (length last.finished.keys) (length start.finished.keys) (m.rank m.root) so begun all
 
             met : (is_close : Bool) (key : ℕ) → IsFinished m is_close last.board (1 + MOST_TURNS) key → IsMetKey m has_row key
             met is_close key f = record { named = record { state = f.state; reachable = f.reachable; goes_on = f.goes_on; is_key = f.is_key }; row = f.row; has_row = f.held }
@@ -176,20 +176,20 @@ module _ {S : Type 0} (m : GameModel S) (game : IsGame m) where
               each = All-weaker (IsFinished m is_close last.board (1 + MOST_TURNS)) (IsMetKey m has_row) (met is_close) keys f.each;
             }
 
-            owed : last.turns.spent ≡ ask.turns → AreTaken m ask Spent start last → last.settled.was_full ≡ false → AreOwedTo m ask before last.board.seen has_row
+            owed : last.turns.spent ≡ ask.turns → AreTaken m ask Spent start last → last.finished.was_full ≡ false → AreOwedTo m ask before last.board.seen has_row
             owed all takes quiet =
                 let so : (stages : StageMethod) (met finished : ℕ) → ask.stages ≡ stages → ask.turns ≤ before.spent + owed_turns m stages met finished
                 → ask.turns ≤ before.spent + owed_turns m ask.stages met finished = λ stages met finished is few.
                 subst (λ (x : StageMethod). ask.turns ≤ before.spent + owed_turns m x met finished) (sym is) few in
                 ⊎_elim
                 (λ (a : (ask.stages ≡ Regret) × HasTaken m m.root Spent start last). record {
-                  met = last.settled.keys;
-                  are_met = met_keys true last.settled.keys worked.kept.finished;
-                  finished = last.settled.keys;
-                  are_finished = finished_keys last.settled.keys worked.kept.finished;
+                  met = last.finished.keys;
+                  are_met = met_keys true last.finished.keys worked.kept.finished;
+                  finished = last.finished.keys;
+                  are_finished = finished_keys last.finished.keys worked.kept.finished;
                   few = so Regret _ _ a.0 (taken all a.1 quiet);
                 })
-                (λ (b : (ask.stages ≡ Linear) × (last.settled.was_full ≡ false → TakesSweeps m 2 1 last.board start.turns.spent last.turns.spent)).
+                (λ (b : (ask.stages ≡ Linear) × (last.finished.was_full ≡ false → TakesSweeps m 2 1 last.board start.turns.spent last.turns.spent)).
                 let it : TakesSweeps m 2 1 last.board start.turns.spent last.turns.spent = b.1 quiet in
                 let few = it.few in record {
                   met = it.keys;
@@ -209,7 +209,7 @@ module _ {S : Type 0} (m : GameModel S) (game : IsGame m) where
                 (All-weaker (IsFinishedKey m ask last.board.seen has_row) (IsInnerKey m) (λ key f. f.met.named) it.finished it.are_finished.each) n has in
                 owed_below m game ask.stages before.spent ask.turns (length it.met) (length it.finished) n met_few finished_few it.few
 
-            by : last.turns.spent ≡ ask.turns → AreTaken m ask Spent start last → (b : Bool) → last.settled.was_full ≡ b → KnowsEach ask.rows has_row ⊎ AreOwedTo m ask before last.board.seen has_row
+            by : last.turns.spent ≡ ask.turns → AreTaken m ask Spent start last → (b : Bool) → last.finished.was_full ≡ b → KnowsEach ask.rows has_row ⊎ AreOwedTo m ask before last.board.seen has_row
             by all takes true e = inl (full_board e).0
             by all takes false e = inr (owed all takes e)
       spent_by Full not ends takes = absurd (not refl)
@@ -220,9 +220,9 @@ module _ {S : Type 0} (m : GameModel S) (game : IsGame m) where
 
     -- visits for the whole tree that nothing stops, and a row for each state
     module _ (visits : start.visits ≡ record { limit = ask.visits; one = 0; two = 0 })
-        (pure : Whole m m.root start.turns start.visits → last.settled.was_full ≡ false → IsPureTight m m.root last.board)
+        (pure : Whole m m.root start.turns start.visits → last.finished.was_full ≡ false → IsPureTight m m.root last.board)
         (row : (end ≡ Full → ⊥) → (row : ℕ) × (last.board.key_at row ≡ Some (m.key m.root)))
-        (at_once : Whole m m.root start.turns start.visits → last.settled.was_full ≡ false → IsPureClose m ask → (end ≡ Reached) × (last.turns ≡ start.turns)) where
+        (at_once : Whole m m.root start.turns start.visits → last.finished.was_full ≡ false → IsPureClose m ask → (end ≡ Reached) × (last.turns ≡ start.turns)) where
       whole : HasVisits m ask before.may_stop → Whole m m.root start.turns start.visits
       whole has = (limit.may ∙ has.0, λ side. subst (λ (v : VisitsView). tree_size m m.root ≤ left_on side v) (sym visits) (each side)) where
         each : (of : Side) → tree_size m m.root ≤ left_on of (record { limit = ask.visits; one = 0; two = 0 })

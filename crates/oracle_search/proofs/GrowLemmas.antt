@@ -152,11 +152,11 @@ module _ {S G N : Type 0} {m : GameModel S} {s : S} (goes_on : 1 ≤ m.rank s) w
     }
 
     -- one turn, of a game that may grow no more
-    pub growing_turn : {x : WorkerView} → HasTurn v.turns x.turns → x.settled ≡ v.settled → TakesAtMost (growth_turns m) 1 (m.rank s) u.worker x
+    pub growing_turn : {x : WorkerView} → HasTurn v.turns x.turns → x.finished ≡ v.finished → TakesAtMost (growth_turns m) 1 (m.rank s) u.worker x
     growing_turn turn same = last_turn g.few g.turns turn same
 
     -- one turn, with a move added: no more are held than both sides have
-    pub growing_more : {ys : KeptRows} {new : HeldMoves} {w : WorkView G N} (end : StepEnd) → IsWorked m s v w → HasTurn v.turns w.turns → w.settled ≡ v.settled → new ≡ held_after held end
+    pub growing_more : {ys : KeptRows} {new : HeldMoves} {w : WorkView G N} (end : StepEnd) → IsWorked m s v w → HasTurn v.turns w.turns → w.finished ≡ v.finished → new ≡ held_after held end
         → IsGame m → Reachable m s → (count_held held < count_held new) × (count_held new ≤ count_moves new) → AreChildRows m w.board s ys → IsGrowing m s ys new u w
     growing_more {new = new} end worked turn same after game reach rises children =
         let more = rises.0 in

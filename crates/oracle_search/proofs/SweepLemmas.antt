@@ -90,7 +90,7 @@ one_added {w} {x} {y} key turn swept is = record {
 module _ {S G N : Type 0} {m : GameModel S} {s : S} {limit : ℕ} {v x : WorkView G N} (worked : IsWorkedBelow m s limit v x) where
   pub one_after : {w : WorkerView} → TakesOne w v.worker → TakesOne v.worker x.worker → TakesOne w x.worker
   one_after p q = record {
-    unless_full = λ not. let a = p.unless_full (not_before v.settled.was_full x.settled.was_full worked.settled.full not) in let b = q.unless_full not in omega arith;
+    unless_full = λ not. let a = p.unless_full (not_before v.finished.was_full x.finished.was_full worked.finished.full not) in let b = q.unless_full not in omega arith;
   }
 
   -- an end, after a part that took no turn
@@ -158,7 +158,7 @@ module _ {S G N : Type 0} {m : GameModel S} where
 
   -- a sweep that began with no state finished
   pub owed_sweep : {is_last : Bool} {v t : BoardView G N} {w x : WorkerView} (u : WorkerView) → w ≡ record u { swept = [] } → IsLater v t → AreFinished m is_last v x.swept
-      → TakesOne w x → x.settled.was_full ≡ false → TakesSweeps m (cond is_last 0 1) (cond is_last 1 0) t u.turns.spent x.turns.spent
+      → TakesOne w x → x.finished.was_full ≡ false → TakesSweeps m (cond is_last 0 1) (cond is_last 1 0) t u.turns.spent x.turns.spent
   owed_sweep {is_last = is_last} {t = t} {w = w} {x = x} u is later swept took not = of is_last (finished_later later swept) where
     begun : length w.swept ≡ 0
     begun = ap (λ (z : WorkerView). length z.swept) is
@@ -204,8 +204,8 @@ module _ {S G N : Type 0} {m : GameModel S} {s : S} {u v : WorkView G N} where
   made_wider wide made = record { worked = made.worked; owed = λ not. owed_wider wide (omega arith) (made.owed not) }
 
   module _ {w : WorkView G N} {sweeps : ℕ} (made : HasMade m s sweeps u v) (worked : IsWorked m s v w) where
-    not_full : w.settled.was_full ≡ false → v.settled.was_full ≡ false
-    not_full = not_before v.settled.was_full w.settled.was_full worked.settled.full
+    not_full : w.finished.was_full ≡ false → v.finished.was_full ≡ false
+    not_full = not_before v.finished.was_full w.finished.was_full worked.finished.full
 
     pub made_more : {target : ℤ} → LeavesToNext m s target false v w → HasMade m s (sweeps + 1) u w
     made_more left = record { worked = worked_after made.worked worked; owed = λ not. owed_after worked.board.later (made.owed (not_full not)) (left.owed not) }
@@ -235,11 +235,11 @@ ends_settled goes_on left = record { ends = (goes_on, left.beyond, left.close re
 -- ---- how the search of a state ends
 module _ {S G N : Type 0} {m : GameModel S} {s : S} {target : ℤ} {u v : WorkView G N} {end : SearchEnd} where
   -- before a turn
-  pub bounded_early : Ends m s target v end → v.turns.spent ≡ u.turns.spent → v.settled.keys ≡ u.settled.keys → HasBounded m s target u v end
+  pub bounded_early : Ends m s target v end → v.turns.spent ≡ u.turns.spent → v.finished.keys ≡ u.finished.keys → HasBounded m s target u v end
   bounded_early ends turns keys = record { ends = ends; turns = λ _. taken_by turns keys; owed = λ _ not. owed_none v.board (omega arith) }
 
   module _ {start : WorkView G N} (turns : u.turns.spent ≡ start.turns.spent) where
-    pub bounded_grown : u.settled.keys ≡ start.settled.keys → start.linear ≡ false → HasEnded m s target u v end → HasBounded m s target start v end
+    pub bounded_grown : u.finished.keys ≡ start.finished.keys → start.linear ≡ false → HasEnded m s target u v end → HasBounded m s target start v end
     bounded_grown keys regret ended =
         record { ends = ended.ends; turns = λ _. taken_from turns keys ended.turns; owed = λ linear. let wrong : false ≡ true = sym regret ∙ linear in absurd (cc) }
 
@@ -263,7 +263,7 @@ stopped_unsettled m v s target stopped end not is settled = ⊎_elim
 
 -- where no turn is left after pure plans
 module _ {S G N : Type 0} {m : GameModel S} {s : S} {target : ℤ} {start v : WorkView G N} (u : WorkView G N) (turns : u.turns.spent ≡ start.turns.spent) where
-  pub run_out_grown : u.settled.keys ≡ start.settled.keys → start.linear ≡ false → ((end : SearchEnd) → BoundsByPure m s target start v end)
+  pub run_out_grown : u.finished.keys ≡ start.finished.keys → start.linear ≡ false → ((end : SearchEnd) → BoundsByPure m s target start v end)
       → TakesAtMost (growth_turns m) (m.rank s) (m.rank s) u.worker v.worker → HasRunOut m s target start v
   run_out_grown keys regret pure taken =
       record { turns = λ _. taken_from turns keys taken; owed = λ linear. let wrong : false ≡ true = sym regret ∙ linear in absurd (cc); pure = pure }
@@ -293,7 +293,7 @@ module _ {S G N : Type 0} {m : GameModel S} {s : S} {target : ℤ} {u : WorkView
         (record { ends = (goes_on, b.0, none); turns = out.turns; owed = out.owed })) is
 
     -- at a full board
-    module _ (full : v.settled.was_full ≡ true) where
+    module _ (full : v.finished.was_full ≡ true) where
       pub pure_full : {end : SearchEnd} → BoundsByPure m s target u v end
       pure_full = record { tight = λ visits not goes_on. no_room full not; at_once = λ visits not near. no_room full not }
 
@@ -309,6 +309,6 @@ pub bounded_begun : {S G N : Type 0} {m : GameModel S} {s : S} {target : ℤ} {u
     → HasBounded m s target (at_work v x) new end → HasBounded m s target (at_start u w) new end
 bounded_begun {m = m} {new = new} w is ended = record {
   ends = ended.ends;
-  turns = λ regret. taken_from (ap (λ (y : WorkerView). y.turns.spent) is) (ap (λ (y : WorkerView). y.settled.keys) is) (ended.turns (ap (λ (y : WorkerView). y.linear) is ∙ regret));
+  turns = λ regret. taken_from (ap (λ (y : WorkerView). y.turns.spent) is) (ap (λ (y : WorkerView). y.finished.keys) is) (ended.turns (ap (λ (y : WorkerView). y.linear) is ∙ regret));
   owed = λ linear not. subst (λ (n : ℕ). TakesSweeps m 2 1 new.board n new.turns.spent) (ap (λ (y : WorkerView). y.turns.spent) is) (ended.owed (ap (λ (y : WorkerView). y.linear) is ∙ linear) not);
 }

@@ -14,7 +14,7 @@ not_before true b f e = let wrong : true ≡ false = sym (f refl) ∙ e in absur
 
 -- at most so many turns besides those of finished states, less those to spare; or none is left, and there were no more than for the most states
 pub record TakesWithin (each spare turns most : ℕ) (old new : WorkerView) : Type 0 where
-  pub unless_full : new.settled.was_full ≡ false → (new.turns.spent + each * length old.settled.keys + spare ≤ old.turns.spent + each * length new.settled.keys + turns)
+  pub unless_full : new.finished.was_full ≡ false → (new.turns.spent + each * length old.finished.keys + spare ≤ old.turns.spent + each * length new.finished.keys + turns)
       ⊎ ((left_of new.turns ≡ 0) × TakesTurns each most old new)
 
 module _ {each most : ℕ} {u v : WorkerView} where
@@ -25,15 +25,15 @@ module _ {each most : ℕ} {u v : WorkerView} where
   pub at_most : {spare turns : ℕ} (states more : ℕ) → turns ≤ each * states + spare → most ≤ more → TakesWithin each spare turns most u v → TakesAtMost each states more u v
   at_most {spare} {turns} states more few wide p = record {
     unless_full = λ not. ⊎_elim
-        (λ (a : v.turns.spent + each * length u.settled.keys + spare ≤ u.turns.spent + each * length v.settled.keys + turns). inl (omega arith))
+        (λ (a : v.turns.spent + each * length u.finished.keys + spare ≤ u.turns.spent + each * length v.finished.keys + turns). inl (omega arith))
         (λ (b : (left_of v.turns ≡ 0) × TakesTurns each most u v). let b1 = b.1 in let more_each : each * most ≤ each * more = mul-le-mul_left each wide in inr (b.0, omega arith)) (p.unless_full not);
   }
 
-pub taken_by : {each states most : ℕ} {u v : WorkerView} → v.turns.spent ≡ u.turns.spent → v.settled.keys ≡ u.settled.keys → TakesAtMost each states most u v
+pub taken_by : {each states most : ℕ} {u v : WorkerView} → v.turns.spent ≡ u.turns.spent → v.finished.keys ≡ u.finished.keys → TakesAtMost each states most u v
 taken_by {each} turns keys = record { unless_full = λ not. let same = ap (λ (l : List ℕ). each * length l) keys in inl (omega arith) }
 
 -- turns are counted alike where a part took none
-pub taken_from : {each states most : ℕ} {u v w : WorkerView} → v.turns.spent ≡ u.turns.spent → v.settled.keys ≡ u.settled.keys → TakesAtMost each states most v w → TakesAtMost each states most u w
+pub taken_from : {each states most : ℕ} {u v w : WorkerView} → v.turns.spent ≡ u.turns.spent → v.finished.keys ≡ u.finished.keys → TakesAtMost each states most v w → TakesAtMost each states most u w
 taken_from {each} {states} {most} {u} {v} {w} turns keys p = record {
   unless_full = λ not. let same = ap (λ (l : List ℕ). each * length l) keys in ⊎_elim
       (λ (a : TakesTurns each states v w). inl (omega arith))
@@ -41,7 +41,7 @@ taken_from {each} {states} {most} {u} {v} {w} turns keys p = record {
 }
 
 -- at a full board, and where no turn is left
-pub taken_full : {each states most : ℕ} {u w : WorkerView} → w.settled.was_full ≡ true → TakesAtMost each states most u w
+pub taken_full : {each states most : ℕ} {u w : WorkerView} → w.finished.was_full ≡ true → TakesAtMost each states most u w
 taken_full full = record { unless_full = λ not. let wrong : false ≡ true = sym not ∙ full in absurd (cc) }
 
 pub taken_spent : {each states most : ℕ} {u w : WorkerView} → left_of w.turns ≡ 0 → TakesAtMost each most most u w → TakesAtMost each states most u w
@@ -59,23 +59,23 @@ taken_added {each} {most} {u} {w} {new} key is p = record {
       let turns : new.turns ≡ w.turns = ap (λ (x : WorkerView). x.turns) is in
       let spent = ap (λ (t : Budget). t.spent) turns in
       let limit = ap (λ (t : Budget). t.limit) turns in
-      let count : each * length new.settled.keys ≡ each * (length w.settled.keys + 1) =
-      ap (λ (n : ℕ). each * n) (ap (λ (x : WorkerView). length x.settled.keys) is ∙ length-append w.settled.keys (key ∷ [])) in
+      let count : each * length new.finished.keys ≡ each * (length w.finished.keys + 1) =
+      ap (λ (n : ℕ). each * n) (ap (λ (x : WorkerView). length x.finished.keys) is ∙ length-append w.finished.keys (key ∷ [])) in
       ⊎_elim
       (λ (a : TakesTurns each 1 u w). inl (omega arith))
       (λ (b : (left_of w.turns ≡ 0) × TakesTurns each most u w). let b0 = b.0 in let b1 = b.1 in inr (omega arith, omega arith))
-      (p.unless_full (sym (ap (λ (x : WorkerView). x.settled.was_full) is) ∙ not));
+      (p.unless_full (sym (ap (λ (x : WorkerView). x.finished.was_full) is) ∙ not));
 }
 
 -- a turn
-pub within_turn : {each spare turns all most : ℕ} {u v w : WorkerView} → turns + 1 ≤ all → TakesWithin each spare turns most u v → HasTurn v.turns w.turns → w.settled ≡ v.settled
+pub within_turn : {each spare turns all most : ℕ} {u v w : WorkerView} → turns + 1 ≤ all → TakesWithin each spare turns most u v → HasTurn v.turns w.turns → w.finished ≡ v.finished
     → TakesWithin each spare all most u w
 within_turn {each = each} {spare} {turns} {most = most} {u = u} {v = v} {w = w} more p turn same = record {
   unless_full = λ not.
       let spent : w.turns.spent ≡ v.turns.spent + 1 = ap (λ (t : Budget). t.spent) turn.1 in let left = turn.0 in
-      let keys : each * length w.settled.keys ≡ each * length v.settled.keys = ap (λ (f : FinishedView). each * length f.keys) same in
+      let keys : each * length w.finished.keys ≡ each * length v.finished.keys = ap (λ (f : FinishedView). each * length f.keys) same in
       ⊎_elim
-      (λ (a : v.turns.spent + each * length u.settled.keys + spare ≤ u.turns.spent + each * length v.settled.keys + turns). inl (omega arith))
+      (λ (a : v.turns.spent + each * length u.finished.keys + spare ≤ u.turns.spent + each * length v.finished.keys + turns). inl (omega arith))
       (λ (a : (left_of v.turns ≡ 0) × TakesTurns each most u v). let none = a.0 in absurd (omega arith))
       (p.unless_full (sym (ap (λ (f : FinishedView). f.was_full) same) ∙ not));
 }
@@ -89,7 +89,7 @@ pub begun_within : {each count most : ℕ} {u : WorkerView} → count ≡ 2 → 
 begun_within two = record { unless_full = λ not. inl (omega arith) }
 
 -- the last turn of a restricted game
-pub last_turn : {each count most : ℕ} {u v w : WorkerView} → count ≤ each + 1 → TakesWithin each 2 count most u v → HasTurn v.turns w.turns → w.settled ≡ v.settled → TakesAtMost each 1 most u w
+pub last_turn : {each count most : ℕ} {u v w : WorkerView} → count ≤ each + 1 → TakesWithin each 2 count most u v → HasTurn v.turns w.turns → w.finished ≡ v.finished → TakesAtMost each 1 most u w
 last_turn {each} {count} {most} few p turn same = at_most {spare = 2} {turns = count + 1} 1 most (omega arith) (omega arith) (within_turn (omega arith) p turn same)
 
 spare_turns : (each count most : ℕ) → count ≤ each + 1 → 1 ≤ most → count + each * (most - 1) ≤ each * most + 2
@@ -101,17 +101,17 @@ module _ {S G N : Type 0} {m : GameModel S} {s : S} {limit : ℕ} {v w : WorkVie
       → TakesAtMost each states below v.worker w.worker → TakesWithin each spare all most u w.worker
   within_then {each = each} {spare} {turns} {most = most} {states = states} {below = below} {u = u} more few p q = record {
     unless_full = λ not.
-        let count = length-append v.settled.keys worked.settled.added.more in
-        let keys : each * length w.settled.keys ≡ each * (length v.settled.keys + length worked.settled.added.more) =
-        ap (λ (n : ℕ). each * n) (ap (λ (l : List ℕ). length l) worked.settled.added.joins ∙ count) in
+        let count = length-append v.finished.keys worked.finished.added.more in
+        let keys : each * length w.finished.keys ≡ each * (length v.finished.keys + length worked.finished.added.more) =
+        ap (λ (n : ℕ). each * n) (ap (λ (l : List ℕ). length l) worked.finished.added.joins ∙ count) in
         let left : left_of v.turns ≡ 0 → left_of w.turns ≡ 0 = λ e. let same = worked.turns.none e in let no_more = worked.turns.limit.no_more in omega arith in
         ⊎_elim
-        (λ (a : v.turns.spent + each * length u.settled.keys + spare ≤ u.turns.spent + each * length v.settled.keys + turns). ⊎_elim
+        (λ (a : v.turns.spent + each * length u.finished.keys + spare ≤ u.turns.spent + each * length v.finished.keys + turns). ⊎_elim
         (λ (b : TakesTurns each states v.worker w.worker). inl (omega arith))
         (λ (b : (left_of w.turns ≡ 0) × TakesTurns each below v.worker w.worker). let b1 = b.1 in inr (b.0, omega arith))
         (q.unless_full not))
         (λ (a : (left_of v.turns ≡ 0) × TakesTurns each most u v.worker). let a1 = a.1 in let same = worked.turns.none a.0 in inr (left a.0, omega arith))
-        (p.unless_full (not_before v.settled.was_full w.settled.was_full worked.settled.full not));
+        (p.unless_full (not_before v.finished.was_full w.finished.was_full worked.finished.full not));
   }
 
   pub taken_after : {each most states below : ℕ} {u : WorkerView} → below ≤ most → TakesAtMost each 0 most u v.worker → TakesAtMost each states below v.worker w.worker

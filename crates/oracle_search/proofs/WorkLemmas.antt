@@ -118,21 +118,21 @@ module _ {S G N : Type 0} (m : GameModel S) where
   full_below s child {v} leads was = full_weaker m v (LeadsTo m child) (LeadsTo m s) leads was
 
   -- a worker that has done nothing
-  pub kept_none : (v : BoardView G N) (w : WorkerView) → w.settled.keys ≡ [] → w.searches.stored ≡ [] → HasKept m (at_work v w)
+  pub kept_none : (v : BoardView G N) (w : WorkerView) → w.finished.keys ≡ [] → w.searches.stored ≡ [] → HasKept m (at_work v w)
   kept_none v w no_keys no_searches = record { finished = subst (AreFinished m true v) (sym no_keys) (finished_none v); remembered = remembered_none no_searches }
 
 module _ {S G N : Type 0} {m : GameModel S} {s : S} {limit : ℕ} where
   -- a part that finishes no state
   worked_by : (old new : WorkView G N) → IsBetter m old.board new.board → HasTurned old.turns new.turns → HasCounted old.visits new.visits → new.linear ≡ old.linear
-      → new.settled.keys ≡ old.settled.keys → (old.settled.was_full ≡ true → new.settled.was_full ≡ true)
-      → HasKept m old → AreRemembered m new.board new.searches → (new.settled.was_full ≡ true → old.settled.was_full ≡ true ⊎ IsBoardFull m s new.board)
+      → new.finished.keys ≡ old.finished.keys → (old.finished.was_full ≡ true → new.finished.was_full ≡ true)
+      → HasKept m old → AreRemembered m new.board new.searches → (new.finished.was_full ≡ true → old.finished.was_full ≡ true ⊎ IsBoardFull m s new.board)
       → (new.turns.spent ≡ old.turns.spent → Grows (IsPureEntry m old.board.total) old.board.entries new.board.entries) → IsWorkedBelow m s limit old new
   worked_by old new better turned visited linear same full kept remembered cause pure = record {
     board = better;
     turns = turned;
     visits = visited;
     linear = linear;
-    settled = record { added = subst (AreAdded m true new.board limit old.settled.keys) (sym same) (added_none new.board limit old.settled.keys); full = full };
+    finished = record { added = subst (AreAdded m true new.board limit old.finished.keys) (sym same) (added_none new.board limit old.finished.keys); full = full };
     kept = record { finished = subst (AreFinished m true new.board) (sym same) (finished_later better.later kept.finished); remembered = remembered };
     cause = cause;
     pure_alone = pure;
@@ -144,10 +144,10 @@ module _ {S G N : Type 0} {m : GameModel S} {s : S} {limit : ℕ} where
     turns = turned_after u.turns v.turns w.turns p.turns q.turns;
     visits = visited_after p.visits q.visits;
     linear = q.linear ∙ p.linear;
-    settled = record { added = added_after q.board.later p.settled.added q.settled.added; full = λ e. q.settled.full (p.settled.full e) };
+    finished = record { added = added_after q.board.later p.finished.added q.finished.added; full = λ e. q.finished.full (p.finished.full e) };
     kept = q.kept;
     cause = λ e. ⊎_elim
-        (λ (before : v.settled.was_full ≡ true). ⊎_elim (λ (first : u.settled.was_full ≡ true). inl first)
+        (λ (before : v.finished.was_full ≡ true). ⊎_elim (λ (first : u.finished.was_full ≡ true). inl first)
         (λ (was : IsBoardFull m s v.board). inr (full_kept m s q.board.later was)) (p.cause before))
         (λ (was : IsBoardFull m s w.board). inr was) (q.cause e);
     pure_alone = λ e.
@@ -158,8 +158,8 @@ module _ {S G N : Type 0} {m : GameModel S} {s : S} {limit : ℕ} where
 
   -- a part without turns and visits
   worked_quietly : (v b : BoardView G N) (w new : WorkerView) → HasKept m (at_work v w) → IsLater v b → new.turns ≡ w.turns → new.visits ≡ w.visits → new.linear ≡ w.linear
-      → new.settled.keys ≡ w.settled.keys → AreRemembered m b new.searches → (w.settled.was_full ≡ true → new.settled.was_full ≡ true)
-      → (new.settled.was_full ≡ true → w.settled.was_full ≡ true ⊎ IsBoardFull m s b) → Grows (IsPureEntry m v.total) v.entries b.entries → IsWorkedBelow m s limit (at_work v w) (at_work b new)
+      → new.finished.keys ≡ w.finished.keys → AreRemembered m b new.searches → (w.finished.was_full ≡ true → new.finished.was_full ≡ true)
+      → (new.finished.was_full ≡ true → w.finished.was_full ≡ true ⊎ IsBoardFull m s b) → Grows (IsPureEntry m v.total) v.entries b.entries → IsWorkedBelow m s limit (at_work v w) (at_work b new)
   worked_quietly v b w new kept later turns visits linear keys remembered full cause posted = worked_by (at_work v w) (at_work b new)
       (record { later = later; posted = grows_weaker (IsPureEntry m v.total) (IsLawfulEntry m v.total) v.entries b.entries (λ e p. p.lawful) posted })
       (rw turns (turned_none w.turns)) (rw visits (visited_none w.visits)) linear keys full kept remembered cause (λ _. posted)
@@ -235,7 +235,7 @@ module _ {S G N : Type 0} {m : GameModel S} {u v : WorkView G N} where
     turns = p.turns;
     visits = p.visits;
     linear = p.linear;
-    settled = record { added = added_wider wide p.settled.added; full = p.settled.full };
+    finished = record { added = added_wider wide p.finished.added; full = p.finished.full };
     kept = p.kept;
     cause = p.cause;
     pure_alone = p.pure_alone;
@@ -248,26 +248,26 @@ module _ {S G N : Type 0} {m : GameModel S} {u v : WorkView G N} where
     turns = p.turns;
     visits = p.visits;
     linear = p.linear;
-    settled = p.settled;
+    finished = p.finished;
     kept = p.kept;
-    cause = λ e. ⊎_elim (λ (before : u.settled.was_full ≡ true). inl before) (λ (was : IsBoardFull m child v.board). inr (full_below m s child leads was)) (p.cause e);
+    cause = λ e. ⊎_elim (λ (before : u.finished.was_full ≡ true). inl before) (λ (was : IsBoardFull m child v.board). inr (full_below m s child leads was)) (p.cause e);
     pure_alone = p.pure_alone;
   }
 
 -- a search that finished its state, whose key was added
 pub worked_added : {S G N : Type 0} {m : GameModel S} (game : IsGame m) (s : S) (r : Reachable m s) {u : WorkView G N} {v : BoardView G N} {w new : WorkerView} (row : ℕ) → 1 ≤ m.rank s
-    → v.key_at row ≡ Some (m.key s) → IsClose m v s → (Contains w.settled.keys (m.key s) → ⊥) → IsWorked m s u (at_work v w) → new ≡ with_key w (m.key s)
+    → v.key_at row ≡ Some (m.key s) → IsClose m v s → (Contains w.finished.keys (m.key s) → ⊥) → IsWorked m s u (at_work v w) → new ≡ with_key w (m.key s)
     → IsWorkedBelow m s (m.rank s + 1) u (at_work v new)
 worked_added {m = m} game s r {u} {v} {w} row goes_on held close not p is = subst (λ (x : WorkerView). IsWorkedBelow m s (m.rank s + 1) u (at_work v x)) (sym is) (record {
   board = p.board;
   turns = p.turns;
   visits = p.visits;
   linear = p.linear;
-  settled = record {
-    added = added_after (later_refl v) (added_wider (omega arith) p.settled.added) (added_more m game s r goes_on row held (λ _. close) w.settled.keys);
-    full = p.settled.full;
+  finished = record {
+    added = added_after (later_refl v) (added_wider (omega arith) p.finished.added) (added_more m game s r goes_on row held (λ _. close) w.finished.keys);
+    full = p.finished.full;
   };
-  kept = record { finished = finished_more m game s r goes_on row held (λ _. close) w.settled.keys p.kept.finished not; remembered = p.kept.remembered };
+  kept = record { finished = finished_more m game s r goes_on row held (λ _. close) w.finished.keys p.kept.finished not; remembered = p.kept.remembered };
   cause = p.cause;
   pure_alone = p.pure_alone;
 })

@@ -49,9 +49,9 @@ pub record TakesAskedTurn (old new : WorkerView) (result : Result StepEnd StepFa
 abbrev pub IsBoardFull : {S G N : Type 0} → GameModel S → S → BoardView G N → Type 0
 IsBoardFull m s v = WasFull m v (LeadsTo m s)
 
--- each settled key is that of a finished state, and none stands twice; each search that is remembered is one over this board
+-- each key is that of a finished state, and none stands twice; each search that is remembered is one over this board
 pub record HasKept {S G N : Type 0} (m : GameModel S) (v : WorkView G N) : Type 0 where
-  pub finished : AreFinished m true v.board v.settled.keys
+  pub finished : AreFinished m true v.board v.finished.keys
   pub remembered : AreRemembered m v.board v.searches
 
 -- play can come to the state, and it is no end
@@ -80,9 +80,9 @@ pub record IsWorkedBelow {S G N : Type 0} (m : GameModel S) (s : S) (limit : ℕ
   pub turns : HasTurned old.turns new.turns
   pub visits : HasCounted old.visits new.visits
   pub linear : new.linear ≡ old.linear
-  pub settled : IsExtended m new.board limit old.settled new.settled
+  pub finished : IsExtended m new.board limit old.finished new.finished
   pub kept : HasKept m new
-  pub cause : new.settled.was_full ≡ true → old.settled.was_full ≡ true ⊎ IsBoardFull m s new.board
+  pub cause : new.finished.was_full ≡ true → old.finished.was_full ≡ true ⊎ IsBoardFull m s new.board
   -- where it takes no turn, it posts pure plans alone
   pub pure_alone : new.turns.spent ≡ old.turns.spent → Grows (IsPureEntry m old.board.total) old.board.entries new.board.entries
 
@@ -94,7 +94,7 @@ abbrev pub Ends : {S G N : Type 0} → GameModel S → S → ℤ → WorkView G 
 Ends m s target v Reached = 1 ≤ m.rank s → IsWithin m v.board s target
 Ends m s target v Settled = (1 ≤ m.rank s) × IsBeyond m v.board s target × IsClose m v.board s
 Ends m s target v Spent = (1 ≤ m.rank s) × IsBeyond m v.board s target × (left_of v.turns ≡ 0)
-Ends m s target v Full = (v.settled.was_full ≡ true) × IsBoardFull m s v.board
+Ends m s target v Full = (v.finished.was_full ≡ true) × IsBoardFull m s v.board
     × ((row : ℕ) → row < v.board.rows → v.board.key_at row ≡ Some (m.key s) → IsBeyond m v.board s target)
 
 -- how many turns a restricted game of all moves of a state may take: it begins with one move of each side, and each turn but the last adds one or more
@@ -103,11 +103,11 @@ growth_turns m = 2 * m.width - 1
 
 -- at most so many turns for each of so many states, besides those that were finished
 abbrev pub TakesTurns : ℕ → ℕ → WorkerView → WorkerView → Type 0
-TakesTurns each states old new = new.turns.spent + each * length old.settled.keys ≤ old.turns.spent + each * (length new.settled.keys + states)
+TakesTurns each states old new = new.turns.spent + each * length old.finished.keys ≤ old.turns.spent + each * (length new.finished.keys + states)
 
 -- as long as no claim was full: so many turns, or no turn is left and there were no more than for the most states
 pub record TakesAtMost (each states most : ℕ) (old new : WorkerView) : Type 0 where
-  pub unless_full : new.settled.was_full ≡ false → TakesTurns each states old new ⊎ ((left_of new.turns ≡ 0) × TakesTurns each most old new)
+  pub unless_full : new.finished.was_full ≡ false → TakesTurns each states old new ⊎ ((left_of new.turns ≡ 0) × TakesTurns each most old new)
 
 -- how many states a search that ended so may have taken turns at, itself included, that are not finished
 abbrev pub open_states : ℕ → SearchEnd → ℕ
@@ -140,8 +140,8 @@ IsPureWithin m s target = serial_bound m Two s ≤ℤ (serial_bound m One s +ℤ
 
 -- with so many visits, and no full board: the bounds are as tight as pure plans can make them, and no turn is taken where these suffice
 pub record BoundsByPure {S G N : Type 0} (m : GameModel S) (s : S) (target : ℤ) (old new : WorkView G N) (end : SearchEnd) : Type 0 where
-  pub tight : HasVisitsBelow m s old.turns old.visits → new.settled.was_full ≡ false → 1 ≤ m.rank s → IsPureTight m s new.board
-  pub at_once : HasVisitsBelow m s old.turns old.visits → new.settled.was_full ≡ false → IsPureWithin m s target → (end ≡ Reached) × (new.turns ≡ old.turns)
+  pub tight : HasVisitsBelow m s old.turns old.visits → new.finished.was_full ≡ false → 1 ≤ m.rank s → IsPureTight m s new.board
+  pub at_once : HasVisitsBelow m s old.turns old.visits → new.finished.was_full ≡ false → IsPureWithin m s target → (end ≡ Reached) × (new.turns ≡ old.turns)
 
 -- ---- states that are left to other workers
 -- the bounds known of the state are tighter than pure plans can make them
@@ -152,7 +152,7 @@ IsAhead m s v = (serial_bound m One s <ℤ known_bound m v One s) ⊎ (known_bou
 pub record IsLeavable {S G N : Type 0} (m : GameModel S) (s : S) (may_leave : Bool) (old new : WorkView G N) : Type 0 where
   pub allowed : IsTrue may_leave
   pub turn : 1 ≤ left_of old.turns
-  pub not_full : old.settled.was_full ≡ false
+  pub not_full : old.finished.was_full ≡ false
   pub ahead : IsAhead m s new.board
 
 -- a number was found, and lies below the bound

@@ -21,7 +21,7 @@ pub record HasSwept {S G N : Type 0} (m : GameModel S) (is_last : Bool) (s : S) 
 
 -- as long as no claim was full: at most one turn for each state that the sweep has finished
 pub record TakesOne (old new : WorkerView) : Type 0 where
-  pub unless_full : new.settled.was_full ≡ false → new.turns.spent + length old.swept ≤ old.turns.spent + length new.swept
+  pub unless_full : new.finished.was_full ≡ false → new.turns.spent + length old.swept ≤ old.turns.spent + length new.swept
 
 -- how a sweep over states ends: all is known, or it stopped at one of them, where it took no turn
 abbrev pub IsSweepEnd : {S G N : Type 0} → GameModel S → S → Type 0 → WorkerView → WorkView G N → Result (Unit {0}) Stop → Type 0
@@ -48,7 +48,7 @@ pub record TakesSweeps {S G N : Type 0} (m : GameModel S) (earlier last : ℕ) (
 
 -- as long as no claim was full: the turns of so many sweeps
 abbrev pub TakesUnlessFull : {S G N : Type 0} → GameModel S → ℕ → ℕ → WorkerView → WorkView G N → Type 0
-TakesUnlessFull m earlier last old new = new.settled.was_full ≡ false → TakesSweeps m earlier last new.board old.turns.spent new.turns.spent
+TakesUnlessFull m earlier last old new = new.finished.was_full ≡ false → TakesSweeps m earlier last new.board old.turns.spent new.turns.spent
 
 -- how a search ends by so many sweeps
 pub record EndsBySweeps {S G N : Type 0} (m : GameModel S) (s : S) (target : ℤ) (earlier last : ℕ) (old new : WorkView G N) (end : SearchEnd) : Type 0 where
@@ -72,7 +72,7 @@ IsAfterSweep m s target is_last old new false = LeavesToNext m s target is_last 
 pub record HasBounded {S G N : Type 0} (m : GameModel S) (s : S) (target : ℤ) (old new : WorkView G N) (end : SearchEnd) : Type 0 where
   pub ends : Ends m s target new end
   pub turns : old.linear ≡ false → HasTaken m s end old new
-  pub owed : old.linear ≡ true → new.settled.was_full ≡ false → TakesSweeps m 2 1 new.board old.turns.spent new.turns.spent
+  pub owed : old.linear ≡ true → new.finished.was_full ≡ false → TakesSweeps m 2 1 new.board old.turns.spent new.turns.spent
 
 -- what the search of a state leaves that no turn was left for, however it ends
 pub record HasRunOut {S G N : Type 0} (m : GameModel S) (s : S) (target : ℤ) (old new : WorkView G N) : Type 0 where

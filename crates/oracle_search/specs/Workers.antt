@@ -16,7 +16,7 @@ is_linear (solvers.Linear buffers) = true
 pub record WorkerView : Type 0 where
   pub turns : Budget
   pub visits : VisitsView
-  pub settled : FinishedView
+  pub finished : FinishedView
   -- the table of its serial searches
   pub searches : TableView
   -- whether it solves stages by linear programs, and makes sweeps
@@ -26,15 +26,15 @@ pub record WorkerView : Type 0 where
 
 -- with no full board in mind, as each search begins
 abbrev pub without_full : WorkerView → WorkerView
-without_full w = record w { settled = record w.settled { was_full = false } }
+without_full w = record w { finished = record w.finished { was_full = false } }
 
 -- with a full board in mind
 abbrev pub with_full : WorkerView → WorkerView
-with_full w = record w { settled = record w.settled { was_full = true } }
+with_full w = record w { finished = record w.finished { was_full = true } }
 
 -- with one more finished state
 abbrev pub with_key : WorkerView → ℕ → WorkerView
-with_key w key = record w { settled = record w.settled { keys = w.settled.keys ++ key ∷ [] } }
+with_key w key = record w { finished = record w.finished { keys = w.finished.keys ++ key ∷ [] } }
 
 -- with one more state that the sweep has finished
 abbrev pub with_swept : WorkerView → ℕ → WorkerView

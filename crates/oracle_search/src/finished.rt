@@ -10,13 +10,13 @@ use std::marker::Model;
 
 /// The keys of the states that a worker has finished, each once, in order of addition.
 #[derive(Drop)]
-pub struct Settled {
+pub struct FinishedStates {
     keys: IndexSet<u64>,
     // Whether some claim of the search found the board full.
     was_full: bool,
 }
 
-impl Model for Settled {
+impl Model for FinishedStates {
     ghost use Rattle.oracle_search.specs.Finished.{FinishedView};
 
     ghost Value = { FinishedView };
@@ -24,11 +24,11 @@ impl Model for Settled {
     ghost view = { λ s. record { keys = s.keys.keys; was_full = s.was_full } };
 }
 
-impl Settled {
-    pub(crate) fn new(alloc: Global) -> Settled
+impl FinishedStates {
+    pub(crate) fn new(alloc: Global) -> FinishedStates
         ensures { result ≡ record { keys = []; was_full = false } }
     {
-        Settled {
+        FinishedStates {
             keys: IndexSet::new(alloc),
             was_full: false,
         }

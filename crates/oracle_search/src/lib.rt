@@ -14,7 +14,7 @@ mod sweeps;
 mod worker;
 
 pub use ends::SearchEnd;
-pub use finished::Settled;
+pub use finished::FinishedStates;
 pub use gate::{Gate, OpenGate, Signal};
 pub use state::search;
 pub use worker::{MemoryLimits, Setup, Worker};

@@ -9,7 +9,7 @@ ghost use Rattle.restricted_game.specs.Children.{HasNoRows};
 ghost use Rattle.oracle_search.specs.Workers.{is_linear, with_swept, with_key, with_full};
 ghost use Rattle.oracle_search.specs.Workers.{without_full, without_searches, HasAsked};
 
-use crate::finished::Settled;
+use crate::finished::FinishedStates;
 use crate::gate::{Gate, Signal};
 use indexmap::IndexSet;
 use matrix_game::{SolverKind, StageSolver, Turns};
@@ -53,9 +53,9 @@ pub struct Worker {
     pub(crate) stages: StageSolver,
     // What sweeps read stages into.
     buffers: StageBuffers,
-    settled: Settled,
+    finished: FinishedStates,
     // The keys of the states that the sweep under way has finished.
-    swept: Settled,
+    swept: FinishedStates,
     // Those of the states at which sweeps of this search made serial searches, and how many of them these closed.
     bounded: IndexSet<u64>,
     closed: u64,
@@ -72,7 +72,7 @@ impl Model for Worker {
     ghost view = { λ w. record {
       turns = w.turns;
       visits = w.serial.visits;
-      settled = w.settled;
+      finished = w.finished;
       searches = w.serial.table;
       linear = is_linear w.stages;
       swept = w.swept.keys;
@@ -87,7 +87,7 @@ impl Worker {
         ensures { result ≡ record {
           turns = turns;
           visits = visits;
-          settled = record { keys = []; was_full = false };
+          finished = record { keys = []; was_full = false };
           searches = record { limit = min limits.searches 262144; stored = [] };
           linear = is_linear (solver_of limits.stages);
           swept = [];
@@ -100,8 +100,8 @@ impl Worker {
             serial: SerialWorker::new(alloc, visits, table),
             stages: StageSolver::new(limits.stages),
             buffers: StageBuffers::new(alloc),
-            settled: Settled::new(alloc),
-            swept: Settled::new(alloc),
+            finished: FinishedStates::new(alloc),
+            swept: FinishedStates::new(alloc),
             bounded: IndexSet::new(alloc),
             closed: 0,
             searches,
@@ -121,17 +121,17 @@ impl Worker {
     }
 
     /// The states that it has finished; none with linear stages, whose sweeps keep their own.
-    pub fn settled(&self) -> &Settled
-        ensures { result.now ≡ self.now.settled }
+    pub fn finished(&self) -> &FinishedStates
+        ensures { result.now ≡ self.now.finished }
     {
-        &self.settled
+        &self.finished
     }
 
     /// Whether a claim of its last search found the board full.
     pub fn was_full(&self) -> bool
-        ensures { result ≡ self.now.settled.was_full }
+        ensures { result ≡ self.now.finished.was_full }
     {
-        self.settled.was_full()
+        self.finished.was_full()
     }
 
     pub fn into_turns(self) -> Turns
@@ -153,18 +153,18 @@ impl Worker {
     }
 
     pub(crate) fn has(&self, key: u64) -> bool
-        ensures { MatchBool result (Contains self.now.settled.keys key) (Contains self.now.settled.keys key → ⊥) }
+        ensures { MatchBool result (Contains self.now.finished.keys key) (Contains self.now.finished.keys key → ⊥) }
     {
-        self.settled.has(key)
+        self.finished.has(key)
     }
 
     /// Adds the key of a finished state that is not there yet.
     pub(crate) fn add(&mut self, key: u64) -> Result<(), NoMemory>
-        requires { Contains self.old.settled.keys key → ⊥ }
+        requires { Contains self.old.finished.keys key → ⊥ }
         ensures ok { OnOk result (self.new ≡ with_key self.old key) }
         ensures err { OnErr result (self.new ≡ self.old) }
     {
-        self.settled.add(key)
+        self.finished.add(key)
     }
 
     /// Whether it solves stages by linear programs.
@@ -250,7 +250,7 @@ impl Worker {
     pub(crate) fn note_full(&mut self)
         ensures { self.new ≡ with_full self.old }
     {
-        self.settled.set_full(true);
+        self.finished.set_full(true);
     }
 
     /// Begins a search: the full boards of earlier searches are forgotten.
@@ -259,7 +259,7 @@ impl Worker {
     {
         self.bounded.clear();
         self.closed = 0;
-        self.settled.set_full(false);
+        self.finished.set_full(false);
     }
 
     /// Whether a state may be left to another worker: it is below the state that was asked for, another worker has
@@ -267,12 +267,12 @@ impl Worker {
     /// With linear stages the sweeps say what is left, at far narrower gaps.
     pub(crate) fn may_leave(&self, is_below: bool, is_ahead: bool) -> bool
         ensures { IsTrue result → (IsTrue is_below) × (IsTrue is_ahead)
-            × (1 ≤ left_of self.now.turns) × (self.now.settled.was_full ≡ false) }
+            × (1 ≤ left_of self.now.turns) × (self.now.finished.was_full ≡ false) }
     {
         is_below
             && is_ahead
             && matches!(self.stages, StageSolver::Regret(_))
             && self.turns.left() > 0
-            && !self.settled.was_full()
+            && !self.finished.was_full()
     }
 }

@@ -57,7 +57,7 @@ children::search_child-search_row-requires g t c =
 
 pub children::search_child-add-requires : goal.children::search_child-add-requires
 children::search_child-add-requires g t c has =
-    not_added (g.G.Game.model c.args.setup.now.game) (g.met.G.Game.lawful c.args.setup.now.game) c.args.s c.requires.here.reachable c.search_row.ensures.worked.settled.added
+    not_added (g.G.Game.model c.args.setup.now.game) (g.met.G.Game.lawful c.args.setup.now.game) c.args.s c.requires.here.reachable c.search_row.ensures.worked.finished.added
     (rw c.key-key.ensures at c.if-has.ensures) (rw c.key-key.ensures at has)
 
 pub children::search_child-returns-clause-worked : goal.children::search_child-returns-clause-worked
@@ -67,7 +67,7 @@ children::search_child-returns-clause-worked g t c =
     let here = rw c.in-Some.is at c.requires.here in
     let worked = searched g t k.After-search_row in
     worked_added game c.args.s here.reachable c.in-Some.row here.has_row.goes_on (worked.board.later.keys c.in-Some.row _ here.has_row.holds) (finished g t k.In_ok-finished).0
-    (not_added _ game c.args.s here.reachable c.search_row.ensures.worked.settled.added (rw c.key-key.ensures at c.if-has.ensures)) worked (rw c.key-key.ensures at c.in_ok-add.ensures.ok)
+    (not_added _ game c.args.s here.reachable c.search_row.ensures.worked.finished.added (rw c.key-key.ensures at c.if-has.ensures)) worked (rw c.key-key.ensures at c.in_ok-add.ensures.ok)
 
 pub children::search_child-returns-clause-searched : goal.children::search_child-returns-clause-searched
 children::search_child-returns-clause-searched g t c =
@@ -260,7 +260,7 @@ pub growth::grow-returns-then-is_within_told-clause-ended : goal.growth::grow-re
 growth::grow-returns-then-is_within_told-clause-ended g t c = record {
   ends = λ _. rw (to_z-of_z w64 c.args.target c.ranges.target) at c.if-is_within_told.ensures.within;
   turns = growing_turn c.requires.here.has_row.goes_on (passed g t (goal.at.growth::grow-returns-then-is_within_told-clause-ended g t c).In_ok-search_children) c.in_ok-end.ensures.turn.turn
-      (ap (λ (w : WorkerView). w.settled) c.take_turn.ensures.turn.same);
+      (ap (λ (w : WorkerView). w.finished) c.take_turn.ensures.turn.same);
 }
 
 pub growth::grow-returns-in-Done-clause-worked : goal.growth::grow-returns-in-Done-clause-worked
@@ -285,13 +285,13 @@ growth::grow-returns-in-Done-clause-ended g t c =
         close_later m c.args.s c.is_within_told.ensures.later close,
       );
       turns = growing_turn here.has_row.goes_on (passed g t (goal.at.growth::grow-returns-in-Done-clause-ended g t c).In_ok-search_children) c.in_ok-end.ensures.turn.turn
-          (ap (λ (w : WorkerView). w.settled) c.take_turn.ensures.turn.same);
+          (ap (λ (w : WorkerView). w.finished) c.take_turn.ensures.turn.same);
     }
 
 pub growth::grow-growth-preserved : goal.growth::grow-growth-preserved
 growth::grow-growth-preserved g t c = growing_more c.requires.here.has_row.goes_on (passed g t (goal.at.growth::grow-growth-preserved g t c).In_ok-search_children) c.in_ok-end.end
     (worked_read c.take_turn.ensures.worked c.is_within_told.ensures.later c.is_within_told.ensures.entries) c.in_ok-end.ensures.turn.turn
-    (ap (λ (w : WorkerView). w.settled) c.take_turn.ensures.turn.same) c.in_ok-end.ensures.held.held (g.met.G.Game.lawful c.args.setup.now.game) c.requires.here.reachable
+    (ap (λ (w : WorkerView). w.finished) c.take_turn.ensures.turn.same) c.in_ok-end.ensures.held.held (g.met.G.Game.lawful c.args.setup.now.game) c.requires.here.reachable
     (rw c.in-Grown.is at c.in_ok-end.ensures.held.grown)
     (child_rows_later _ _ _ c.args.s _ c.is_within_told.ensures.later c.take_turn.ensures.children)
 
@@ -305,7 +305,7 @@ growth::grow-returns-in_err-end-clause-stopped g t c =
     let p = err_from_is_err_and c.from_residual-in_err-end.result c.from_residual-in_err-end.ensures.1 in
     rw (p.1, p.2) (stop_step _ c.args.s (at_work (g.B.Bounds.view c.take_turn.new.board) c.take_turn.new.worker) c.in_err-end.field-0.0 c.in_err-end.was c.take_turn.ensures.full
     (λ is. let spent = c.take_turn.ensures.turn.spent is in
-    (spent.0, growing_stopped goes_on k c.take_turn.ensures.worked (taken_by spent.1 (ap (λ (w : WorkerView). w.settled.keys) c.take_turn.ensures.turn.same)))))
+    (spent.0, growing_stopped goes_on k c.take_turn.ensures.worked (taken_by spent.1 (ap (λ (w : WorkerView). w.finished.keys) c.take_turn.ensures.turn.same)))))
 
 -- ---- the search of a state
 -- what was kept up to the serial searches, and to the reading after them
@@ -364,7 +364,7 @@ state::close_row-returns-in-Some-clause-ended g t c =
     bounded_early (early_ends (g.G.Game.model c.args.setup.now.game) c.args.s c.requires.here.has_row.goes_on
     (at_work (g.B.Bounds.view c.ended_early.new.board) c.bound_state.new.worker) c.args.target c.in-Some.end
     (rw (to_z-of_z w64 c.args.target c.ranges.target, c.in-Some.is) at c.ended_early.ensures.end))
-    (ap (λ (w : WorkerView). w.turns.spent) same) (ap (λ (w : WorkerView). w.settled.keys) same)
+    (ap (λ (w : WorkerView). w.turns.spent) same) (ap (λ (w : WorkerView). w.finished.keys) same)
 
 pub state::close_row-returns-in-Some-clause-pure : goal.state::close_row-returns-in-Some-clause-pure
 state::close_row-returns-in-Some-clause-pure g t c =
@@ -386,7 +386,7 @@ state::close_row-returns-in-Some-clause-left g t c settled same =
     record {
       allowed = why.0;
       turn = rw (ap (λ (x : WorkerView). x.turns) c.bound_state.ensures.same) at why.2;
-      not_full = sym (ap (λ (x : WorkerView). x.settled.was_full) c.bound_state.ensures.same) ∙ why.3;
+      not_full = sym (ap (λ (x : WorkerView). x.finished.was_full) c.bound_state.ensures.same) ∙ why.3;
       ahead = ahead_later (g.G.Game.model c.args.setup.now.game) c.args.s c.ended_early.ensures.later (c.in_ok-is_ahead.ensures.ahead why.1);
     }
 
@@ -433,7 +433,7 @@ state::close_row-returns-else-is_linear-clause-worked g t c =
 pub state::close_row-returns-else-is_linear-clause-ended : goal.state::close_row-returns-else-is_linear-clause-ended
 state::close_row-returns-else-is_linear-clause-ended g t c =
     let same = c.bound_state.ensures.same in
-    IfOk-weaker c.grow.result _ _ (λ end. bounded_grown (ap (λ (w : WorkerView). w.turns.spent) same) (ap (λ (w : WorkerView). w.settled.keys) same)
+    IfOk-weaker c.grow.result _ _ (λ end. bounded_grown (ap (λ (w : WorkerView). w.turns.spent) same) (ap (λ (w : WorkerView). w.finished.keys) same)
     (sym (ap (λ (w : WorkerView). w.linear) same) ∙ sym c.is_linear.ensures ∙ c.if-is_linear.false)) (rw (to_z-of_z w64 c.args.target c.ranges.target) at c.grow.ensures.ended)
 
 pub state::close_row-returns-else-is_linear-clause-pure : goal.state::close_row-returns-else-is_linear-clause-pure
@@ -448,7 +448,7 @@ state::close_row-returns-else-is_linear-clause-stopped g t c =
     let regret = sym (ap (λ (w : WorkerView). w.linear) same) ∙ sym c.is_linear.ensures ∙ c.if-is_linear.false in
     let k = (goal.at.state::close_row-returns-else-is_linear-clause-stopped g t c).After-ended_early in
     IfErr-weaker c.grow.result _ _ (λ stop. stop_more _ c.args.s (at_work (g.B.Bounds.view c.grow.new.board) c.grow.new.worker) stop
-    (run_out_grown (at_work (g.B.Bounds.view c.ended_early.new.board) c.bound_state.new.worker) (ap (λ (w : WorkerView). w.turns.spent) same) (ap (λ (w : WorkerView). w.settled.keys) same) regret
+    (run_out_grown (at_work (g.B.Bounds.view c.ended_early.new.board) c.bound_state.new.worker) (ap (λ (w : WorkerView). w.turns.spent) same) (ap (λ (w : WorkerView). w.finished.keys) same) regret
     (λ end. pure_beyond (g.B.Bounds.view c.ended_early.new.board) c.grow.ensures.worked.board.later (beyond g t k c.in_default.not-Some) (tight g t k))))
     c.grow.ensures.stopped
 
@@ -499,12 +499,12 @@ state::search_row-returns-in-Err-Full-clause-worked g t c =
 
 pub state::search_row-returns-in-Err-Full-clause-ended : goal.state::search_row-returns-in-Err-Full-clause-ended
 state::search_row-returns-in-Err-Full-clause-ended g t c =
-    bounded_full (ap (λ (w : WorkerView). w.settled.was_full) c.note_full.ensures) c.stopped-in-Err-Full.result
+    bounded_full (ap (λ (w : WorkerView). w.finished.was_full) c.note_full.ensures) c.stopped-in-Err-Full.result
     (full_kept _ c.args.s c.stopped-in-Err-Full.ensures.later (rw c.in-Err-Full.field-0-is at c.in-Err-Full.ensures.stopped))
     (rw (to_z-of_z w64 c.args.target c.ranges.target) at c.stopped-in-Err-Full.ensures.end)
 
 pub state::search_row-returns-in-Err-Full-clause-pure : goal.state::search_row-returns-in-Err-Full-clause-pure
-state::search_row-returns-in-Err-Full-clause-pure g t c = pure_full (ap (λ (w : WorkerView). w.settled.was_full) c.note_full.ensures)
+state::search_row-returns-in-Err-Full-clause-pure g t c = pure_full (ap (λ (w : WorkerView). w.finished.was_full) c.note_full.ensures)
 
 pub state::search_row-returns-in-Err-Full-clause-left : goal.state::search_row-returns-in-Err-Full-clause-left
 state::search_row-returns-in-Err-Full-clause-left g t c is =

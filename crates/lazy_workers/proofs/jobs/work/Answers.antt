@@ -20,7 +20,8 @@ use Rattle.lazy_workers.proofs.jobs.work.Goals as goal
 
 pub search-requires-clause-kept : goal.search-requires-clause-kept
 search-requires-clause-kept g c =
-    kept_none (g.G.Game.model c.args.g) (desk_view g.G.Game.model c.new-desk.result) c.new-state.result (ap (λ w. w.settled.keys) c.new-state.ensures) (ap (λ w. w.searches.stored) c.new-state.ensures)
+    kept_none (g.G.Game.model c.args.g) (desk_view g.G.Game.model c.new-desk.result) c.new-state.result
+    (ap (λ w. w.finished.keys) c.new-state.ensures) (ap (λ w. w.searches.stored) c.new-state.ensures)
 
 pub returns : goal.returns
 returns g c =
@@ -35,7 +36,7 @@ returns g c =
     let pure = rw (c.root.ensures, gap) at c.in_ok-end.ensures.pure in
     let rowed = rw c.root.ensures at c.in_ok-end.ensures.rowed in
     let total : last.board.total ≡ ask.weight = worked.board.later.total ∙ ap (λ b. b.total) c.new-desk.ensures.board ∙ c.requires.board.total in
-    let none = ap (λ w. record w.settled { was_full = false }) c.new-state.ensures in
+    let none = ap (λ w. record w.finished { was_full = false }) c.new-state.ensures in
     let turns = ap (λ w. w.turns) c.new-state.ensures in
     let limit = subst (HasLimit ask c.args.begun.may_stop) (sym turns) c.requires.job.limit in
     let begun = subst (λ t. t.spent ≤ c.args.begun.spent) (sym turns) c.requires.job.begun in

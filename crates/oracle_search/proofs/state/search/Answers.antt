@@ -30,7 +30,7 @@ returns-then-rank-eq0-clause-worked g c = worked_begun c.args.worker.now c.begin
 pub returns-then-rank-eq0-clause-ended : goal.returns-then-rank-eq0-clause-ended
 returns-then-rank-eq0-clause-ended g c =
     let rank = c.rank.ensures in let none = c.if-rank-eq0.true in
-    bounded_early (λ some. absurd (omega arith)) (ap (λ (w : WorkerView). w.turns.spent) c.begin.ensures) (ap (λ (w : WorkerView). w.settled.keys) c.begin.ensures)
+    bounded_early (λ some. absurd (omega arith)) (ap (λ (w : WorkerView). w.turns.spent) c.begin.ensures) (ap (λ (w : WorkerView). w.finished.keys) c.begin.ensures)
 
 pub search_row-requires-clause-here : goal.search_row-requires-clause-here
 search_row-requires-clause-here g c = claimed g (goal.at.search_row-requires-clause-here g c).In-Ok
@@ -57,6 +57,6 @@ returns-in-Err-clause-ended g c =
     let m = g.G.Game.model c.args.setup.now.game in
     let was = full g (goal.at.returns-in-Err-clause-ended g c).In-Err in
     bounded_early
-    (ap (λ (w : WorkerView). w.settled.was_full) c.note_full.ensures, was, λ row below held. absurd (row_of_other m _ (m.key c.args.s) was.full row below held))
+    (ap (λ (w : WorkerView). w.finished.was_full) c.note_full.ensures, was, λ row below held. absurd (row_of_other m _ (m.key c.args.s) was.full row below held))
     (ap (λ (w : WorkerView). w.turns.spent) c.note_full.ensures ∙ ap (λ (w : WorkerView). w.turns.spent) c.begin.ensures)
-    (ap (λ (w : WorkerView). w.settled.keys) c.note_full.ensures ∙ ap (λ (w : WorkerView). w.settled.keys) c.begin.ensures)
+    (ap (λ (w : WorkerView). w.finished.keys) c.note_full.ensures ∙ ap (λ (w : WorkerView). w.finished.keys) c.begin.ensures)

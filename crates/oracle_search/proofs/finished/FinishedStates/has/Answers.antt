@@ -5,7 +5,7 @@ use Rattle.std.proofs.lemmas.Map.Views.{Contains-from_any, list_any-from_Contain
 use Rattle.std.specs.Cmp.{IsEquivalence}
 use Rattle.std.specs.List.{Contains, list_any}
 use Rattle.oracle_search.specs.Finished.{FinishedView}
-use Rattle.oracle_search.proofs.finished.Settled.has.Goals as goal
+use Rattle.oracle_search.proofs.finished.FinishedStates.has.Goals as goal
 
 same_key : IsEquivalence eqb
 same_key = record { refl = λ x. grind (arith, nat_tests); symm = λ x y. grind (arith, nat_tests); congr = λ x y z e. ap (λ (k : ℕ). eqb k z) (eqb-true x y e) }
